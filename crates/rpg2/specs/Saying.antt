@@ -23,10 +23,10 @@ SaysLine old new status answer text =
 abbrev pub Says : Format → Option (List ℕ) → Option (List ℕ) → ℕ → Answer → Type 0
 Says format old new status answer = SaysLine old new status answer (answer_text format answer)
 
--- its line and its status; or, if the words are quiet, nothing of a good end
+-- its line and its status; or, if the arguments are quiet, nothing of success
 abbrev pub SaysOrIsQuiet : Bool → Format → Option (List ℕ) → Option (List ℕ) → ℕ → Answer → Type 0
 SaysOrIsQuiet is_quiet format old new status answer = Says format old new status answer ⊎ ((is_quiet ≡ true) × Keeps old new × (status ≡ 0) × (exit_status answer ≡ 0))
 
--- an answer's line; or nothing, with a status of at most 2, if clap prints in its place, or if the line of a good end is left out
+-- an answer's line; or nothing, with a status of at most 2, if clap prints in its place, or if the line of success is left out
 abbrev pub PrintsALine : Option (List ℕ) → Option (List ℕ) → ℕ → Type 0
 PrintsALine old new status = (Keeps old new × (status ≤ 2)) ⊎ ((format : Format) × (answer : Answer) × Says format old new status answer)

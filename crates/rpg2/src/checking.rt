@@ -1,10 +1,12 @@
 //! The command that checks sources.
 
-use crate::telling::tell_source_fault;
+use crate::reporting::report_source_fault;
 use rpg_cli_answers::{Answer, CommandStop, Listener, line, named, source_bytes, source_object};
-use rpg_cli_run::{judge_warnings, tell_faults};
+use rpg_cli_run::{judge_warnings, report_faults};
 use rpg_cli_text::TextWriter;
-use rpg_cli_words::{CheckWords, FileWord, Format, SameFile, Shared, WarningWords, is_standard};
+use rpg_cli_words::{
+    CheckArguments, FileArgument, Format, SameFile, Shared, WarningArguments, is_standard,
+};
 use rpg_faults::faultless_cards;
 use std::alloc::{AllocError, Global};
 use std::rt::Files;
@@ -13,14 +15,14 @@ use std::rt::Files;
 fn check_source<R: Files + Input + AllocGlobal, L: Listener>(
     rt: &R,
     path: &str,
-    words: WarningWords,
+    arguments: WarningArguments,
     listener: &mut L,
 ) -> Result<(), Answer> {
-    let source = named(FileWord::Source, source_bytes(rt, path))?;
+    let source = named(FileArgument::Source, source_bytes(rt, path))?;
     match faultless_cards(rt.alloc(), &source) {
-        Ok(cards) => judge_warnings(rt.alloc(), path, &source, &cards, words, listener),
+        Ok(cards) => judge_warnings(rt.alloc(), path, &source, &cards, arguments, listener),
         Err(fault) => {
-            tell_faults(rt.alloc(), path, &source, words.most, listener);
+            report_faults(rt.alloc(), path, &source, arguments.most, listener);
             Err(fault.into())
         }
     }
@@ -29,10 +31,10 @@ fn check_source<R: Files + Input + AllocGlobal, L: Listener>(
 fn answer_of<R: Files + Input + AllocGlobal, L: Listener>(
     rt: &R,
     path: &str,
-    words: WarningWords,
+    arguments: WarningArguments,
     listener: &mut L,
 ) -> Answer {
-    match check_source(rt, path, words, listener) {
+    match check_source(rt, path, arguments, listener) {
         Ok(()) => Answer::Faultless,
         Err(answer) => answer,
     }
@@ -51,10 +53,10 @@ fn source_line(alloc: Global, path: &str, answer: &Answer) -> Result<String, All
 /// Returns the JSON object for one of several sources.
 fn object_line(alloc: Global, path: &str, answer: &Answer) -> Result<String, AllocError> {
     let line = line(answer);
-    let mut words = TextWriter::new(alloc);
-    words.write_shown(line.text.as_slice());
-    let words = words.finish()?;
-    source_object(alloc, path, words.as_str(), line.status)
+    let mut arguments = TextWriter::new(alloc);
+    arguments.write_shown(line.text.as_slice());
+    let arguments = arguments.finish()?;
+    source_object(alloc, path, arguments.as_str(), line.status)
 }
 
 fn shown_answer(
@@ -78,7 +80,7 @@ fn show_source<L: Listener>(
     listener: &mut L,
 ) -> Result<(), CommandStop> {
     if let Answer::File { fault, .. } = answer {
-        tell_source_fault(alloc, path, *fault, listener);
+        report_source_fault(alloc, path, *fault, listener);
     }
     match shown_answer(alloc, format, path, answer) {
         Ok(text) => Ok(listener.show(text.as_str())?),
@@ -123,15 +125,15 @@ impl Tally {
 /// Checks sources one after another, and prints a line for each; if the command is quiet, only for those with a fault.
 fn check_each<R: Files + Input + AllocGlobal, L: Listener>(
     rt: &R,
-    words: &CheckWords,
+    arguments: &CheckArguments,
     listener: &mut L,
 ) -> Result<Answer, CommandStop> {
     let mut tally = Tally::NONE;
-    for path in &words.sources {
-        let answer = answer_of(rt, path, words.warnings, listener);
+    for path in &arguments.sources {
+        let answer = answer_of(rt, path, arguments.warnings, listener);
         let status = line(&answer).status;
-        if status != 0 || !words.is_quiet {
-            show_source(rt.alloc(), words.format, path, &answer, listener)?;
+        if status != 0 || !arguments.is_quiet {
+            show_source(rt.alloc(), arguments.format, path, &answer, listener)?;
         }
         tally = tally.with(status);
     }
@@ -145,8 +147,8 @@ fn shared_input(sources: &[&str]) -> Option<SameFile> {
         if is_standard(source) {
             if is_taken {
                 return Some(SameFile {
-                    earlier: FileWord::Source,
-                    written: FileWord::Source,
+                    earlier: FileArgument::Source,
+                    written: FileArgument::Source,
                     shared: Shared::StandardInput,
                 });
             }
@@ -159,17 +161,17 @@ fn shared_input(sources: &[&str]) -> Option<SameFile> {
 /// Checks one source, or several.
 pub(crate) fn check_files<R: Files + Input + AllocGlobal, L: Listener>(
     rt: &R,
-    words: &CheckWords,
+    arguments: &CheckArguments,
     listener: &mut L,
 ) -> Result<Answer, CommandStop> {
-    if let Some(same) = shared_input(&words.sources) {
+    if let Some(same) = shared_input(&arguments.sources) {
         return Err(same.into());
     }
-    match words.sources.as_slice() {
+    match arguments.sources.as_slice() {
         [path] => {
-            check_source(rt, path, words.warnings, listener)?;
+            check_source(rt, path, arguments.warnings, listener)?;
             Ok(Answer::Faultless)
         }
-        _ => check_each(rt, words, listener),
+        _ => check_each(rt, arguments, listener),
     }
 }

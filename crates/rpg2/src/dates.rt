@@ -3,7 +3,7 @@
 use rpg_cli_answers::{Answer, CommandStop, Listener};
 use rpg_cli_text::TextWriter;
 use rpg_cli_values::{DateOrder, may_be_date};
-use rpg_cli_words::{DateWord, RunWords};
+use rpg_cli_words::{DateArgument, RunArguments};
 use rpg_engine::RunFault;
 use rpg_today::today;
 use std::alloc::{AllocError, Global};
@@ -32,20 +32,20 @@ impl JobDate {
     /// Reads the clock if the arguments ask for today's date.
     pub fn of<R: Clock + Env + Files + AllocGlobal>(
         rt: &R,
-        words: &RunWords,
+        arguments: &RunArguments,
     ) -> Result<JobDate, CommandStop> {
-        let today = match words.date {
-            Some(DateWord::Today(order)) => Some(todays_digits(rt, order)?),
+        let today = match arguments.date {
+            Some(DateArgument::Today(order)) => Some(todays_digits(rt, order)?),
             _ => None,
         };
         Ok(JobDate { today })
     }
 
     /// Returns the arguments, with today's date if they ask for it.
-    pub fn words<'b>(&'b self, words: &'b RunWords<'b>) -> RunWords<'b> {
+    pub fn arguments<'b>(&'b self, arguments: &'b RunArguments<'b>) -> RunArguments<'b> {
         match &self.today {
-            Some(digits) => words.on(str::from_utf8(digits).unwrap_or("")),
-            None => *words,
+            Some(digits) => arguments.on(str::from_utf8(digits).unwrap_or("")),
+            None => *arguments,
         }
     }
 }
@@ -63,7 +63,7 @@ fn two_digits(text: &[u8], place: usize) -> Option<u8> {
 }
 
 /// Whether six digits aren't a date in any order.
-fn is_odd(text: &str) -> bool {
+fn is_impossible(text: &str) -> bool {
     let text = text.as_bytes();
     if text.len() != 6 {
         return false;
@@ -88,11 +88,11 @@ fn odd_date_message(alloc: Global, text: &str) -> Result<String, AllocError> {
 }
 
 /// Warns about six digits that aren't a calendar date.
-pub(crate) fn tell_odd_date<L: Listener>(alloc: Global, words: &RunWords, listener: &mut L) {
-    if let Some(DateWord::Written(text)) = words.date {
-        if is_odd(text) {
+pub(crate) fn warn_of_date<L: Listener>(alloc: Global, arguments: &RunArguments, listener: &mut L) {
+    if let Some(DateArgument::Written(text)) = arguments.date {
+        if is_impossible(text) {
             if let Ok(message) = odd_date_message(alloc, text) {
-                listener.tell(message.as_str());
+                listener.report(message.as_str());
             }
         }
     }

@@ -3,7 +3,7 @@
 use rpg_cli_answers::{Answer, CommandStop, Listener, named, source_bytes};
 use rpg_cli_columns::{RULER, ShorthandFault, deck_of, line_message, shorthand_of};
 use rpg_cli_messages::card_message;
-use rpg_cli_words::{CardsWanted, CardsWords, FileWord};
+use rpg_cli_words::{CardsArguments, CardsWanted, FileArgument};
 use rpg_faults::{CardFault, SourceFault};
 use std::alloc::Global;
 use std::rt::Files;
@@ -19,7 +19,7 @@ fn deck_text<L: Listener>(
         Ok(text) => Ok(text),
         Err(ShorthandFault::At { line, fault }) => {
             if let Ok(message) = line_message(alloc, path, line, fault) {
-                listener.tell(message.as_str());
+                listener.report(message.as_str());
             }
             Err(Answer::NoCard { line })
         }
@@ -37,13 +37,13 @@ fn shorthand_text<L: Listener>(
     match shorthand_of(alloc, source) {
         Ok(text) => Ok(text),
         Err(fault) => {
-            tell_card(alloc, path, source, fault, listener);
+            report_card(alloc, path, source, fault, listener);
             Err(fault.into())
         }
     }
 }
 
-fn tell_card<L: Listener>(
+fn report_card<L: Listener>(
     alloc: Global,
     path: &str,
     source: &[u8],
@@ -64,32 +64,32 @@ fn tell_card<L: Listener>(
         columns,
     };
     if let Ok(message) = card_message(alloc, path, source, fault) {
-        listener.tell(message.as_str());
+        listener.report(message.as_str());
     }
 }
 
 /// Converts a file to cards or shorthand, as the arguments ask.
 fn wanted_text<L: Listener>(
     alloc: Global,
-    words: &CardsWords,
+    arguments: &CardsArguments,
     source: &[u8],
     listener: &mut L,
 ) -> Result<String, Answer> {
-    match words.wanted {
+    match arguments.wanted {
         CardsWanted::Cards | CardsWanted::RuledCards => {
-            deck_text(alloc, words.source, source, listener)
+            deck_text(alloc, arguments.source, source, listener)
         }
-        CardsWanted::Shorthand => shorthand_text(alloc, words.source, source, listener),
+        CardsWanted::Shorthand => shorthand_text(alloc, arguments.source, source, listener),
     }
 }
 
 /// Prints cards, below a ruler if the arguments ask for one, or shorthand.
 fn show_text<L: Listener>(
-    words: &CardsWords,
+    arguments: &CardsArguments,
     text: &str,
     listener: &mut L,
 ) -> Result<(), CommandStop> {
-    if let CardsWanted::RuledCards = words.wanted {
+    if let CardsWanted::RuledCards = arguments.wanted {
         listener.show(RULER)?;
     }
     Ok(listener.show(text)?)
@@ -98,10 +98,10 @@ fn show_text<L: Listener>(
 /// Prints the cards of a shorthand file, or the shorthand of a file of cards.
 pub(crate) fn cards_file<R: Files + Input + AllocGlobal, L: Listener>(
     rt: &R,
-    words: &CardsWords,
+    arguments: &CardsArguments,
     listener: &mut L,
 ) -> Result<(), CommandStop> {
-    let source = named(FileWord::Source, source_bytes(rt, words.source))?;
-    let text = wanted_text(rt.alloc(), words, &source, listener)?;
-    show_text(words, text.as_str(), listener)
+    let source = named(FileArgument::Source, source_bytes(rt, arguments.source))?;
+    let text = wanted_text(rt.alloc(), arguments, &source, listener)?;
+    show_text(arguments, text.as_str(), listener)
 }

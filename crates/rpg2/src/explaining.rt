@@ -2,7 +2,7 @@
 
 use rpg_cli_answers::{Answer, CommandStop, Listener};
 use rpg_cli_explain::{HALTS, Topic, all_pages, list_text, pages_text, topic_of};
-use rpg_cli_words::ExplainWords;
+use rpg_cli_words::ExplainArguments;
 use std::alloc::{AllocError, Global};
 
 /// Returns the halt with this number.
@@ -38,13 +38,13 @@ impl Topics {
     }
 
     /// Takes an argument that isn't the number of a halt. Returns whether it is a code or `halt`.
-    fn take_code(&mut self, word: &str) -> Result<bool, AllocError> {
+    fn take_code(&mut self, argument: &str) -> Result<bool, AllocError> {
         self.end_halt()?;
-        if word.eq_ignore_ascii_case("halts") {
+        if argument.eq_ignore_ascii_case("halts") {
             self.push_halts()?;
-        } else if word.eq_ignore_ascii_case("halt") {
+        } else if argument.eq_ignore_ascii_case("halt") {
             self.is_halt = true;
-        } else if let Some(topic) = topic_of(word) {
+        } else if let Some(topic) = topic_of(argument) {
             self.topics.push(topic)?;
         } else {
             return Ok(false);
@@ -53,31 +53,31 @@ impl Topics {
     }
 
     /// Takes an argument. Returns whether it is a code or part of one.
-    fn take(&mut self, word: &str) -> Result<bool, AllocError> {
+    fn take(&mut self, argument: &str) -> Result<bool, AllocError> {
         if !self.is_halt {
-            return self.take_code(word);
+            return self.take_code(argument);
         }
-        match halt_of(self.alloc, word)? {
+        match halt_of(self.alloc, argument)? {
             Some(topic) => {
                 self.is_halt = false;
                 self.topics.push(topic)?;
                 Ok(true)
             }
-            None => self.take_code(word),
+            None => self.take_code(argument),
         }
     }
 }
 
 /// Returns the topics of the arguments: codes, and `halt` with the number after it; a bare `halt` and `halts` stand for all halts. None if
 /// one isn't a code.
-fn topics_of(alloc: Global, words: &[&str]) -> Result<Option<Vec<Topic>>, AllocError> {
+fn topics_of(alloc: Global, arguments: &[&str]) -> Result<Option<Vec<Topic>>, AllocError> {
     let mut topics = Topics {
         alloc,
         topics: Vec::new(alloc),
         is_halt: false,
     };
-    for word in words {
-        if !topics.take(word)? {
+    for argument in arguments {
+        if !topics.take(argument)? {
             return Ok(None);
         }
     }
@@ -87,14 +87,14 @@ fn topics_of(alloc: Global, words: &[&str]) -> Result<Option<Vec<Topic>>, AllocE
 }
 
 /// Returns the requested pages, all of them, or the list of codes; None if a code doesn't exist.
-fn text_of(alloc: Global, words: &ExplainWords) -> Result<Option<String>, AllocError> {
-    if words.lists {
+fn text_of(alloc: Global, arguments: &ExplainArguments) -> Result<Option<String>, AllocError> {
+    if arguments.lists {
         return Ok(Some(list_text(alloc)?));
     }
-    if words.codes.is_empty() {
+    if arguments.codes.is_empty() {
         return Ok(Some(all_pages(alloc)?));
     }
-    match topics_of(alloc, &words.codes)? {
+    match topics_of(alloc, &arguments.codes)? {
         None => Ok(None),
         Some(topics) => Ok(Some(pages_text(alloc, &topics)?)),
     }
@@ -103,16 +103,16 @@ fn text_of(alloc: Global, words: &ExplainWords) -> Result<Option<String>, AllocE
 /// Prints the pages of codes.
 pub(crate) fn explain<L: Listener>(
     alloc: Global,
-    words: &ExplainWords,
+    arguments: &ExplainArguments,
     listener: &mut L,
 ) -> Result<Answer, CommandStop> {
-    match text_of(alloc, words) {
+    match text_of(alloc, arguments) {
         Ok(Some(text)) => {
             listener.show(text.as_str())?;
             Ok(Answer::Explained)
         }
         Ok(None) => {
-            listener.tell(
+            listener.report(
                 "codes are S1 to S6, F1 to F18, W1 to W7, V1 to V26, B1 to B7, A1 to A21, and halt 1 to halt 8\n",
             );
             Ok(Answer::NoSuchCode)

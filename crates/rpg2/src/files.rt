@@ -5,11 +5,11 @@ use rpg_cli_answers::{
 };
 use rpg_cli_files::{file_bytes, write_bytes};
 use rpg_cli_run::{
-    CompiledObject, OwnSource, compiled, judge_warnings, own_source, tell_faults, tell_object,
+    CompiledObject, OwnSource, compiled, judge_warnings, own_source, report_faults, report_object,
     verified,
 };
 use rpg_cli_show::{program_overview, program_text};
-use rpg_cli_words::{CompileWords, FileWord, Format, ShowWords, VerifyWords};
+use rpg_cli_words::{CompileArguments, FileArgument, Format, ShowArguments, VerifyArguments};
 use rpg_engine::{Program, decode_object};
 use std::alloc::{AllocError, Global};
 use std::rt::Files;
@@ -17,7 +17,7 @@ use std::rt::Files;
 /// Writes a compiled object to its file, unless a warning rejects the source or the two are the same file.
 fn write_object<R: Files + AllocGlobal, L: Listener>(
     rt: &R,
-    words: &CompileWords,
+    arguments: &CompileArguments,
     source: &[u8],
     object: &CompiledObject,
     listener: &mut L,
@@ -25,18 +25,18 @@ fn write_object<R: Files + AllocGlobal, L: Listener>(
     let cards = &object.cards;
     judge_warnings(
         rt.alloc(),
-        words.source,
+        arguments.source,
         source,
         cards,
-        words.warnings,
+        arguments.warnings,
         listener,
     )?;
-    let source = NamedFile::at(rt, FileWord::Source, system_path(words.source));
-    let written = NamedFile::at(rt, FileWord::Object, words.object);
+    let source = NamedFile::at(rt, FileArgument::Source, system_path(arguments.source));
+    let written = NamedFile::at(rt, FileArgument::Object, arguments.object);
     refuse_same_file(written, &[source])?;
     Ok(named(
-        FileWord::Object,
-        write_bytes(rt, words.object, &object.bytes),
+        FileArgument::Object,
+        write_bytes(rt, arguments.object, &object.bytes),
     )?)
 }
 
@@ -46,15 +46,15 @@ fn write_object<R: Files + AllocGlobal, L: Listener>(
 /// all its faults are reported.
 pub(crate) fn compile_files<R: Files + Input + AllocGlobal, L: Listener>(
     rt: &R,
-    words: &CompileWords,
+    arguments: &CompileArguments,
     listener: &mut L,
 ) -> Result<(), CommandStop> {
-    let source = named(FileWord::Source, source_bytes(rt, words.source))?;
-    match compiled(rt.alloc(), &source, words.allowance) {
-        Ok(object) => write_object(rt, words, &source, &object, listener),
+    let source = named(FileArgument::Source, source_bytes(rt, arguments.source))?;
+    match compiled(rt.alloc(), &source, arguments.allowance) {
+        Ok(object) => write_object(rt, arguments, &source, &object, listener),
         Err(answer) => {
-            let most = words.warnings.most;
-            tell_faults(rt.alloc(), words.source, &source, most, listener);
+            let most = arguments.warnings.most;
+            report_faults(rt.alloc(), arguments.source, &source, most, listener);
             Err(answer.into())
         }
     }
@@ -63,13 +63,13 @@ pub(crate) fn compile_files<R: Files + Input + AllocGlobal, L: Listener>(
 /// Verifies an object file. The answer has the bound of its program.
 pub(crate) fn verify_file<R: Files + AllocGlobal, L: Listener>(
     rt: &R,
-    words: &VerifyWords,
+    arguments: &VerifyArguments,
     listener: &mut L,
 ) -> Result<u64, Answer> {
-    let object = named(FileWord::Object, file_bytes(rt, words.object))?;
+    let object = named(FileArgument::Object, file_bytes(rt, arguments.object))?;
     let bound = verified(rt.alloc(), &object);
     if let Err(Answer::Object(fault)) = bound {
-        tell_object(rt.alloc(), words.object, &object, fault, listener);
+        report_object(rt.alloc(), arguments.object, &object, fault, listener);
     }
     bound
 }
@@ -77,11 +77,11 @@ pub(crate) fn verify_file<R: Files + AllocGlobal, L: Listener>(
 /// Returns the text of a program, with names and cards if its source is known.
 fn program_shown(
     alloc: Global,
-    words: &ShowWords,
+    arguments: &ShowArguments,
     program: Program,
     source: Option<&OwnSource<'_>>,
 ) -> Result<String, AllocError> {
-    if !words.rows {
+    if !arguments.rows {
         return program_overview(alloc, program);
     }
     let rows = match source {
@@ -94,55 +94,55 @@ fn program_shown(
 /// Returns the text of an object file's program, if it encodes one, with names and cards if the arguments name its source.
 fn shown_text<R: Files + AllocGlobal, L: Listener>(
     rt: &R,
-    words: &ShowWords,
+    arguments: &ShowArguments,
     object: &[u8],
     listener: &mut L,
 ) -> Result<String, Answer> {
     let program = decode_object(rt.alloc(), object)?;
-    let source = own_source(rt, words.source, object, listener)?;
-    match program_shown(rt.alloc(), words, program, source.as_ref()) {
+    let source = own_source(rt, arguments.source, object, listener)?;
+    match program_shown(rt.alloc(), arguments, program, source.as_ref()) {
         Ok(text) => Ok(text),
         Err(_) => Err(Answer::NoMemory),
     }
 }
 
 /// Like `shown_text`, but reports what is wrong with the bytes.
-fn text_or_told<R: Files + AllocGlobal, L: Listener>(
+fn text_or_reported<R: Files + AllocGlobal, L: Listener>(
     rt: &R,
-    words: &ShowWords,
+    arguments: &ShowArguments,
     object: &[u8],
     listener: &mut L,
 ) -> Result<String, Answer> {
-    let text = shown_text(rt, words, object, listener);
+    let text = shown_text(rt, arguments, object, listener);
     if let Err(Answer::Object(fault)) = &text {
-        tell_object(rt.alloc(), words.object, object, *fault, listener);
+        report_object(rt.alloc(), arguments.object, object, *fault, listener);
     }
     text
 }
 
 /// Reports a broken rule as a JSON object, if the arguments ask for JSON; the line for people is among the rows.
-fn tell_as_object<R: Files + AllocGlobal, L: Listener>(
+fn report_as_object<R: Files + AllocGlobal, L: Listener>(
     rt: &R,
-    words: &ShowWords,
+    arguments: &ShowArguments,
     object: &[u8],
     bound: Result<u64, Answer>,
     listener: &mut L,
 ) {
-    if let (Format::Json, Err(Answer::Object(fault))) = (words.format, bound) {
-        tell_object(rt.alloc(), words.object, object, fault, listener);
+    if let (Format::Json, Err(Answer::Object(fault))) = (arguments.format, bound) {
+        report_object(rt.alloc(), arguments.object, object, fault, listener);
     }
 }
 
 /// Prints the program of an object file, and answers as `verify_file` does.
 pub(crate) fn show_file<R: Files + AllocGlobal, L: Listener>(
     rt: &R,
-    words: &ShowWords,
+    arguments: &ShowArguments,
     listener: &mut L,
 ) -> Result<u64, CommandStop> {
-    let object = named(FileWord::Object, file_bytes(rt, words.object))?;
-    let text = text_or_told(rt, words, &object, listener)?;
+    let object = named(FileArgument::Object, file_bytes(rt, arguments.object))?;
+    let text = text_or_reported(rt, arguments, &object, listener)?;
     let bound = verified(rt.alloc(), &object);
-    tell_as_object(rt, words, &object, bound, listener);
+    report_as_object(rt, arguments, &object, bound, listener);
     listener.show(text.as_str())?;
     Ok(bound?)
 }

@@ -2,23 +2,28 @@
 
 use rpg_cli_answers::{Answer, CommandStop, Listener, named, source_bytes};
 use rpg_cli_list::source_listing;
-use rpg_cli_run::tell_faults;
-use rpg_cli_words::{FileWord, Format, ListWords};
+use rpg_cli_run::report_faults;
+use rpg_cli_words::{FileArgument, Format, ListArguments};
 use rpg_faults::{SourceFault, faultless_cards};
 use std::alloc::Global;
 use std::rt::Files;
 
 /// Reports all faults of a source as JSON objects, if the arguments ask for them; the lines for people are in the listing.
-fn tell_as_objects<L: Listener>(alloc: Global, words: &ListWords, source: &[u8], listener: &mut L) {
-    if words.format == Format::Json {
-        tell_faults(alloc, words.source, source, u16::MAX, listener);
+fn report_as_objects<L: Listener>(
+    alloc: Global,
+    arguments: &ListArguments,
+    source: &[u8],
+    listener: &mut L,
+) {
+    if arguments.format == Format::Json {
+        report_faults(alloc, arguments.source, source, u16::MAX, listener);
     }
 }
 
 /// Prints the listing of a source, given its text.
 fn show_listing<L: Listener>(
     alloc: Global,
-    words: &ListWords,
+    arguments: &ListArguments,
     source: &[u8],
     listener: &mut L,
 ) -> Result<(), CommandStop> {
@@ -26,8 +31,8 @@ fn show_listing<L: Listener>(
     if let Some(SourceFault::NoMemory) = fault {
         return Err(Answer::NoMemory.into());
     }
-    let text = listing(alloc, words.source, source)?;
-    tell_as_objects(alloc, words, source, listener);
+    let text = listing(alloc, arguments.source, source)?;
+    report_as_objects(alloc, arguments, source, listener);
     listener.show(text.as_str())?;
     match fault {
         None => Ok(()),
@@ -39,11 +44,11 @@ fn show_listing<L: Listener>(
 /// printed.
 pub(crate) fn list_file<R: Files + Input + AllocGlobal, L: Listener>(
     rt: &R,
-    words: &ListWords,
+    arguments: &ListArguments,
     listener: &mut L,
 ) -> Result<(), CommandStop> {
-    let source = named(FileWord::Source, source_bytes(rt, words.source))?;
-    show_listing(rt.alloc(), words, &source, listener)
+    let source = named(FileArgument::Source, source_bytes(rt, arguments.source))?;
+    show_listing(rt.alloc(), arguments, &source, listener)
 }
 
 fn listing(alloc: Global, path: &str, source: &[u8]) -> Result<String, Answer> {

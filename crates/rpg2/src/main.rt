@@ -12,8 +12,8 @@ mod listing;
 mod naming;
 mod outlet;
 mod program;
-mod telling;
-mod told;
+mod reported;
+mod reporting;
 
 use crate::program::main_with;
 use std::fs;
@@ -25,7 +25,7 @@ use std::rt::Files;
 ///
 /// The next file that is opened gets the number of a closed stream. If that were a file of the job, messages to the stream would be
 /// written into it. `/dev/null` is opened only for reading: closed input is empty, and writing to a closed output fails. If it can't be
-/// opened, the program goes on without it.
+/// opened, the program continues without it.
 fn stand_in<R: Files>(rt: &R) -> io::Result<R::File> {
     fs::open(rt, "/dev/null")
 }

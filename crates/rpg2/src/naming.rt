@@ -1,22 +1,22 @@
 //! The form of a command's diagnostics, and the files that they may name.
 
 use rpg_cli_answers::{Form, Severity};
-use rpg_cli_words::{FileWord, FitWords, Format, Request};
+use rpg_cli_words::{FileArgument, FitArguments, Format, Request};
 use std::alloc::{AllocError, Global};
 
-const WORDS: [FileWord; 12] = [
-    FileWord::Source,
-    FileWord::Object,
-    FileWord::Input,
-    FileWord::Secondary,
-    FileWord::Print,
-    FileWord::Disk,
-    FileWord::OwnSource,
-    FileWord::In,
-    FileWord::Out,
-    FileWord::By,
-    FileWord::To,
-    FileWord::NewDeck,
+const ARGUMENTS: [FileArgument; 12] = [
+    FileArgument::Source,
+    FileArgument::Object,
+    FileArgument::Input,
+    FileArgument::Secondary,
+    FileArgument::Print,
+    FileArgument::Disk,
+    FileArgument::OwnSource,
+    FileArgument::In,
+    FileArgument::Out,
+    FileArgument::By,
+    FileArgument::To,
+    FileArgument::NewDeck,
 ];
 
 /// Returns the severity of diagnostics without a code: `records` has no codes, and its diagnostics say why
@@ -39,9 +39,12 @@ pub(crate) fn form_of(request: &Request) -> Form {
 }
 
 /// Adds an old deck's new deck and table files.
-fn push_fitted<'a>(files: &mut Vec<&'a str>, words: &FitWords<'a>) -> Result<(), AllocError> {
-    files.push(words.new_name())?;
-    for table in &words.tables {
+fn push_fitted<'a>(
+    files: &mut Vec<&'a str>,
+    arguments: &FitArguments<'a>,
+) -> Result<(), AllocError> {
+    files.push(arguments.new_name())?;
+    for table in &arguments.tables {
         files.push(table.path)?;
     }
     Ok(())
@@ -56,14 +59,14 @@ pub(crate) fn files_of<'a>(
     if request.format() == Format::Text {
         return Ok(files);
     }
-    for word in &WORDS {
-        if let Some(path) = request.path(*word) {
+    for argument in &ARGUMENTS {
+        if let Some(path) = request.path(*argument) {
             files.push(path)?;
         }
     }
     match request {
-        Request::Check(words) => files.extend_from_slice(&words.sources)?,
-        Request::Fit(words) => push_fitted(&mut files, words)?,
+        Request::Check(arguments) => files.extend_from_slice(&arguments.sources)?,
+        Request::Fit(arguments) => push_fitted(&mut files, arguments)?,
         _ => {}
     }
     Ok(files)

@@ -7,21 +7,21 @@ ghost use Rattle.rpg_text.specs.Lines.{with_line_feed};
 ghost use Rattle.rpg2.specs.Saying.{PrintsALine, Says, SaysOrIsQuiet};
 
 use crate::checking::check_files;
-use crate::dates::{JobDate, tell_odd_date};
+use crate::dates::{JobDate, warn_of_date};
 use crate::decks::cards_file;
 use crate::explaining::explain;
 use crate::files::{compile_files, show_file, verify_file};
 use crate::listing::list_file;
 use crate::naming::{files_of, form_of};
 use crate::outlet::Outlet;
-use crate::telling::{tell_answer, tell_unwritten};
-use crate::told::{StandardError, StandardStreams};
+use crate::reported::{StandardError, StandardStreams};
+use crate::reporting::{report_answer, report_unwritten};
 use rpg_cli_answers::{Answer, CommandStop, FormedListener, Listener, Reasons, json_line, line};
 use rpg_cli_conversions::{fit_file, records_file};
 use rpg_cli_files::send_line;
 use rpg_cli_run::{go_files, run_files};
 use rpg_cli_words::{
-    Format, GoWords, Refusal, Request, RunWords, refuse_bytes, refuse_same_file, request_of,
+    Format, GoArguments, Refusal, Request, RunArguments, refuse_bytes, refuse_same_file, request_of,
 };
 use std::alloc::Global;
 use std::io::{Error, ErrorKind, Write};
@@ -32,24 +32,24 @@ use std::{env, io};
 /// Runs an object program on the date of the arguments.
 fn run_on_date<R: Clock + Env + Files + Input + Print + AllocGlobal, L: Listener>(
     rt: &R,
-    words: &RunWords,
+    arguments: &RunArguments,
     listener: &mut L,
 ) -> Result<Answer, CommandStop> {
-    let date = JobDate::of(rt, words)?;
-    tell_odd_date(rt.alloc(), words, listener);
-    Ok(run_files(rt, &date.words(words), listener)?.into())
+    let date = JobDate::of(rt, arguments)?;
+    warn_of_date(rt.alloc(), arguments, listener);
+    Ok(run_files(rt, &date.arguments(arguments), listener)?.into())
 }
 
 /// Runs a source on the date of the arguments.
 fn go_on_date<R: Clock + Env + Files + Input + Print + AllocGlobal, L: Listener>(
     rt: &R,
-    words: &GoWords,
+    arguments: &GoArguments,
     listener: &mut L,
 ) -> Result<Answer, CommandStop> {
-    let date = JobDate::of(rt, &words.run)?;
-    tell_odd_date(rt.alloc(), &words.run, listener);
-    let words = words.with(date.words(&words.run));
-    Ok(go_files(rt, &words, listener)?.into())
+    let date = JobDate::of(rt, &arguments.run)?;
+    warn_of_date(rt.alloc(), &arguments.run, listener);
+    let arguments = arguments.with(date.arguments(&arguments.run));
+    Ok(go_files(rt, &arguments, listener)?.into())
 }
 
 fn answer_to<R: Clock + Env + Files + Input + Print + AllocGlobal, L: Listener>(
@@ -58,32 +58,32 @@ fn answer_to<R: Clock + Env + Files + Input + Print + AllocGlobal, L: Listener>(
     listener: &mut L,
 ) -> Result<Answer, CommandStop> {
     match request {
-        Request::Compile(words) => {
-            compile_files(rt, words, listener)?;
+        Request::Compile(arguments) => {
+            compile_files(rt, arguments, listener)?;
             Ok(Answer::Compiled)
         }
-        Request::Check(words) => check_files(rt, words, listener),
-        Request::List(words) => {
-            list_file(rt, words, listener)?;
+        Request::Check(arguments) => check_files(rt, arguments, listener),
+        Request::List(arguments) => {
+            list_file(rt, arguments, listener)?;
             Ok(Answer::Faultless)
         }
-        Request::Cards(words) => {
-            cards_file(rt, words, listener)?;
+        Request::Cards(arguments) => {
+            cards_file(rt, arguments, listener)?;
             Ok(Answer::Deck)
         }
-        Request::Records(words) => records_file(rt, words, listener),
-        Request::Fit(words) => fit_file(rt, words, listener),
-        Request::Verify(words) => {
-            let bound = verify_file(rt, words, listener)?;
+        Request::Records(arguments) => records_file(rt, arguments, listener),
+        Request::Fit(arguments) => fit_file(rt, arguments, listener),
+        Request::Verify(arguments) => {
+            let bound = verify_file(rt, arguments, listener)?;
             Ok(Answer::Accepted { bound })
         }
-        Request::Show(words) => {
-            let bound = show_file(rt, words, listener)?;
+        Request::Show(arguments) => {
+            let bound = show_file(rt, arguments, listener)?;
             Ok(Answer::Accepted { bound })
         }
-        Request::Run(words) => run_on_date(rt, words, listener),
-        Request::Go(words) => go_on_date(rt, words, listener),
-        Request::Explain(words) => explain(rt.alloc(), words, listener),
+        Request::Run(arguments) => run_on_date(rt, arguments, listener),
+        Request::Go(arguments) => go_on_date(rt, arguments, listener),
+        Request::Explain(arguments) => explain(rt.alloc(), arguments, listener),
     }
 }
 
@@ -100,7 +100,7 @@ fn send<W: Write, L: Listener>(
     match send_line(out, text) {
         Ok(()) => status,
         Err(reason) => {
-            tell_unwritten(outlet, reason, listener);
+            report_unwritten(outlet, reason, listener);
             1
         }
     }
@@ -182,7 +182,7 @@ fn conclude<W: Write, L: Listener>(
     let outlet = Outlet::of(request);
     let format = request.format();
     let status = say_if_wanted(out, outlet, request.is_quiet(), format, answer, listener);
-    tell_answer(alloc, request, answer, reasons, listener);
+    report_answer(alloc, request, answer, reasons, listener);
     status
 }
 
@@ -235,15 +235,15 @@ fn obey_as_asked<
             listener,
         ),
         Err(CommandStop::Unshown(reason)) => {
-            tell_unwritten(Outlet::of(request), reason, listener);
+            report_unwritten(Outlet::of(request), reason, listener);
             1
         }
     }
 }
 
-fn words<R: Env + AllocGlobal>(rt: &R) -> io::Result<Vec<String>> {
-    let words = env::args(rt)?.collect(rt.alloc())?;
-    Ok(words)
+fn arguments<R: Env + AllocGlobal>(rt: &R) -> io::Result<Vec<String>> {
+    let arguments = env::args(rt)?.collect(rt.alloc())?;
+    Ok(arguments)
 }
 
 /// Runs a command over the standard streams, and returns the exit status.
@@ -263,18 +263,18 @@ fn obey_on_streams<R: Clock + Env + Files + Input + Print + Eprint + AllocGlobal
 /// standard error if a run writes records or printed lines to standard output.
 fn run_on_streams<R: Clock + Env + Files + Input + Print + Eprint + AllocGlobal>(
     rt: &R,
-    words: &[String],
+    arguments: &[String],
     has_colours: bool,
 ) -> u8 {
     let mut listener = StandardStreams::new(rt, has_colours);
-    match request_of(rt.alloc(), words) {
+    match request_of(rt.alloc(), arguments) {
         Err(refusal) => refuse(rt, &refusal, &mut io::writer(rt), &mut listener),
         Ok(request) => obey_on_streams(rt, &request, &mut listener),
     }
 }
 
 /// Rejects arguments that can't be read, since one isn't UTF-8 or memory ran out.
-fn refuse_words<R: Print + Eprint + AllocGlobal>(rt: &R, error: &Error) -> u8 {
+fn refuse_arguments<R: Print + Eprint + AllocGlobal>(rt: &R, error: &Error) -> u8 {
     let mut out = io::writer(rt);
     let mut listener = StandardStreams::new(rt, false);
     if error.kind() == ErrorKind::OutOfMemory {
@@ -305,9 +305,9 @@ pub(crate) fn main_with<R: Clock + Env + Files + Input + Print + Eprint + AllocG
     is_terminal: bool,
 ) -> ExitCode {
     let has_colours = is_terminal && !refuses_colours(rt);
-    let status = match words(rt) {
-        Ok(words) => run_on_streams(rt, words.as_slice(), has_colours),
-        Err(error) => refuse_words(rt, &error),
+    let status = match arguments(rt) {
+        Ok(arguments) => run_on_streams(rt, arguments.as_slice(), has_colours),
+        Err(error) => refuse_arguments(rt, &error),
     };
     ExitCode::from(status)
 }

@@ -10,14 +10,14 @@ use Rattle.rpg_cards.specs.declared.sheets.Groups.{Groups}
 use Rattle.rpg_cards.specs.declared.spec_card.SpecCard.{SpecCard}
 use Rattle.rpg_sheet_specs.specs.declared.spec.Spec.{Spec}
 
-file_told : (cards : List SpecCard) (name file : Option (List ℕ)) (kept : Option GroupFile) → kept ≡ option_map group_file (file_by file cards)
+file_reported : (cards : List SpecCard) (name file : Option (List ℕ)) (kept : Option GroupFile) → kept ≡ option_map group_file (file_by file cards)
     → file_or cards name kept ≡ option_map group_file (file_by (option_or name file) cards)
-file_told cards None file kept e = e
-file_told cards (Some name) file kept e = refl
+file_reported cards None file kept e = e
+file_reported cards (Some name) file kept e = refl
 
 module _ {H F : Type 0} (cards : List SpecCard) where
   still_open : (o : Option (Group H F)) (r : Role H F) (g : Groups) → IsOpen H F cards o g → IsOpen H F cards (with_card o r) (with_role cards r g)
-  still_open o (Heading h name) g is = record { is_open = refl; file = file_told cards name (file_of_group o) g.file is.file }
+  still_open o (Heading h name) g is = record { is_open = refl; file = file_reported cards name (file_of_group o) g.file is.file }
   still_open None (Follower f) g is = is
   still_open (Some x) (Follower f) g is = record { is_open = is.is_open; file = is.file }
   still_open o Apart g is = is

@@ -2,7 +2,7 @@
 use Rattle.std.specs.Prelude.{ℕ, ◌==◌, ◌++◌, Bool, true, false, List, [], ◌∷◌, Option, None, Some, unwrap_or, map, slice_get, if◌then◌else◌}
 use Rattle.std.specs.List.{filter_map, last_or}
 use Rattle.std.specs.Option.{option_map, option_map_or, option_to_list}
-use Rattle.rpg_cards.specs.Deeds.{Calculation, deed_of}
+use Rattle.rpg_cards.specs.Statements.{Calculation, statement_of}
 use Rattle.rpg_cards.specs.Keys.{Key}
 use Rattle.rpg_cards.specs.Cards.{calculation_on}
 use Rattle.rpg_cards.specs.Groups.{joins}
@@ -81,7 +81,7 @@ calculation_of g = record {
   control = g.first.control_level;
   level = awaited_level g.first.control_level;
   alternatives = alternatives (tests_on g.first) g.followers;
-  deed = deed_of (last_card g);
+  statement = statement_of (last_card g);
 }
 
 -- a group of one card
@@ -113,13 +113,13 @@ abbrev pub open_calculation_group : List SpecCard → Option CalculationGroup
 open_calculation_group before = open_after None before
 
 -- the next card is an AN or OR card
-abbrev pub goes_on : List SpecCard → Bool
-goes_on [] = false
-goes_on (c ∷ cs) = option_map_or (λ k. joins k.control_level) (calculation_on c.spec) false
+abbrev pub continues : List SpecCard → Bool
+continues [] = false
+continues (c ∷ cs) = option_map_or (λ k. joins k.control_level) (calculation_on c.spec) false
 
 -- the group whose last card this is
 abbrev pub group_at : Option CalculationGroup → SpecCard → List SpecCard → Option CalculationGroup
-group_at o c after = if goes_on after then None else open_with o c.spec
+group_at o c after = if continues after then None else open_with o c.spec
 
 -- the calculations that end on the first cards, given those after them
 abbrev pub calculations_from : Option CalculationGroup → List SpecCard → List SpecCard → List (Calculation Key)
@@ -146,7 +146,7 @@ calculation_ending before c after = option_map calculation_of (group_ending befo
 
 -- the card with the operation
 abbrev pub card_ending : SpecCard → List SpecCard → Option CalculationSpec
-card_ending c after = if goes_on after then None else calculation_on c.spec
+card_ending c after = if continues after then None else calculation_on c.spec
 
 -- ---- a group with the AN and OR cards after it
 

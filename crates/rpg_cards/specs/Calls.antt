@@ -2,9 +2,9 @@
 use Rattle.std.specs.Prelude.{ℕ, zero, suc, ◌==◌, List, [], ◌∷◌, ◌++◌, length, Bool, ◌&&◌, ◌||◌, if◌then◌else◌, Option, None, Some}
 use Rattle.std.specs.List.{list_any}
 use Rattle.std.specs.Option.{option_and_then, option_map, option_to_list}
-use Rattle.rpg_cards.specs.Deeds.{Calculation}
+use Rattle.rpg_cards.specs.Statements.{Calculation}
 use Rattle.rpg_cards.specs.Keys.{Key}
-use Rattle.rpg_cards.specs.Labels.{label_named, labels, section_of, wants}
+use Rattle.rpg_cards.specs.Labels.{label_named, labels, section_of, target_name}
 use Rattle.rpg_cards.specs.declared.labels.Label.{Label}
 use Rattle.rpg_cards.specs.declared.labels.Named.{Named}
 use Rattle.rpg_cards.specs.declared.labels.Section.{Section}
@@ -23,7 +23,7 @@ called_subroutine given n = if n.is_subroutine then option_and_then (λ (l : Lab
 
 -- caller and callee
 abbrev pub call_at : List Label → List (Calculation Key) → Calculation Key → Option (ℕ × ℕ)
-call_at given before g = option_and_then (λ caller. option_map (λ callee. (caller, callee)) (option_and_then (called_subroutine given) (wants g.deed))) (subroutine_in (section_of before g))
+call_at given before g = option_and_then (λ caller. option_map (λ callee. (caller, callee)) (option_and_then (called_subroutine given) (target_name g.statement))) (subroutine_in (section_of before g))
 
 -- the calls in calculations that follow these, in order
 abbrev pub calls_after : List Label → List (Calculation Key) → List (Calculation Key) → List (ℕ × ℕ)

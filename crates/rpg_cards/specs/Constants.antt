@@ -10,7 +10,7 @@ use Rattle.rpg_cards.specs.Names.{form_of_name}
 use Rattle.rpg_cards.specs.declared.constants.Constant.{Constant}
 use Rattle.rpg_cards.specs.declared.constants.Constant.TheVariants.{Number, Text}
 use Rattle.rpg_cards.specs.declared.names.Defined.{Defined}
-use Rattle.rpg_cards.specs.declared.names.Defined.TheVariants.{Good}
+use Rattle.rpg_cards.specs.declared.names.Defined.TheVariants.{Valid}
 use Rattle.rpg_cards.specs.declared.spec_card.SpecCard.{SpecCard}
 use Rattle.rpg_program.specs.declared.form.Class.TheVariants as class
 use Rattle.rpg_program.specs.declared.form.FieldForm.{FieldForm}
@@ -80,4 +80,4 @@ constants cards = insert_all is_same [] (constants_in cards)
 -- the form of a factor
 abbrev pub form_of_factor : Factor → List SpecCard → Defined
 form_of_factor (factor.Entry e) cards = form_of_name e.name cards
-form_of_factor (factor.Literal l) cards = Good (constant_form (constant_of l))
+form_of_factor (factor.Literal l) cards = Valid (constant_form (constant_of l))

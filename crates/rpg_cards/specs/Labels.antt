@@ -2,7 +2,7 @@
 use Rattle.std.specs.Prelude.{ℕ, suc, ◌-◌, List, [], ◌∷◌, ◌++◌, Bool, true, false, ◌&&◌, ◌||◌, if◌then◌else◌, Option, None, Some, find}
 use Rattle.std.specs.List.{filter, last_or}
 use Rattle.std.specs.Option.{option_map, option_map_or, option_to_list}
-use Rattle.rpg_cards.specs.Deeds.{Acts, Begins, Calculation, Executes, Deed, Ends, GoesTo, Marks, Nothing, PutsOut}
+use Rattle.rpg_cards.specs.Statements.{Acts, Begins, Calculation, Executes, Statement, Ends, GoesTo, Marks, Nothing, WritesExceptions}
 use Rattle.rpg_cards.specs.Keys.{Key, Name}
 use Rattle.rpg_cards.specs.Sections.{is_same_name, is_subroutine}
 use Rattle.rpg_cards.specs.declared.labels.Label.{Label}
@@ -15,10 +15,10 @@ use Rattle.rpg_sheet_specs.specs.declared.calculation.ControlLevel.TheVariants a
 -- ---- the section of a calculation, given those before it
 
 -- BEGSR
-abbrev pub is_begsr : Deed Key → Bool
+abbrev pub is_begsr : Statement Key → Bool
 is_begsr (Begins n) = true
 is_begsr (Acts a) = false
-is_begsr PutsOut = false
+is_begsr WritesExceptions = false
 is_begsr (GoesTo l) = false
 is_begsr (Executes n) = false
 is_begsr (Marks l) = false
@@ -26,10 +26,10 @@ is_begsr (Ends l) = false
 is_begsr Nothing = false
 
 -- ENDSR
-abbrev pub is_endsr : Deed Key → Bool
+abbrev pub is_endsr : Statement Key → Bool
 is_endsr (Ends l) = true
 is_endsr (Acts a) = false
-is_endsr PutsOut = false
+is_endsr WritesExceptions = false
 is_endsr (GoesTo l) = false
 is_endsr (Executes n) = false
 is_endsr (Marks l) = false
@@ -38,11 +38,11 @@ is_endsr Nothing = false
 
 -- a BEGSR on an SR card
 abbrev pub begins_subroutine : Calculation Key → Bool
-begins_subroutine g = is_subroutine g.control && is_begsr g.deed
+begins_subroutine g = is_subroutine g.control && is_begsr g.statement
 
 -- an ENDSR on an SR card
 abbrev pub ends : Calculation Key → Bool
-ends g = is_subroutine g.control && is_endsr g.deed
+ends g = is_subroutine g.control && is_endsr g.statement
 
 -- the calculations that begin or end a subroutine
 abbrev pub brackets : List (Calculation Key) → List (Calculation Key)
@@ -89,30 +89,30 @@ abbrev pub as_subroutine : Option Name → Option Named
 as_subroutine n = named_by true n
 
 -- TAG, ENDSR and BEGSR define a name
-abbrev pub gives : Deed Key → Option Named
-gives (Marks l) = as_label l
-gives (Ends l) = as_label l
-gives (Begins n) = as_subroutine n
-gives (Acts a) = None
-gives PutsOut = None
-gives (GoesTo l) = None
-gives (Executes n) = None
-gives Nothing = None
+abbrev pub defined_name : Statement Key → Option Named
+defined_name (Marks l) = as_label l
+defined_name (Ends l) = as_label l
+defined_name (Begins n) = as_subroutine n
+defined_name (Acts a) = None
+defined_name WritesExceptions = None
+defined_name (GoesTo l) = None
+defined_name (Executes n) = None
+defined_name Nothing = None
 
 -- GOTO and EXSR refer to one
-abbrev pub wants : Deed Key → Option Named
-wants (GoesTo l) = as_label l
-wants (Executes n) = as_subroutine n
-wants (Acts a) = None
-wants PutsOut = None
-wants (Marks l) = None
-wants (Begins n) = None
-wants (Ends l) = None
-wants Nothing = None
+abbrev pub target_name : Statement Key → Option Named
+target_name (GoesTo l) = as_label l
+target_name (Executes n) = as_subroutine n
+target_name (Acts a) = None
+target_name WritesExceptions = None
+target_name (Marks l) = None
+target_name (Begins n) = None
+target_name (Ends l) = None
+target_name Nothing = None
 
 -- the label or subroutine that a calculation defines, with its section
 abbrev pub label_at : List (Calculation Key) → Calculation Key → Option Label
-label_at before g = option_map (λ n. record { named = n; section = section_of before g }) (gives g.deed)
+label_at before g = option_map (λ n. record { named = n; section = section_of before g }) (defined_name g.statement)
 
 -- the labels that calculations after these define
 abbrev pub labels_after : List (Calculation Key) → List (Calculation Key) → List Label

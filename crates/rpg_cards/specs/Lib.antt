@@ -2,7 +2,7 @@ pub mod Calculations
 pub mod Calls
 pub mod Cards
 pub mod Constants
-pub mod Deeds
+pub mod Statements
 pub mod Files
 pub mod Groups
 pub mod Index

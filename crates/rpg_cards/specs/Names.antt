@@ -7,7 +7,7 @@ use Rattle.rpg_cards.specs.Insertions.{insert_all}
 use Rattle.rpg_cards.specs.Cards.{input_field_on, calculation_on, extension_on}
 use Rattle.rpg_symbols.specs.Fields.{given, defined_form}
 use Rattle.rpg_cards.specs.declared.names.Defined.{Defined}
-use Rattle.rpg_cards.specs.declared.names.Defined.TheVariants.{Missing, Bad, Good}
+use Rattle.rpg_cards.specs.declared.names.Defined.TheVariants.{Missing, Bad, Valid}
 use Rattle.rpg_cards.specs.declared.names.Definition.{Definition}
 use Rattle.rpg_cards.specs.declared.spec_card.SpecCard.{SpecCard}
 use Rattle.rpg_program.specs.declared.form.Class.{Class}
@@ -89,7 +89,7 @@ definitions (c ∷ cs) = definitions_on c.spec ++ definitions cs
 -- a definition that has a form, or one that can have none
 abbrev pub defined_as : Option FieldForm → Defined
 defined_as None = Bad
-defined_as (Some form) = Good form
+defined_as (Some form) = Valid form
 
 -- the definition is of that name
 abbrev pub is_of : List ℕ → Definition → Bool
@@ -102,7 +102,7 @@ first_form name (d ∷ ds) = if is_of name d then defined_as d.form else first_f
 
 -- a predefined form takes precedence
 abbrev pub unless_given : Option FieldForm → Defined → Defined
-unless_given (Some form) d = Good form
+unless_given (Some form) d = Valid form
 unless_given None d = d
 
 -- the date and the page number come before all definitions
@@ -117,13 +117,13 @@ form_of_name name cards = form_by name (definitions cards)
 abbrev pub is_missing : Defined → Bool
 is_missing Missing = true
 is_missing Bad = false
-is_missing (Good form) = false
+is_missing (Valid form) = false
 
 -- nothing is required of a name without a form
 abbrev pub form_in : Defined → Option FieldForm
 form_in Missing = None
 form_in Bad = None
-form_in (Good form) = Some form
+form_in (Valid form) = Some form
 
 -- ---- names: the predefined ones, then each with its first definition
 

@@ -1,7 +1,7 @@
 -- What holds of the sections of a source without faults: what the rules on targets, calls, returns and levels require.
 use Rattle.std.specs.Prelude.{◌≡◌, ℕ, suc, ◌≤◌, ◌⊎◌, Bool, true, false, ◌||◌, List, [], ◌∷◌, ◌++◌, length, nat_eq, Option, None, Some}
 use Rattle.std.specs.List.{list_any}
-use Rattle.rpg_cards.specs.Deeds.{Acts, Begins, Calculation, Executes, Deed, Ends, GoesTo, Marks, Nothing, PutsOut, tests}
+use Rattle.rpg_cards.specs.Statements.{Acts, Begins, Calculation, Executes, Statement, Ends, GoesTo, Marks, Nothing, WritesExceptions, tests}
 use Rattle.rpg_cards.specs.Keys.{Key, Name}
 use Rattle.rpg_cards.specs.Sections.{Sections, Subroutine, callee, is_same_name, label_on}
 
@@ -13,7 +13,7 @@ Each P (x ∷ xs) = P x × Each P xs
 -- a label that a section has
 abbrev pub has_label : Option Name → List (Calculation Key) → Bool
 has_label l [] = false
-has_label l (g ∷ gs) = is_same_name l (label_on g.deed) || has_label l gs
+has_label l (g ∷ gs) = is_same_name l (label_on g.statement) || has_label l gs
 
 -- one of the subroutines has that name
 abbrev pub defines_subroutine : Option Name → List (Subroutine Key) → Bool
@@ -21,10 +21,10 @@ defines_subroutine n [] = false
 defines_subroutine n (s ∷ ss) = is_same_name n s.name || defines_subroutine n ss
 
 -- a GOTO's label is among these
-abbrev pub HasGoal : List (Calculation Key) → Deed Key → Type 0
+abbrev pub HasGoal : List (Calculation Key) → Statement Key → Type 0
 HasGoal gs (GoesTo l) = has_label l gs ≡ true
 HasGoal gs (Acts a) = Unit {0}
-HasGoal gs PutsOut = Unit {0}
+HasGoal gs WritesExceptions = Unit {0}
 HasGoal gs (Executes n) = Unit {0}
 HasGoal gs (Marks l) = Unit {0}
 HasGoal gs (Begins n) = Unit {0}
@@ -32,10 +32,10 @@ HasGoal gs (Ends l) = Unit {0}
 HasGoal gs Nothing = Unit {0}
 
 -- an EXSR's subroutine exists
-abbrev pub IsFound : List (Subroutine Key) → Deed Key → Type 0
+abbrev pub IsFound : List (Subroutine Key) → Statement Key → Type 0
 IsFound all (Executes n) = defines_subroutine n all ≡ true
 IsFound all (Acts a) = Unit {0}
-IsFound all PutsOut = Unit {0}
+IsFound all WritesExceptions = Unit {0}
 IsFound all (GoesTo l) = Unit {0}
 IsFound all (Marks l) = Unit {0}
 IsFound all (Begins n) = Unit {0}
@@ -43,10 +43,10 @@ IsFound all (Ends l) = Unit {0}
 IsFound all Nothing = Unit {0}
 
 -- it isn't an ENDSR
-abbrev pub IsNoReturn : Deed Key → Type 0
+abbrev pub IsNoReturn : Statement Key → Type 0
 IsNoReturn (Ends l) = ⊥
 IsNoReturn (Acts a) = Unit {0}
-IsNoReturn PutsOut = Unit {0}
+IsNoReturn WritesExceptions = Unit {0}
 IsNoReturn (GoesTo l) = Unit {0}
 IsNoReturn (Executes n) = Unit {0}
 IsNoReturn (Marks l) = Unit {0}
@@ -60,10 +60,10 @@ abbrev pub Pair : Type 0
 Pair = ℕ × ℕ
 
 -- the subroutine that EXSR names
-abbrev pub call_in : Deed Key → Option (Option Name)
+abbrev pub call_in : Statement Key → Option (Option Name)
 call_in (Executes n) = Some n
 call_in (Acts a) = None
-call_in PutsOut = None
+call_in WritesExceptions = None
 call_in (GoesTo l) = None
 call_in (Marks l) = None
 call_in (Begins n) = None
@@ -78,7 +78,7 @@ with_call all caller (Some n) ps = (caller, callee n all) ∷ ps
 -- the calls of one subroutine's calculations
 abbrev pub calls_in : List (Subroutine Key) → ℕ → List (Calculation Key) → List Pair
 calls_in all caller [] = []
-calls_in all caller (g ∷ gs) = with_call all caller (call_in g.deed) (calls_in all caller gs)
+calls_in all caller (g ∷ gs) = with_call all caller (call_in g.statement) (calls_in all caller gs)
 
 -- the calls in subroutines from a number on
 abbrev pub calls_from : List (Subroutine Key) → ℕ → List (Subroutine Key) → List Pair
@@ -112,14 +112,14 @@ pub record IsPlainBody (all : List (Subroutine Key)) (s : Subroutine Key) : Type
   pub last : Calculation Key
   pub label : Option Name
   pub split : s.body ≡ front ++ last ∷ []
-  pub returns : last.deed ≡ Ends label
+  pub returns : last.statement ≡ Ends label
   -- columns 7-8 of its first card have SR; F9: ENDSR has no conditions
   pub waits : last.level ≡ None
   pub free : tests last.alternatives ≡ 0
   -- F10, F13: a GOTO's label is in its section
-  pub goals : Each (λ g. HasGoal s.body g.deed) front
+  pub goals : Each (λ g. HasGoal s.body g.statement) front
   -- F10: an EXSR's subroutine exists
-  pub found : Each (λ g. IsFound all g.deed) s.body
+  pub found : Each (λ g. IsFound all g.statement) s.body
 
 -- all these subroutines are plain
 abbrev pub ArePlainBodies : List (Subroutine Key) → List (Subroutine Key) → Type 0
@@ -129,11 +129,11 @@ ArePlainBodies all (s ∷ ss) = IsPlainBody all s × ArePlainBodies all ss
 -- sections that can form a program: jumps stay in their section, calls go to a subroutine and never lead back
 pub record ArePlain (s : Sections Key) : Type 0 where
   -- F12: no ENDSR outside SR cards
-  pub detail_ends : Each (λ g. IsNoReturn g.deed) s.detail
-  pub total_ends : Each (λ g. IsNoReturn g.deed) s.total
+  pub detail_ends : Each (λ g. IsNoReturn g.statement) s.detail
+  pub total_ends : Each (λ g. IsNoReturn g.statement) s.total
   -- F10
-  pub detail_found : Each (λ g. IsFound s.subroutines g.deed) s.detail
-  pub total_found : Each (λ g. IsFound s.subroutines g.deed) s.total
+  pub detail_found : Each (λ g. IsFound s.subroutines g.statement) s.detail
+  pub total_found : Each (λ g. IsFound s.subroutines g.statement) s.total
   pub bodies : ArePlainBodies s.subroutines s.subroutines
   -- F14
   pub forward : NoneComesBack (length s.subroutines) (calls_of s.subroutines)

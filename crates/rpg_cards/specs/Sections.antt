@@ -1,7 +1,7 @@
 -- The sections of calculations.
 use Rattle.std.specs.Prelude.{ℕ, suc, Bool, true, false, List, [], ◌∷◌, Option, None, Some, nat_eq, if◌then◌else◌}
 use Rattle.std.specs.Cmp.Lexicographic.{pointwise}
-use Rattle.rpg_cards.specs.Deeds.{Acts, Begins, Calculation, Executes, Deed, Ends, GoesTo, Marks, Nothing, PutsOut}
+use Rattle.rpg_cards.specs.Statements.{Acts, Begins, Calculation, Executes, Statement, Ends, GoesTo, Marks, Nothing, WritesExceptions}
 use Rattle.rpg_cards.specs.Keys.{Name}
 use Rattle.rpg_sheet_specs.specs.declared.calculation.ControlLevel.{ControlLevel}
 use Rattle.rpg_sheet_specs.specs.declared.calculation.ControlLevel.TheVariants as control
@@ -60,10 +60,10 @@ module _ {K : Type 0} where
   -- ---- subroutines: each BEGSR with what stands after it, up to the next one
 
   -- the name on a BEGSR, which may be blank
-  abbrev pub begun_by : Deed K → Option (Option Name)
+  abbrev pub begun_by : Statement K → Option (Option Name)
   begun_by (Begins n) = Some n
   begun_by (Acts a) = None
-  begun_by PutsOut = None
+  begun_by WritesExceptions = None
   begun_by (GoesTo l) = None
   begun_by (Executes n) = None
   begun_by (Marks l) = None
@@ -78,7 +78,7 @@ module _ {K : Type 0} where
   -- the calculations before the next BEGSR
   abbrev pub up_to_begin : List (Calculation K) → List (Calculation K)
   up_to_begin [] = []
-  up_to_begin (g ∷ gs) = unless_begun (begun_by g.deed) (g ∷ up_to_begin gs)
+  up_to_begin (g ∷ gs) = unless_begun (begun_by g.statement) (g ∷ up_to_begin gs)
 
   -- the subroutines, with one more in front if one begins
   abbrev pub with_begun : Option (Option Name) → List (Calculation K) → List (Subroutine K) → List (Subroutine K)
@@ -88,7 +88,7 @@ module _ {K : Type 0} where
   -- the subroutines: each from its BEGSR up to the next
   abbrev pub subroutines_of : List (Calculation K) → List (Subroutine K)
   subroutines_of [] = []
-  subroutines_of (g ∷ gs) = with_begun (begun_by g.deed) (up_to_begin gs) (subroutines_of gs)
+  subroutines_of (g ∷ gs) = with_begun (begun_by g.statement) (up_to_begin gs) (subroutines_of gs)
 
   -- the calculations by section
   abbrev pub sections_of : List (Calculation K) → Sections K
@@ -104,11 +104,11 @@ module _ {K : Type 0} where
   callee n (s ∷ ss) = if is_same_name n s.name then 0 else suc (callee n ss)
 
   -- the label of a TAG or ENDSR
-  abbrev pub label_on : Deed K → Option Name
+  abbrev pub label_on : Statement K → Option Name
   label_on (Marks l) = l
   label_on (Ends l) = l
   label_on (Acts a) = None
-  label_on PutsOut = None
+  label_on WritesExceptions = None
   label_on (GoesTo l) = None
   label_on (Executes n) = None
   label_on (Begins n) = None

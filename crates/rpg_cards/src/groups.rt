@@ -18,8 +18,8 @@ pub fn joins(calculation: &CalculationSpec) -> bool
 }
 
 /// Whether the next card is an AN or OR card.
-pub fn goes_on(after: &[SpecCard]) -> bool
-    ensures { result ≡ calculations.goes_on after.now }
+pub fn continues(after: &[SpecCard]) -> bool
+    ensures { result ≡ calculations.continues after.now }
 {
     let Some((card, _)) = after.split_first() else {
         return false;
@@ -57,7 +57,7 @@ pub fn last_card<'a>(card: &'a SpecCard, after: &[SpecCard]) -> Option<&'a Calcu
     let Some(calculation) = card.calculation() else {
         return None;
     };
-    if goes_on(after) {
+    if continues(after) {
         None
     } else {
         Some(calculation)

@@ -97,7 +97,7 @@ impl<'a> IndexedCards<'a> {
         ensures { result ≡ names.form_of_name name.now self.now }
     {
         match given_form(name) {
-            Some(form) => Defined::Good(form),
+            Some(form) => Defined::Valid(form),
             None => defined_first(self.first_definition(name)),
         }
     }
@@ -107,7 +107,7 @@ impl<'a> IndexedCards<'a> {
         ensures { result ≡ names.form_by name.now (take place (names.definitions self.now)) }
     {
         match given_form(name) {
-            Some(form) => Defined::Good(form),
+            Some(form) => Defined::Valid(form),
             None => defined_first(self.first_before(name, place)),
         }
     }
@@ -143,7 +143,7 @@ impl<'a> IndexedCards<'a> {
             Factor::Entry(entry) => self.form_of_name(&entry.name),
             Factor::Literal(_) => match factor_constant(factor) {
                 None => Defined::Missing,
-                Some(constant) => Defined::Good(constant.form()),
+                Some(constant) => Defined::Valid(constant.form()),
             },
         }
     }
@@ -216,7 +216,7 @@ fn defined_first(first: Option<FirstDefinition>) -> Defined
     };
     match first.form {
         None => Defined::Bad,
-        Some(form) => Defined::Good(form),
+        Some(form) => Defined::Valid(form),
     }
 }
 

@@ -2,7 +2,7 @@
 
 ghost use Rattle.std.specs.Prelude.{◌≡◌};
 ghost use Rattle.std.specs.Option.{ForSome};
-ghost use Rattle.rpg_cards.specs.Deeds as deeds;
+ghost use Rattle.rpg_cards.specs.Statements as statements;
 ghost use Rattle.rpg_program.specs.Kept.{AreIndicators, IsIndicator};
 
 use rpg_program::operation::Shows;
@@ -18,7 +18,7 @@ pub fn number_of(indicator: Option<Indicator>) -> Option<u8>
 
 /// Plus or high, minus or low, zero or equal.
 pub fn shows_of(indicators: Three<Option<Indicator>>) -> Shows
-    ensures value { result ≡ deeds.shows_of indicators }
+    ensures value { result ≡ statements.shows_of indicators }
     ensures kept { AreIndicators result }
 {
     Shows {

@@ -1,7 +1,7 @@
 //! The names of labels and subroutines, and the sections that they are in.
 
 ghost use Rattle.std.specs.Prelude.{◌≡◌, option_copied, option_and_then};
-ghost use Rattle.rpg_cards.specs.Deeds as deeds;
+ghost use Rattle.rpg_cards.specs.Statements as statements;
 ghost use Rattle.rpg_cards.specs.Keys as keys;
 ghost use Rattle.rpg_cards.specs.Labels as labels;
 ghost use Rattle.rpg_cards.specs.Sections as sections;
@@ -47,14 +47,14 @@ pub fn is_subroutine(control_level: ControlLevel) -> bool
 
 /// Whether the operation is BEGSR.
 pub fn begins_subroutine(calculation: &CalculationSpec) -> bool
-    ensures { result ≡ labels.is_begsr (deeds.deed_of calculation.now) }
+    ensures { result ≡ labels.is_begsr (statements.statement_of calculation.now) }
 {
     calculation.operation == Some(Operation::BeginSubroutine)
 }
 
 /// Whether the operation is ENDSR.
 pub fn ends_subroutine(calculation: &CalculationSpec) -> bool
-    ensures { result ≡ labels.is_endsr (deeds.deed_of calculation.now) }
+    ensures { result ≡ labels.is_endsr (statements.statement_of calculation.now) }
 {
     calculation.operation == Some(Operation::EndSubroutine)
 }
@@ -73,8 +73,8 @@ pub fn plain_name(factor: &Factor) -> Option<&Word<6>>
 }
 
 /// Returns the name that a TAG, ENDSR or BEGSR defines.
-pub fn gives(calculation: &CalculationSpec) -> Option<Named>
-    ensures { result ≡ labels.gives (deeds.deed_of calculation.now) }
+pub fn defined_name(calculation: &CalculationSpec) -> Option<Named>
+    ensures { result ≡ labels.defined_name (statements.statement_of calculation.now) }
 {
     match calculation.operation? {
         Operation::Label | Operation::EndSubroutine => name_in(&calculation.factor_1, false),
@@ -84,8 +84,8 @@ pub fn gives(calculation: &CalculationSpec) -> Option<Named>
 }
 
 /// Returns the name that a GOTO or EXSR refers to.
-pub fn wants(calculation: &CalculationSpec) -> Option<Named>
-    ensures { result ≡ labels.wants (deeds.deed_of calculation.now) }
+pub fn target_name(calculation: &CalculationSpec) -> Option<Named>
+    ensures { result ≡ labels.target_name (statements.statement_of calculation.now) }
 {
     match calculation.operation? {
         Operation::GoTo => name_in(&calculation.factor_2, false),

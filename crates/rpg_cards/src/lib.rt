@@ -4,7 +4,6 @@
 
 mod alternatives;
 mod constants;
-mod deeds;
 mod files;
 mod groups;
 mod index;
@@ -14,22 +13,23 @@ mod levels;
 mod names;
 mod sheets;
 mod spec_card;
+mod statements;
 mod times;
 
 pub use alternatives::{condition_of, conditions, depends, in_places, is_or, level, test};
 pub use constants::{Constant, ConstantText, factor_constant};
-pub use deeds::has_instruction;
 pub use files::{FileUse, file_for, file_named, use_of};
-pub use groups::{goes_on, group_end, joins, last_card};
+pub use groups::{continues, group_end, joins, last_card};
 pub use index::IndexedCards;
 pub use indicators::{number_of, shows_of};
 pub use labels::{
-    Label, Named, Section, begins_subroutine, ends_subroutine, gives, is_subroutine, plain_name,
-    wants,
+    Label, Named, Section, begins_subroutine, defined_name, ends_subroutine, is_subroutine,
+    plain_name, target_name,
 };
 pub use levels::has_match_field;
 pub use names::{Defined, Definition, field_form, is_table, sized_form, table_form};
 pub use rpg_sheet_specs::{Column, Content, Kinds, OperationColumns, Shown, columns};
 pub use sheets::{GroupFile, Groups, Sheets};
 pub use spec_card::SpecCard;
+pub use statements::has_instruction;
 pub use times::{line_conditions_on, time_of};

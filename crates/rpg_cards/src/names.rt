@@ -37,7 +37,7 @@ pub enum Defined {
     Missing,
     /// Its length, decimals or entries are over their limit.
     Bad,
-    Good(FieldForm),
+    Valid(FieldForm),
 }
 
 /// Returns the form of a plain field; without decimals it is a text. None if a limit is passed.

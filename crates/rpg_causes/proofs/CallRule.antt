@@ -3,9 +3,9 @@ use Rattle.std.proofs.Common.{◌≡◌, ℕ, Bool, true, false, cond, List, [],
 use Rattle.std.specs.Option.{is_some, option_and_then, option_map, option_map_or}
 use Rattle.rpg_cards.specs.Calculations.{calculation_ending, calculation_of, calculations, calculations_before, card_ending, group_with, open_calculation_group}
 use Rattle.rpg_cards.specs.Calls.{call_at, called_subroutine, calls, subroutine_in}
-use Rattle.rpg_cards.specs.Deeds.{Calculation, deed_of}
+use Rattle.rpg_cards.specs.Statements.{Calculation, statement_of}
 use Rattle.rpg_cards.specs.Keys.{Key}
-use Rattle.rpg_cards.specs.Labels.{label_named, labels, section_of, wants}
+use Rattle.rpg_cards.specs.Labels.{label_named, labels, section_of, target_name}
 use Rattle.rpg_cards.specs.declared.labels.Label.{Label}
 use Rattle.rpg_cards.specs.declared.labels.Named.{Named}
 use Rattle.rpg_cards.specs.declared.spec_card.SpecCard.{SpecCard}
@@ -37,23 +37,23 @@ module _ (cards before : List SpecCard) (c : SpecCard) (after : List SpecCard) w
   abbrev all : List (ℕ × ℕ)
   all = calls (calculations cards)
 
-  -- a call by that caller of the subroutine that is wanted
+  -- a call of that subroutine by that caller
   abbrev called : Option ℕ → Option Named → Option (ℕ × ℕ)
   called caller w = option_and_then (λ m. option_map (λ n. (m, n)) (option_and_then (called_subroutine given) w)) caller
 
   abbrev own : CalculationSpec → Bool
-  own k = comes_back all (called (subroutine_in (section_of front (calculation_of (group_with (open_calculation_group before) k)))) (wants (deed_of k)))
+  own k = comes_back all (called (subroutine_in (section_of front (calculation_of (group_with (open_calculation_group before) k)))) (target_name (statement_of k)))
 
   by_ending : (g : Option (Calculation Key)) → comes_back all (option_and_then (call_at given front) g) ≡ option_map_or (λ g. comes_back all (call_at given front g)) g false
   by_ending None = refl
   by_ending (Some g) = refl
 
-  -- the rule, asked of the card that the calculation ends on
+  -- the rule, tested on the card that the calculation ends on
   by_card : calls_itself cards before c after ≡ option_map_or own (card_ending c after) false
   by_card =
       by_ending (calculation_ending before c after)
       ∙ asked before c after (λ g. comes_back all (call_at given front g)) own
-      (λ k. ap (λ d. comes_back all (called (subroutine_in (section_of front (calculation_of (group_with (open_calculation_group before) k)))) (wants (deed_of d)))) (last_with (open_calculation_group before) k))
+      (λ k. ap (λ d. comes_back all (called (subroutine_in (section_of front (calculation_of (group_with (open_calculation_group before) k)))) (target_name (statement_of d)))) (last_with (open_calculation_group before) k))
 
   -- what is called is given
   is_label : (m : ℕ) (b : Bool) (l : Option Label)
@@ -72,7 +72,7 @@ module _ (cards before : List SpecCard) (c : SpecCard) (after : List SpecCard) w
 
   names_one : (x : Option CalculationSpec) → option_map_or own x false ≡ true → is_some (option_and_then (target_of cards) x) ≡ true
   names_one None e = absurd cc
-  names_one (Some k) e = is_target (subroutine_in (section_of front (calculation_of (group_with (open_calculation_group before) k)))) (wants (deed_of k)) e
+  names_one (Some k) e = is_target (subroutine_in (section_of front (calculation_of (group_with (open_calculation_group before) k)))) (target_name (statement_of k)) e
 
 -- there is a cause exactly if the rule is broken
 pub recursion_rule : (before : List SpecCard) (c : SpecCard) (after : List SpecCard) → is_some (recursion before c after) ≡ calls_itself (before ++ c ∷ after) before c after

@@ -10,13 +10,13 @@ use Rattle.rpg_cards.specs.Groups.{Group, followers, followers_with, groups, gro
 use Rattle.rpg_cards.specs.Levels.{is_at, match_level}
 use Rattle.rpg_cards.specs.declared.spec_card.SpecCard.{SpecCard}
 use Rattle.rpg_faults_limits.proofs.LimitRule.{if_some, or_some}
-use Rattle.rpg_causes.specs.JoinSums.{any_bad, good_lengths}
+use Rattle.rpg_causes.specs.JoinSums.{any_bad, valid_lengths}
 use Rattle.rpg_causes.specs.Joins.{first_difference, after_last, first_cause_in_list, first_matched, first_on, join_cause, length_on_card, level_cause, long_level, long_matches, match_level_cause, matched, matched_on, matches_on_card, of_lengths, of_level, of_match, of_matches, input_join_cause, open_cards, other_length, other_matches}
 use Rattle.rpg_causes.specs.Places.{is_outside}
 use Rattle.rpg_causes.specs.declared.joins.FirstLength.{FirstLength}
 use Rattle.rpg_causes.specs.declared.joins.FirstMatched.{FirstMatched}
 use Rattle.rpg_causes.specs.declared.joins.JoinCause.TheVariants.{LongLevel, LongMatches, MatchedTwice, OtherLength, OtherMatches}
-use Rattle.rpg_faults.specs.Places.{first_length, first_good_matches, good_matches, has_bad, has_other_lengths, has_other_matches, has_twice, input_columns, joined_length, joins_badly, level_length, lengths_differ, levels, matched_fields, match_lengths, matches_differ, misplaces, open_matches, open_specs, outside_line, outside_on_input, own_file, passes_length, refuses, repeats}
+use Rattle.rpg_faults.specs.Places.{first_length, first_valid_matches, valid_matches, has_bad, has_other_lengths, has_other_matches, has_twice, input_columns, joined_length, joins_badly, level_length, lengths_differ, levels, matched_fields, match_lengths, matches_differ, misplaces, open_matches, open_specs, outside_line, outside_on_input, own_file, passes_length, refuses, repeats}
 use Rattle.rpg_sheet_specs.specs.declared.input.InputFieldSpec.{InputFieldSpec}
 use Rattle.rpg_sheet_specs.specs.declared.input.InputSpec.{InputSpec}
 use Rattle.rpg_sheet_specs.specs.declared.input.InputSpec.TheVariants as input
@@ -71,18 +71,18 @@ first_on-is level file (c ∷ cs) = by (input_on c.spec) (λ next. first_on-is l
     by (Some (input.And codes)) rest = rest file
     by (Some (input.Field f)) rest = rest file
 
-first_matched-is : (file : Option (List ℕ)) (cards : List SpecCard) → first_good_matches (groups_from input_role file cards) ≡ option_map (λ (f : FirstMatched). f.lengths) (first_matched cards)
+first_matched-is : (file : Option (List ℕ)) (cards : List SpecCard) → first_valid_matches (groups_from input_role file cards) ≡ option_map (λ (f : FirstMatched). f.lengths) (first_matched cards)
 first_matched-is file [] = refl
 first_matched-is file (c ∷ cs) = by (input_on c.spec) (λ next. first_matched-is next cs)
   where
-    own : (o : Option (List ℕ)) (next : Option (List ℕ)) → ((next : Option (List ℕ)) → first_good_matches (groups_from input_role next cs) ≡ option_map (λ (f : FirstMatched). f.lengths) (first_matched cs)) → option_or o (first_good_matches (groups_from input_role next cs)) ≡ option_map (λ (f : FirstMatched). f.lengths) (option_or (option_map (matches_on_card c) o) (first_matched cs))
+    own : (o : Option (List ℕ)) (next : Option (List ℕ)) → ((next : Option (List ℕ)) → first_valid_matches (groups_from input_role next cs) ≡ option_map (λ (f : FirstMatched). f.lengths) (first_matched cs)) → option_or o (first_valid_matches (groups_from input_role next cs)) ≡ option_map (λ (f : FirstMatched). f.lengths) (option_or (option_map (matches_on_card c) o) (first_matched cs))
     own None next rest = rest next
     own (Some n) next rest = refl
 
-    by : (x : Option InputSpec) → ((next : Option (List ℕ)) → first_good_matches (groups_from input_role next cs) ≡ option_map (λ (f : FirstMatched). f.lengths) (first_matched cs)) → first_good_matches (opening (role_on input_card_role x) file (followers input_role cs) (λ next. groups_from input_role next cs))
-        ≡ option_map (λ (f : FirstMatched). f.lengths) (cond (is_some (option_and_then type_in x)) (option_or (option_map (matches_on_card c) (good_matches (matched cs))) (first_matched cs)) (first_matched cs))
+    by : (x : Option InputSpec) → ((next : Option (List ℕ)) → first_valid_matches (groups_from input_role next cs) ≡ option_map (λ (f : FirstMatched). f.lengths) (first_matched cs)) → first_valid_matches (opening (role_on input_card_role x) file (followers input_role cs) (λ next. groups_from input_role next cs))
+        ≡ option_map (λ (f : FirstMatched). f.lengths) (cond (is_some (option_and_then type_in x)) (option_or (option_map (matches_on_card c) (valid_matches (matched cs))) (first_matched cs)) (first_matched cs))
     by None rest = rest file
-    by (Some (input.Type t)) rest = own (good_matches (matched cs)) (option_or t.file file) rest
+    by (Some (input.Type t)) rest = own (valid_matches (matched cs)) (option_or t.file file) rest
     by (Some (input.And codes)) rest = rest file
     by (Some (input.Field f)) rest = rest file
 
@@ -121,7 +121,7 @@ of_matches-some (Some f) (Some ns) = apart-some f.card 1 f.lengths ns
 
 matches_rule : (before after : List SpecCard) → is_some (other_matches before after) ≡ has_other_matches before after
 matches_rule before after =
-    of_matches-some (first_matched before) (good_matches (matched after)) ∙ ap (λ ms. matches_differ ms (good_matches (matched after))) (sym (first_matched-is None before))
+    of_matches-some (first_matched before) (valid_matches (matched after)) ∙ ap (λ ms. matches_differ ms (valid_matches (matched after))) (sym (first_matched-is None before))
 
 -- ---- a field
 
@@ -196,7 +196,7 @@ join_rule before c after = by (input_on c.spec)
         ∙ ap (λ b. b || is_some (match_level_cause (open_cards before) f)) (level_rule before f)
         ∙ ap (λ b. passes_length before f || b) (match_rule before f)
 
--- ---- match fields that are good
+-- ---- match fields that are valid
 
 swapped : (a b c d : Bool) → ((a || b) || (c || d)) ≡ ((a || c) || (b || d))
 swapped true b c d = refl
@@ -210,9 +210,9 @@ any_bad-is [] = refl
 any_bad-is (f ∷ fs) =
     ap (λ b. (input_columns f == 0 || repeats fs f) || b) (any_bad-is fs) ∙ swapped (input_columns f == 0) (repeats fs f) (has_bad fs) (has_twice fs)
 
-pub good_lengths-is : (fs : List InputFieldSpec) → good_lengths fs ≡ good_matches fs
-good_lengths-is [] = refl
-good_lengths-is (f ∷ fs) = ap (λ b. cond (not b) (Some (match_lengths (f ∷ fs))) None) (any_bad-is (f ∷ fs)) ∙ by (has_bad (f ∷ fs) || has_twice (f ∷ fs))
+pub valid_lengths-is : (fs : List InputFieldSpec) → valid_lengths fs ≡ valid_matches fs
+valid_lengths-is [] = refl
+valid_lengths-is (f ∷ fs) = ap (λ b. cond (not b) (Some (match_lengths (f ∷ fs))) None) (any_bad-is (f ∷ fs)) ∙ by (has_bad (f ∷ fs) || has_twice (f ∷ fs))
   where
     by : (b : Bool) → cond (not b) (Some (match_lengths (f ∷ fs))) None ≡ cond b None (Some (match_lengths (f ∷ fs)))
     by true = refl

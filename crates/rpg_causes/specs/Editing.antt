@@ -6,8 +6,8 @@ use Rattle.rpg_cards.specs.Cards.{output_field_on}
 use Rattle.rpg_cards.specs.Names.{form_in, form_of_name}
 use Rattle.rpg_cards.specs.declared.spec_card.SpecCard.{SpecCard}
 use Rattle.rpg_causes.specs.declared.editing.EditingCause.{EditingCause}
-use Rattle.rpg_causes.specs.declared.editing.Misfit.{Misfit}
-use Rattle.rpg_causes.specs.declared.editing.Misfit.TheVariants.{Date, Fill, Text, Word}
+use Rattle.rpg_causes.specs.declared.editing.Mismatch.{Mismatch}
+use Rattle.rpg_causes.specs.declared.editing.Mismatch.TheVariants.{Date, Fill, Text, Word}
 use Rattle.rpg_edit_marks.specs.declared.code.EditCode.{EditCode}
 use Rattle.rpg_edit_marks.specs.declared.code.EditCode.TheVariants.{Combination, X, Y, Z}
 use Rattle.rpg_program.specs.LineFaults.{fits_word}
@@ -28,31 +28,31 @@ abbrev pub digits_that_fit : List ℕ → Option ℕ
 digits_that_fit word = first_fitting word (range_with_len 0 25)
 
 -- code Y edits 6 digits without decimals
-abbrev pub date_misfit : FieldForm → Misfit
-date_misfit form = if form.length == 6 && form.decimals == 0 then Fill else Date form.length form.decimals
+abbrev pub date_mismatch : FieldForm → Mismatch
+date_mismatch form = if form.length == 6 && form.decimals == 0 then Fill else Date form.length form.decimals
 
 -- of a number: code Y, the fill of another code, or a word
-abbrev pub number_misfit : FieldForm → Option EditCode → Option (List ℕ) → Misfit
-number_misfit form (Some Y) text = date_misfit form
-number_misfit form (Some X) text = Fill
-number_misfit form (Some Z) text = Fill
-number_misfit form (Some (Combination commas zeros ending)) text = Fill
-number_misfit form None None = Fill
-number_misfit form None (Some word) = Word (digits_that_fit word) form.length form.decimals
+abbrev pub number_mismatch : FieldForm → Option EditCode → Option (List ℕ) → Mismatch
+number_mismatch form (Some Y) text = date_mismatch form
+number_mismatch form (Some X) text = Fill
+number_mismatch form (Some Z) text = Fill
+number_mismatch form (Some (Combination commas zeros ending)) text = Fill
+number_mismatch form None None = Fill
+number_mismatch form None (Some word) = Word (digits_that_fit word) form.length form.decimals
 
 -- codes and words edit numbers
-abbrev pub kind_misfit : Kind → FieldForm → OutputField → Misfit
-kind_misfit kind.Text form f = Text form.length
-kind_misfit kind.Number form f = number_misfit form f.code f.text
+abbrev pub kind_mismatch : Kind → FieldForm → OutputField → Mismatch
+kind_mismatch kind.Text form f = Text form.length
+kind_mismatch kind.Number form f = number_mismatch form f.code f.text
 
 -- of a field without a form only the fill is known
-abbrev pub misfit : Option FieldForm → OutputField → Misfit
-misfit None f = Fill
-misfit (Some form) f = kind_misfit form.kind form f
+abbrev pub mismatch : Option FieldForm → OutputField → Mismatch
+mismatch None f = Fill
+mismatch (Some form) f = kind_mismatch form.kind form f
 
 -- of the field of that name
 abbrev pub named_editing_cause : List SpecCard → OutputField → Entry → EditingCause
-named_editing_cause cards f e = record { name = e.name; misfit = misfit (form_in (form_of_name e.name cards)) f }
+named_editing_cause cards f e = record { name = e.name; mismatch = mismatch (form_in (form_of_name e.name cards)) f }
 
 -- F17 of a card
 abbrev pub editing_cause : List SpecCard → SpecCard → Option EditingCause

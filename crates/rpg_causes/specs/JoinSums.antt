@@ -26,5 +26,5 @@ any_bad [] = false
 any_bad (f ∷ fs) = (input_columns f == 0 || repeats fs f) || any_bad fs
 
 -- the lengths of all match levels, if there are match fields and none is bad
-abbrev pub good_lengths : List InputFieldSpec → Option (List ℕ)
-good_lengths fs = if are_some fs && not (any_bad fs) then Some (match_lengths fs) else None
+abbrev pub valid_lengths : List InputFieldSpec → Option (List ℕ)
+valid_lengths fs = if are_some fs && not (any_bad fs) then Some (match_lengths fs) else None

@@ -9,7 +9,7 @@ use Rattle.rpg_causes.specs.declared.joins.FirstLength.{FirstLength}
 use Rattle.rpg_causes.specs.declared.joins.FirstMatched.{FirstMatched}
 use Rattle.rpg_causes.specs.declared.joins.JoinCause.{JoinCause}
 use Rattle.rpg_causes.specs.declared.joins.JoinCause.TheVariants.{LongLevel, LongMatches, MatchedTwice, OtherLength, OtherMatches}
-use Rattle.rpg_faults.specs.Places.{good_matches, input_columns, joined_length, level_length, levels, matched_fields}
+use Rattle.rpg_faults.specs.Places.{valid_matches, input_columns, joined_length, level_length, levels, matched_fields}
 use Rattle.rpg_sheet_specs.specs.declared.input.InputFieldSpec.{InputFieldSpec}
 use Rattle.rpg_sheet_specs.specs.declared.input.InputSpec.{InputSpec}
 use Rattle.rpg_sheet_specs.specs.declared.input.InputSpec.TheVariants as input
@@ -95,10 +95,10 @@ match_level_cause own f = option_and_then (of_match own f) f.match_level
 abbrev pub matches_on_card : SpecCard → List ℕ → FirstMatched
 matches_on_card c lengths = record { card = c.number; lengths = lengths }
 
--- those of the first of these types that has some, all of them good
+-- those of the first of these types that has some, all of them valid
 abbrev pub first_matched : List SpecCard → Option FirstMatched
 first_matched [] = None
-first_matched (c ∷ cs) = if opens_type c then option_or (option_map (matches_on_card c) (good_matches (matched cs))) (first_matched cs) else first_matched cs
+first_matched (c ∷ cs) = if opens_type c then option_or (option_map (matches_on_card c) (valid_matches (matched cs))) (first_matched cs) else first_matched cs
 
 -- the first level, from a number on, at which two lists of lengths differ
 abbrev pub first_difference : ℕ → ℕ → List ℕ → List ℕ → Option JoinCause
@@ -114,7 +114,7 @@ of_matches (Some f) (Some ns) = first_difference f.card 1 f.lengths ns
 
 -- a level of other match fields than in the first type with some
 abbrev pub other_matches : List SpecCard → List SpecCard → Option JoinCause
-other_matches before after = of_matches (first_matched before) (good_matches (matched after))
+other_matches before after = of_matches (first_matched before) (valid_matches (matched after))
 
 -- ---- of an I card
 

@@ -15,7 +15,7 @@ use rpg_sheet_specs::{Entry, OutputField, Word};
 
 /// Why a code or a word doesn't fit a field.
 #[derive(Clone, Copy)]
-pub enum Misfit {
+pub enum Mismatch {
     /// The field is a text with this many characters.
     Text {
         length: u16,
@@ -40,7 +40,7 @@ pub enum Misfit {
 #[derive(Drop)]
 pub struct EditingCause {
     pub name: Word<6>,
-    pub misfit: Misfit,
+    pub mismatch: Mismatch,
 }
 
 /// F17: the field, and why its code or word doesn't fit.
@@ -55,26 +55,26 @@ pub(crate) fn editing_cause(source: &IndexedCards, card: &SpecCard) -> Option<Ed
     let entry = field.operand.as_ref()?;
     Some(EditingCause {
         name: Word::new(entry.name.as_slice()),
-        misfit: misfit_of(source, entry, field),
+        mismatch: mismatch_of(source, entry, field),
     })
 }
 
-fn misfit_of(source: &IndexedCards, entry: &Entry, field: &OutputField) -> Misfit
-    ensures { result ≡ causes.misfit (form_in (form_of_name entry.now.name source.now)) field.now }
+fn mismatch_of(source: &IndexedCards, entry: &Entry, field: &OutputField) -> Mismatch
+    ensures { result ≡ causes.mismatch (form_in (form_of_name entry.now.name source.now)) field.now }
 {
     match source.form_of_name(&entry.name) {
-        Defined::Good(form) => match form.kind {
-            Kind::Text => Misfit::Text {
+        Defined::Valid(form) => match form.kind {
+            Kind::Text => Mismatch::Text {
                 length: form.length,
             },
-            Kind::Number => number_misfit(form, field),
+            Kind::Number => number_mismatch(form, field),
         },
-        Defined::Missing | Defined::Bad => Misfit::Fill,
+        Defined::Missing | Defined::Bad => Mismatch::Fill,
     }
 }
 
-fn number_misfit(form: FieldForm, field: &OutputField) -> Misfit
-    ensures { result ≡ causes.number_misfit form field.now.code field.now.text }
+fn number_mismatch(form: FieldForm, field: &OutputField) -> Mismatch
+    ensures { result ≡ causes.number_mismatch form field.now.code field.now.text }
 {
     let FieldForm {
         length,
@@ -82,10 +82,13 @@ fn number_misfit(form: FieldForm, field: &OutputField) -> Misfit
         ..
     } = form;
     match (field.code, &field.text) {
-        (Some(EditCode::Y), _) if length != 6 || decimals != 0 => Misfit::Date { length, decimals },
-        (Some(_), _) => Misfit::Fill,
-        (None, None) => Misfit::Fill,
-        (None, Some(word)) => Misfit::Word {
+        (Some(EditCode::Y), _) if length != 6 || decimals != 0 => Mismatch::Date {
+            length,
+            decimals,
+        },
+        (Some(_), _) => Mismatch::Fill,
+        (None, None) => Mismatch::Fill,
+        (None, Some(word)) => Mismatch::Word {
             places: places_of(word.as_slice()),
             length,
             decimals,

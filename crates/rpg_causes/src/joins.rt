@@ -380,17 +380,17 @@ fn match_length(level: u8, cards: &[SpecCard]) -> u32
 }
 
 /// Returns the lengths of the match levels up to the next type, if they are valid.
-fn good_matches(cards: &[SpecCard]) -> Option<[u32; 9]>
+fn valid_matches(cards: &[SpecCard]) -> Option<[u32; 9]>
     requires { length cards.now ≤ 2000 }
-    ensures { result ≡ rules.good_matches (causes.matched cards.now) }
+    ensures { result ≡ rules.valid_matches (causes.matched cards.now) }
 {
-    good_lengths(cards)
+    valid_lengths(cards)
 }
 
 #[tactic(auto, unfolding(rpg_faults::specs::Places::levels))]
-fn good_lengths(cards: &[SpecCard]) -> Option<[u32; 9]>
+fn valid_lengths(cards: &[SpecCard]) -> Option<[u32; 9]>
     requires { length cards.now ≤ 2000 }
-    ensures { result ≡ sums.good_lengths (causes.matched cards.now) }
+    ensures { result ≡ sums.valid_lengths (causes.matched cards.now) }
 {
     if !has_matches(cards) || has_bad_match(cards) {
         return None;
@@ -416,7 +416,7 @@ fn first_matched(cards: &[SpecCard]) -> Option<FirstMatched>
     let mut rest = cards;
     while let Some((card, following)) = rest.split_first() {
         if card.record_type().is_some() {
-            if let Some(lengths) = good_matches(following) {
+            if let Some(lengths) = valid_matches(following) {
                 let card = card.number;
                 return Some(FirstMatched { card, lengths });
             }
@@ -451,6 +451,6 @@ fn other_matches(before: &[SpecCard], after: &[SpecCard]) -> Option<JoinCause>
     ensures { result ≡ causes.other_matches before.now after.now }
 {
     let first = first_matched(before)?;
-    let own = good_matches(after)?;
+    let own = valid_matches(after)?;
     apart(first, &own)
 }

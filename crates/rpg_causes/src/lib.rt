@@ -9,7 +9,7 @@ mod known;
 mod places;
 
 pub use cause::{Cause, fault_cause};
-pub use editing::{EditingCause, Misfit};
+pub use editing::{EditingCause, Mismatch};
 pub use files::{FileCause, FileOnCard, FileUser};
 pub use joins::JoinCause;
 pub use places::PlaceCause;

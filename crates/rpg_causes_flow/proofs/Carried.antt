@@ -3,16 +3,16 @@ use Rattle.std.proofs.Common.{◌≡◌, Bool, true, false, not, cond, ◌&&◌,
 use Rattle.std.specs.Option.{option_and_then, option_map, option_map_or, option_to_list}
 use Rattle.rpg_cards.specs.Calculations.{CalculationGroup, alone, calculation_of, calculations, calculations_from, card_ending, group_at, group_with, joined_group, last_card, open_calculation_group, open_with}
 use Rattle.rpg_cards.specs.Cards.{calculation_on}
-use Rattle.rpg_cards.specs.Deeds.{Calculation, deed_of}
+use Rattle.rpg_cards.specs.Statements.{Calculation, statement_of}
 use Rattle.rpg_cards.specs.Groups.{joins}
 use Rattle.rpg_cards.specs.Keys.{Key}
-use Rattle.rpg_cards.specs.Labels.{begins_subroutine, brackets, ends, is_begsr, is_endsr, labels, wants}
+use Rattle.rpg_cards.specs.Labels.{begins_subroutine, brackets, ends, is_begsr, is_endsr, labels, target_name}
 use Rattle.rpg_cards.specs.Sections.{is_subroutine}
 use Rattle.rpg_cards.specs.declared.spec_card.SpecCard.{SpecCard}
 use Rattle.rpg_faults_flow.proofs.Ending.{asked, group_at-is}
 use Rattle.rpg_faults_flow.proofs.Facts.{last_with}
 use Rattle.rpg_faults_flow.specs.ByCard.{bracket_at, bracket_in, bracket_of, calculation_lacks_label, calculation_level, level_of_group, level_with}
-use Rattle.rpg_faults_flow.specs.Flow.{goes_nowhere, is_given_as, lacks_label}
+use Rattle.rpg_faults_flow.specs.Flow.{lacks_target, is_given_as, lacks_label}
 use Rattle.rpg_faults_flow.specs.Order.{is_bracket, is_closed}
 use Rattle.rpg_sheet_specs.specs.declared.calculation.CalculationSpec.{CalculationSpec}
 
@@ -41,8 +41,8 @@ bracket_cases true b e = refl
 
 pub bracket_in-is : (o : Option CalculationGroup) (k : CalculationSpec) → bracket_of (calculation_of (group_with o k)) ≡ bracket_in (calculation_level (level_of_group o) k) k
 bracket_in-is o k =
-    bracket_cases (is_subroutine (group_with o k).first.control_level) (is_begsr (deed_of (last_card (group_with o k)))) (is_endsr (deed_of (last_card (group_with o k))))
-    ∙ ap (λ d. cond (is_subroutine (group_with o k).first.control_level && is_bracket d) (Some (is_endsr d)) None) (ap deed_of (last_with o k))
+    bracket_cases (is_subroutine (group_with o k).first.control_level) (is_begsr (statement_of (last_card (group_with o k)))) (is_endsr (statement_of (last_card (group_with o k))))
+    ∙ ap (λ d. cond (is_subroutine (group_with o k).first.control_level && is_bracket d) (Some (is_endsr d)) None) (ap statement_of (last_with o k))
     ∙ ap (λ l. bracket_in l k) (level_in-is o k)
 
 pub bracket_at-is : (o : Option CalculationGroup) (c : SpecCard) (after : List SpecCard)
@@ -75,7 +75,7 @@ closed_step o c following =
 
 -- ---- F10
 
-pub nowhere-is : (cards before : List SpecCard) (c : SpecCard) (after : List SpecCard) → goes_nowhere cards before c after ≡ option_map_or (calculation_lacks_label cards) (card_ending c after) false
+pub nowhere-is : (cards before : List SpecCard) (c : SpecCard) (after : List SpecCard) → lacks_target cards before c after ≡ option_map_or (calculation_lacks_label cards) (card_ending c after) false
 nowhere-is cards before c after =
     asked before c after (lacks_label (labels (calculations cards))) (calculation_lacks_label cards)
-    (λ k. ap (λ d. option_map_or (λ n. not (is_given_as (labels (calculations cards)) n)) (wants (deed_of d)) false) (last_with (open_calculation_group before) k))
+    (λ k. ap (λ d. option_map_or (λ n. not (is_given_as (labels (calculations cards)) n)) (target_name (statement_of d)) false) (last_with (open_calculation_group before) k))

@@ -1,4 +1,4 @@
--- The first label of a name is given by the first card that gives the name.
+-- The first label of a name is defined by the first card that defines the name.
 use Rattle.std.proofs.Common.{◌≡◌, Bool, true, false, not, cond, ◌||◌, List, [], ◌∷◌, ◌++◌, Option, None, Some, refl, sym, ap, ◌∙◌}
 use Rattle.std.specs.Cmp.Lexicographic.{pointwise}
 use Rattle.std.specs.List.{list_any}
@@ -6,9 +6,9 @@ use Rattle.std.specs.Option.{option_and_then, option_map, option_map_or, option_
 use Rattle.std.specs.Prelude.{is_some, nat_eq}
 use Rattle.std.proofs.lemmas.List.Folds.{list_any-append}
 use Rattle.rpg_cards.specs.Calculations.{CalculationGroup, calculation_ending, calculation_of, calculations, calculations_before, calculations_from, card_ending, group_with, open_calculation_group, open_with}
-use Rattle.rpg_cards.specs.Deeds.{Calculation, deed_of}
+use Rattle.rpg_cards.specs.Statements.{Calculation, statement_of}
 use Rattle.rpg_cards.specs.Keys.{Key, Name}
-use Rattle.rpg_cards.specs.Labels.{gives, label_named, labels, labels_after, section_of, wants}
+use Rattle.rpg_cards.specs.Labels.{defined_name, label_named, labels, labels_after, section_of, target_name}
 use Rattle.rpg_cards.specs.Names.{definitions, definitions_on, given_names, is_of}
 use Rattle.rpg_cards.specs.declared.labels.Label.{Label}
 use Rattle.rpg_cards.specs.declared.labels.Named.{Named}
@@ -22,7 +22,7 @@ use Rattle.rpg_causes_flow.specs.declared.labels.TwiceCause.TheVariants.{EveryPr
 use Rattle.rpg_faults_flow.proofs.Ending.{asked, group_at-is}
 use Rattle.rpg_faults_flow.proofs.Facts.{last_with}
 use Rattle.rpg_faults_flow.specs.ByCard.{calculation_lacks_label}
-use Rattle.rpg_faults_flow.specs.Flow.{alike, gives_again, goes_nowhere, is_defined, is_given_as}
+use Rattle.rpg_faults_flow.specs.Flow.{alike, defines_again, lacks_target, is_defined, is_given_as}
 use Rattle.rpg_sheet_specs.specs.declared.calculation.CalculationSpec.{CalculationSpec}
 
 abbrev of_label : Option Label → Option Bool
@@ -36,11 +36,11 @@ module _ (name : Name) where
   step : (acc : List (Calculation Key)) (o : Option CalculationGroup) (c : SpecCard) (cs after : List SpecCard) (rest : List (Calculation Key))
       → ((a : List (Calculation Key)) → of_label (label_named name (labels_after a rest)) ≡ of_giver (giver name cs after)) → (x : Option CalculationSpec)
       → of_label (label_named name (labels_after acc (option_to_list (option_map calculation_of (option_map (group_with o) x)) ++ rest)))
-      ≡ of_giver (option_or (option_and_then (giver_if name c.number) (option_and_then (λ k. gives (deed_of k)) x)) (giver name cs after))
+      ≡ of_giver (option_or (option_and_then (giver_if name c.number) (option_and_then (λ k. defined_name (statement_of k)) x)) (giver name cs after))
   step acc o c cs after rest known None = known acc
   step acc o c cs after rest known (Some k) =
-      ap (λ d. of_label (label_named name (option_to_list (option_map label (gives (deed_of d))) ++ more))) (last_with o k)
-      ∙ named (gives (deed_of k))
+      ap (λ d. of_label (label_named name (option_to_list (option_map label (defined_name (statement_of d))) ++ more))) (last_with o k)
+      ∙ named (defined_name (statement_of k))
     where
       label : Named → Label
       label n = record { named = n; section = section_of acc (calculation_of (group_with o k)) }
@@ -67,7 +67,7 @@ module _ (name : Name) where
       ap (λ x. of_label (label_named name (labels_after acc (option_to_list (option_map calculation_of x) ++ calculations_from (open_with o c.spec) cs after)))) (group_at-is o c (cs ++ after))
       ∙ step acc o c cs after (calculations_from (open_with o c.spec) cs after) (λ a. from a (open_with o c.spec) cs after) (card_ending c (cs ++ after))
 
--- the first label of a name, and the first card that gives it
+-- the first label of a name, and the first card that defines it
 pub giver_is : (name : Name) (before after : List SpecCard) → of_label (label_named name (labels (calculations_before before after))) ≡ of_giver (giver name before after)
 giver_is name before after = from name [] None before after
 
@@ -75,7 +75,7 @@ some_map : {X Y : Type 0} (f : X → Y) (o : Option X) → is_some (option_map f
 some_map f None = refl
 some_map f (Some x) = refl
 
--- a name is given where a card gives it
+-- a name is defined where a card defines it
 pub is_given_is : (name : Name) (before after : List SpecCard) → is_some (giver name before after) ≡ is_some (label_named name (labels (calculations_before before after)))
 is_given_is name before after =
     sym (some_map (λ (x : Giver). x.is_subroutine) (giver name before after))
@@ -86,7 +86,7 @@ unless_is : {X : Type 0} (x : X) (b : Bool) → is_some (cond b None (Some x)) �
 unless_is x true = refl
 unless_is x false = refl
 
--- a name is wanted in vain where it isn't given so
+-- a name that is referred to isn't defined where no card defines it so
 pub wanted_is : (n : Named) (l : Option Label) (g : Option Giver) → of_label l ≡ of_giver g
     → is_some (option_map_or (unless_alike n) g (Some (Absent n))) ≡ not (option_map_or (λ (x : Label). alike x.named.is_subroutine n.is_subroutine) l false)
 wanted_is n None None e = refl
@@ -103,7 +103,7 @@ wanted_rule : (cards : List SpecCard) (n : Named) → is_some (of_wanted cards n
 wanted_rule cards n = wanted_is n (label_named n.name (labels (calculations cards))) (giver n.name cards []) (giver_is n.name cards [])
 
 -- there is a cause where the rule is broken
-pub nowhere_rule : (cards before : List SpecCard) (c : SpecCard) (after : List SpecCard) → is_some (nowhere_cause cards c after) ≡ goes_nowhere cards before c after
+pub nowhere_rule : (cards before : List SpecCard) (c : SpecCard) (after : List SpecCard) → is_some (nowhere_cause cards c after) ≡ lacks_target cards before c after
 nowhere_rule cards before c after = by (card_ending c after) ∙ sym (nowhere-is cards before c after)
   where
     target : (w : Option Named) → is_some (option_and_then (of_wanted cards) w) ≡ option_map_or (λ n. not (is_given_as (labels (calculations cards)) n)) w false
@@ -112,7 +112,7 @@ nowhere_rule cards before c after = by (card_ending c after) ∙ sym (nowhere-is
 
     by : (x : Option CalculationSpec) → is_some (option_and_then (of_target cards) x) ≡ option_map_or (calculation_lacks_label cards) x false
     by None = refl
-    by (Some k) = target (wants (deed_of k))
+    by (Some k) = target (target_name (statement_of k))
 
 -- ---- F11
 
@@ -120,14 +120,14 @@ nowhere_rule cards before c after = by (card_ending c after) ∙ sym (nowhere-is
 abbrev pub is_again : List SpecCard → SpecCard → List SpecCard → Named → Bool
 is_again before c after n = is_some (label_named n.name (labels (calculations_before before (c ∷ after)))) || is_defined n.name (definitions (before ++ c ∷ []))
 
--- the calculation that ends on a card gives the name that the card gives
-pub again_is : (before : List SpecCard) (c : SpecCard) (after : List SpecCard) → option_map_or (gives_again before c after) (calculation_ending before c after) false ≡ option_map_or (is_again before c after) (name_given_on c after) false
+-- the calculation that ends on a card defines the name that the card defines
+pub again_is : (before : List SpecCard) (c : SpecCard) (after : List SpecCard) → option_map_or (defines_again before c after) (calculation_ending before c after) false ≡ option_map_or (is_again before c after) (name_given_on c after) false
 again_is before c after =
-    asked before c after (gives_again before c after) (λ k. option_map_or (is_again before c after) (gives (deed_of k)) false)
-    (λ k. ap (λ d. option_map_or (is_again before c after) (gives (deed_of d)) false) (last_with (open_calculation_group before) k))
+    asked before c after (defines_again before c after) (λ k. option_map_or (is_again before c after) (defined_name (statement_of k)) false)
+    (λ k. ap (λ d. option_map_or (is_again before c after) (defined_name (statement_of d)) false) (last_with (open_calculation_group before) k))
     ∙ by (card_ending c after)
   where
-    by : (x : Option CalculationSpec) → option_map_or (λ k. option_map_or (is_again before c after) (gives (deed_of k)) false) x false ≡ option_map_or (is_again before c after) (option_and_then (λ k. gives (deed_of k)) x) false
+    by : (x : Option CalculationSpec) → option_map_or (λ k. option_map_or (is_again before c after) (defined_name (statement_of k)) false) x false ≡ option_map_or (is_again before c after) (option_and_then (λ k. defined_name (statement_of k)) x) false
     by None = refl
     by (Some k) = refl
 

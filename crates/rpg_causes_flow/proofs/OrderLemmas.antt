@@ -5,7 +5,7 @@ use Rattle.std.specs.Option.{option_and_then, option_map, option_map_or, option_
 use Rattle.std.specs.Prelude.{is_some, nat_lt}
 use Rattle.rpg_cards.specs.Calculations.{CalculationGroup, alone, calculation_ending, calculation_of, calculations_before, calculations_from, card_ending, completed, group_at, group_end, group_with, joined_group, open_calculation_group, open_with}
 use Rattle.rpg_cards.specs.Cards.{calculation_on, calculation_specs_in}
-use Rattle.rpg_cards.specs.Deeds.{Acts, Begins, Calculation, Deed, Ends, Executes, GoesTo, Marks, Nothing, PutsOut, deed_of}
+use Rattle.rpg_cards.specs.Statements.{Acts, Begins, Calculation, Statement, Ends, Executes, GoesTo, Marks, Nothing, WritesExceptions, statement_of}
 use Rattle.rpg_cards.specs.Groups.{joins}
 use Rattle.rpg_cards.specs.Keys.{Key}
 use Rattle.rpg_cards.specs.Labels.{begins_subroutine, begun_count, brackets, ends, is_begsr, is_endsr, is_inside_subroutine}
@@ -27,11 +27,11 @@ use Rattle.rpg_sheet_specs.specs.declared.calculation.ControlLevel.{ControlLevel
 
 -- ---- the last bracket before
 
-never_both : (d : Deed Key) → (is_begsr d && is_endsr d) ≡ false
+never_both : (d : Statement Key) → (is_begsr d && is_endsr d) ≡ false
 never_both (Begins n) = refl
 never_both (Ends l) = refl
 never_both (Acts a) = refl
-never_both PutsOut = refl
+never_both WritesExceptions = refl
 never_both (GoesTo l) = refl
 never_both (Executes n) = refl
 never_both (Marks l) = refl
@@ -77,7 +77,7 @@ inside_from o d (c ∷ cs) after =
 
     by : ((e : Option (Calculation Key)) → begun (last_or e (brackets rest)) ≡ open_by later (begun e)) → (g : Calculation Key) (t : Bool) → (begins_subroutine g || ends g) ≡ t
         → begun (last_or d (cond t (g ∷ brackets rest) (brackets rest))) ≡ open_by (option_or later (option_map (mark c) (cond t (Some (ends g)) None))) (begun d)
-    by known g true e = known (Some g) ∙ following g later (one_of_two (is_subroutine g.control) (is_begsr g.deed) (is_endsr g.deed) (never_both g.deed) e)
+    by known g true e = known (Some g) ∙ following g later (one_of_two (is_subroutine g.control) (is_begsr g.statement) (is_endsr g.statement) (never_both g.statement) e)
     by known g false e = known d ∙ ap (λ b. open_by b (begun d)) (sym (or_none later))
 
     step : ((e : Option (Calculation Key)) → begun (last_or e (brackets rest)) ≡ open_by later (begun e)) → (x : Option (Calculation Key))
@@ -134,7 +134,7 @@ begun_step o c cs after =
     by : (x : Option (Calculation Key)) → begun_count (option_to_list x ++ rest) ≡ one_if (opens (option_map (mark c) (option_and_then bracket_of x))) + begun_count rest
     by None = nothing (begun_count rest)
     by (Some g) =
-        begun_cases (begun_count rest) (is_subroutine g.control) (is_begsr g.deed) (is_endsr g.deed) (never_both g.deed)
+        begun_cases (begun_count rest) (is_subroutine g.control) (is_begsr g.statement) (is_endsr g.statement) (never_both g.statement)
         ∙ ap (λ b. one_if b + begun_count rest) (any_card c (bracket_of g))
 
 pub begins_is : (before : List SpecCard) (c : SpecCard) (after : List SpecCard)
@@ -152,7 +152,7 @@ begins_is before c after =
 
     by : (x : Option (Calculation Key)) → opens (option_map (mark c) (option_and_then bracket_of x)) ≡ option_map_or begins_subroutine x false
     by None = refl
-    by (Some g) = one (is_subroutine g.control) (is_begsr g.deed) (is_endsr g.deed) (never_both g.deed)
+    by (Some g) = one (is_subroutine g.control) (is_begsr g.statement) (is_endsr g.statement) (never_both g.statement)
 
 -- ---- on the first card of a group
 
@@ -192,7 +192,7 @@ module _ (before : List SpecCard) (c : SpecCard) (after : List SpecCard) where
   last = last_bracket None before (c ∷ after)
 
   abbrev outside : CalculationSpec → CalculationSpec → Bool → Bool
-  outside first k inside = is_subroutine first.control_level && (not (is_bracket (deed_of (group_end k after))) && not inside)
+  outside first k inside = is_subroutine first.control_level && (not (is_bracket (statement_of (group_end k after))) && not inside)
 
   outside_is : (k : CalculationSpec) → is_some (if_outside k after last) ≡ is_outside_subroutine front (completed (alone k) after)
   outside_is k =
@@ -227,16 +227,16 @@ module _ (before : List SpecCard) (c : SpecCard) (after : List SpecCard) where
   section_cases x y z true b e i cl = either x y (e && not i) (b && not cl) ∙ ap (λ n. n || ((e && not i) || (b && not cl))) (never (b || e))
   section_cases x y z false b e i cl = some_if z (b || e) ∙ alone_or (b || e)
 
-  abbrev unpaired_by : ControlLevel → Bool → Bool → Deed Key → Bool
+  abbrev unpaired_by : ControlLevel → Bool → Bool → Statement Key → Bool
   unpaired_by l i cl d = ((is_begsr d || is_endsr d) && not (is_subroutine l)) || (((is_subroutine l && is_endsr d) && not i) || ((is_subroutine l && is_begsr d) && not cl))
 
   end_rule : (k : CalculationSpec) → is_some (of_end before c after k) ≡ breaks_calculation before c after (group_with (open_calculation_group before) k)
   end_rule k =
-      section_cases (NoBegsr (bracket_card last)) (NoEndsr (begun_name k) (bracket_card (next_bracket (Some level) after))) (OutsideSection (is_endsr (deed_of k))) (is_subroutine level) (is_begsr (deed_of k)) (is_endsr (deed_of k)) (opens last) (closes (next_bracket (Some level) after))
-      ∙ ap (λ i. unpaired_by level i (closes (next_bracket (Some level) after)) (deed_of k)) (sym (inside_is before (c ∷ after)))
-      ∙ ap (λ l. unpaired_by l (is_inside_subroutine front) (closes (next_bracket (Some l) after)) (deed_of k)) (sym (level_in-is (open_calculation_group before) k))
-      ∙ ap (λ cl. unpaired_by g.first.control_level (is_inside_subroutine front) cl (deed_of k)) (sym (closed_is (Some g) after))
-      ∙ ap (λ (j : CalculationSpec). unpaired_by g.first.control_level (is_inside_subroutine front) (is_closed (brackets (calculations_from (Some g) after []))) (deed_of j)) (sym (last_with (open_calculation_group before) k))
+      section_cases (NoBegsr (bracket_card last)) (NoEndsr (begun_name k) (bracket_card (next_bracket (Some level) after))) (OutsideSection (is_endsr (statement_of k))) (is_subroutine level) (is_begsr (statement_of k)) (is_endsr (statement_of k)) (opens last) (closes (next_bracket (Some level) after))
+      ∙ ap (λ i. unpaired_by level i (closes (next_bracket (Some level) after)) (statement_of k)) (sym (inside_is before (c ∷ after)))
+      ∙ ap (λ l. unpaired_by l (is_inside_subroutine front) (closes (next_bracket (Some l) after)) (statement_of k)) (sym (level_in-is (open_calculation_group before) k))
+      ∙ ap (λ cl. unpaired_by g.first.control_level (is_inside_subroutine front) cl (statement_of k)) (sym (closed_is (Some g) after))
+      ∙ ap (λ (j : CalculationSpec). unpaired_by g.first.control_level (is_inside_subroutine front) (is_closed (brackets (calculations_from (Some g) after []))) (statement_of j)) (sym (last_with (open_calculation_group before) k))
     where
       level : ControlLevel
       level = calculation_level (level_of_group (open_calculation_group before)) k

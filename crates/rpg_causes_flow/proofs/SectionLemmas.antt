@@ -4,10 +4,10 @@ use Rattle.std.specs.Cmp.Lexicographic.{pointwise}
 use Rattle.std.specs.Option.{option_and_then, option_map, option_map_or, option_or, option_to_list}
 use Rattle.std.specs.Prelude.{is_some, nat_eq}
 use Rattle.rpg_cards.specs.Calculations.{CalculationGroup, calculation_of, calculations, calculations_before, calculations_from, card_ending, group_at, group_with, open_calculation_group, open_with}
-use Rattle.rpg_cards.specs.Deeds.{Calculation, deed_of}
+use Rattle.rpg_cards.specs.Statements.{Calculation, statement_of}
 use Rattle.rpg_cards.specs.Keys.{Key, Name}
 use Rattle.rpg_cards.specs.Labels as labels_of
-use Rattle.rpg_cards.specs.Labels.{begun_count, gives, is_begsr, is_inside_subroutine, label_named, labels, labels_after, section_of, wants}
+use Rattle.rpg_cards.specs.Labels.{begun_count, defined_name, is_begsr, is_inside_subroutine, label_named, labels, labels_after, section_of, target_name}
 use Rattle.rpg_cards.specs.Sections.{is_subroutine}
 use Rattle.rpg_cards.specs.declared.labels.Label.{Label}
 use Rattle.rpg_cards.specs.declared.labels.Named.{Named}
@@ -22,7 +22,7 @@ use Rattle.rpg_faults_flow.proofs.Ending.{asked, group_at-is, pushed}
 use Rattle.rpg_faults_flow.proofs.Facts.{last_with}
 use Rattle.rpg_faults_flow.proofs.Walk.{open_after-push}
 use Rattle.rpg_faults_flow.specs.ByCard.{calculation_level}
-use Rattle.rpg_faults_flow.specs.Flow.{are_apart, goes_apart, leaves_by, leaves_section}
+use Rattle.rpg_faults_flow.specs.Flow.{are_apart, leaves_its_section, leaves_by, leaves_section}
 use Rattle.rpg_faults_flow.specs.ByCard.{level_of_group}
 use Rattle.rpg_sheet_specs.specs.declared.calculation.CalculationSpec.{CalculationSpec}
 use Rattle.rpg_sheet_specs.specs.declared.calculation.ControlLevel.{ControlLevel}
@@ -40,12 +40,12 @@ section_cases acc b control.And = refl
 section_cases acc b control.Or = refl
 
 pub section_rule : (front : List SpecCard) (c : SpecCard) (after : List SpecCard) (k : CalculationSpec)
-    → section_by_state (calculation_level (level_of_group (open_calculation_group front)) k) (is_begsr (deed_of k)) (is_inside_subroutine (calculations_before front (c ∷ after))) (begun_count (calculations_before front (c ∷ after)))
+    → section_by_state (calculation_level (level_of_group (open_calculation_group front)) k) (is_begsr (statement_of k)) (is_inside_subroutine (calculations_before front (c ∷ after))) (begun_count (calculations_before front (c ∷ after)))
     ≡ section_on front c after k
 section_rule front c after k =
-    ap (λ l. section_by_state l (is_begsr (deed_of k)) (is_inside_subroutine acc) (begun_count acc)) (sym (level_in-is (open_calculation_group front) k))
-    ∙ section_cases acc (is_begsr (deed_of k)) g.first.control_level
-    ∙ ap (λ (j : CalculationSpec). labels_of.section_by acc (is_subroutine g.first.control_level && is_begsr (deed_of j)) g.first.control_level) (sym (last_with (open_calculation_group front) k))
+    ap (λ l. section_by_state l (is_begsr (statement_of k)) (is_inside_subroutine acc) (begun_count acc)) (sym (level_in-is (open_calculation_group front) k))
+    ∙ section_cases acc (is_begsr (statement_of k)) g.first.control_level
+    ∙ ap (λ (j : CalculationSpec). labels_of.section_by acc (is_subroutine g.first.control_level && is_begsr (statement_of j)) g.first.control_level) (sym (last_with (open_calculation_group front) k))
   where
     acc : List (Calculation Key)
     acc = calculations_before front (c ∷ after)
@@ -73,8 +73,8 @@ module _ (name : Name) where
       ≡ of_found (option_or (option_and_then (label_by name front c cs) x) (first_label_on_cards name (front ++ c ∷ []) cs))
   step front c cs rest None known = ap (λ (acc : List (Calculation Key)). of_label (label_named name (labels_after acc rest))) (sym (append-nil (calculations_before front (c ∷ cs)))) ∙ known
   step front c cs rest (Some k) known =
-      ap (λ d. of_label (label_named name (option_to_list (option_map label (gives (deed_of d))) ++ more))) (last_with (open_calculation_group front) k)
-      ∙ named (gives (deed_of k))
+      ap (λ d. of_label (label_named name (option_to_list (option_map label (defined_name (statement_of d))) ++ more))) (last_with (open_calculation_group front) k)
+      ∙ named (defined_name (statement_of k))
     where
       acc : List (Calculation Key)
       acc = calculations_before front (c ∷ cs)
@@ -126,14 +126,14 @@ if_same own n (Some l) (Some m) e = some_if {X = Target} (record { name = n.name
     tested : Bool → Section → Bool
     tested is_subroutine section = not is_subroutine && (not n.is_subroutine && are_apart own section)
 
-pub apart_rule : (cards before : List SpecCard) (c : SpecCard) (after : List SpecCard) → is_some (apart cards before c after) ≡ goes_apart cards before c after
+pub apart_rule : (cards before : List SpecCard) (c : SpecCard) (after : List SpecCard) → is_some (apart cards before c after) ≡ leaves_its_section cards before c after
 apart_rule cards before c after =
     by (card_ending c after)
     ∙ sym (asked before c after (leaves_section (labels (calculations cards)) (calculations_before before (c ∷ after))) own
-    (λ k. ap (λ d. option_map_or (λ (n : Named). option_map_or (leaves_by (section_on before c after k) n) (label_named n.name (labels (calculations cards))) false) (wants (deed_of d)) false) (last_with (open_calculation_group before) k)))
+    (λ k. ap (λ d. option_map_or (λ (n : Named). option_map_or (leaves_by (section_on before c after k) n) (label_named n.name (labels (calculations cards))) false) (target_name (statement_of d)) false) (last_with (open_calculation_group before) k)))
   where
     own : CalculationSpec → Bool
-    own k = option_map_or (λ (n : Named). option_map_or (leaves_by (section_on before c after k) n) (label_named n.name (labels (calculations cards))) false) (wants (deed_of k)) false
+    own k = option_map_or (λ (n : Named). option_map_or (leaves_by (section_on before c after k) n) (label_named n.name (labels (calculations cards))) false) (target_name (statement_of k)) false
 
     wanted : (k : CalculationSpec) (w : Option Named)
         → is_some (option_and_then (apart_by cards (section_on before c after k)) w)
@@ -143,4 +143,4 @@ apart_rule cards before c after =
 
     by : (x : Option CalculationSpec) → is_some (option_and_then (apart_on cards before c after) x) ≡ option_map_or own x false
     by None = refl
-    by (Some k) = wanted k (wants (deed_of k))
+    by (Some k) = wanted k (target_name (statement_of k))

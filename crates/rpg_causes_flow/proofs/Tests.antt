@@ -1,7 +1,7 @@
 -- Tests in another order.
 use Rattle.std.proofs.Common.{◌≡◌, List, Bool, true, false, ◌||◌, Option, refl}
 use Rattle.std.specs.Prelude.{◌&&◌, is_none, is_some}
-use Rattle.rpg_cards.specs.Calculations.{CalculationGroup, goes_on}
+use Rattle.rpg_cards.specs.Calculations.{CalculationGroup, continues}
 use Rattle.rpg_cards.specs.declared.spec_card.SpecCard.{SpecCard}
 use Rattle.rpg_causes_flow.specs.Columns.{has_bad_columns}
 use Rattle.rpg_faults_flow.specs.Columns.{bad_by_end, bad_calculation, bad_conditions}
@@ -17,4 +17,4 @@ last_first false false false = refl
 
 -- a length, the end of the group and the conditions: the same as the conditions, a length and the end
 pub bad_is : (group : Option CalculationGroup) (k : CalculationSpec) (after : List SpecCard) → has_bad_columns group k after ≡ bad_calculation group k after
-bad_is group k after = last_first (is_some k.length && is_none k.result_field) (bad_by_end (goes_on after) k) (bad_conditions group k after)
+bad_is group k after = last_first (is_some k.length && is_none k.result_field) (bad_by_end (continues after) k) (bad_conditions group k after)

@@ -1,7 +1,7 @@
 -- F9 of calculations: which columns are missing or not allowed, and why.
 use Rattle.std.specs.Prelude.{ℕ, ◌==◌, nat_lt, List, Bool, true, false, ◌&&◌, ◌||◌, Option, None, Some, is_none, is_some, option_and_then, if◌then◌else◌}
 use Rattle.std.specs.Option.{option_map, option_or}
-use Rattle.rpg_cards.specs.Calculations.{CalculationGroup, depends, goes_on, group_end, open_calculation_group}
+use Rattle.rpg_cards.specs.Calculations.{CalculationGroup, depends, continues, group_end, open_calculation_group}
 use Rattle.rpg_cards.specs.Cards.{calculation_on}
 use Rattle.rpg_cards.specs.Groups.{joins}
 use Rattle.rpg_sheet_specs.specs.Operations.{card_columns}
@@ -68,7 +68,7 @@ end_column_cause false k = last_card_column_cause k k.operation
 abbrev pub of_conditions : Option CalculationGroup → CalculationSpec → List SpecCard → Option ColumnCause
 of_conditions group k after =
     if depends k then (if may_depend (group_end k after) then None else Some Unconditioned)
-    else (if goes_on after || (joins k.control_level && is_some group) then Some ConditionsNeeded else None)
+    else (if continues after || (joins k.control_level && is_some group) then Some ConditionsNeeded else None)
 
 -- a length without a result field
 abbrev pub length_column_cause : CalculationSpec → Option ColumnCause
@@ -76,11 +76,11 @@ length_column_cause k = if is_some k.length && is_none k.result_field then Some 
 
 -- F9 of a calculation card, with the group that is open before it
 abbrev pub calculation_column_cause : Option CalculationGroup → CalculationSpec → List SpecCard → Option ColumnCause
-calculation_column_cause group k after = option_or (length_column_cause k) (option_or (end_column_cause (goes_on after) k) (of_conditions group k after))
+calculation_column_cause group k after = option_or (length_column_cause k) (option_or (end_column_cause (continues after) k) (of_conditions group k after))
 
 -- the same as a test
 abbrev pub has_bad_columns : Option CalculationGroup → CalculationSpec → List SpecCard → Bool
-has_bad_columns group k after = (is_some k.length && is_none k.result_field) || (bad_by_end (goes_on after) k || bad_conditions group k after)
+has_bad_columns group k after = (is_some k.length && is_none k.result_field) || (bad_by_end (continues after) k || bad_conditions group k after)
 
 -- F9 of a card, if it is a C card
 abbrev pub card_column_cause : List SpecCard → SpecCard → List SpecCard → Option ColumnCause

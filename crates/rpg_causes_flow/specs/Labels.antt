@@ -4,8 +4,8 @@ use Rattle.std.specs.Cmp.Lexicographic.{pointwise}
 use Rattle.std.specs.List.{list_any}
 use Rattle.std.specs.Option.{option_map, option_map_or, option_or}
 use Rattle.rpg_cards.specs.Calculations.{calculations_before, card_ending}
-use Rattle.rpg_cards.specs.Deeds.{deed_of}
-use Rattle.rpg_cards.specs.Labels.{gives, label_named, labels, wants}
+use Rattle.rpg_cards.specs.Statements.{statement_of}
+use Rattle.rpg_cards.specs.Labels.{defined_name, label_named, labels, target_name}
 use Rattle.rpg_cards.specs.Names.{definitions_on, given_names, is_of}
 use Rattle.rpg_cards.specs.declared.labels.Named.{Named}
 use Rattle.rpg_cards.specs.declared.names.Definition.{Definition}
@@ -20,11 +20,11 @@ use Rattle.rpg_causes_flow.specs.declared.labels.TwiceCause.TheVariants.{EveryPr
 use Rattle.rpg_faults_flow.specs.Flow.{alike}
 use Rattle.rpg_sheet_specs.specs.declared.calculation.CalculationSpec.{CalculationSpec}
 
--- ---- the card that gives a name
+-- ---- the card that defines a name
 
--- the name that the calculation that ends on a card gives
+-- the name that the calculation that ends on a card defines
 abbrev pub name_given_on : SpecCard → List SpecCard → Option Named
-name_given_on c after = option_and_then (λ k. gives (deed_of k)) (card_ending c after)
+name_given_on c after = option_and_then (λ k. defined_name (statement_of k)) (card_ending c after)
 
 -- the card as the giver, if it is that name
 abbrev pub giver_if : List ℕ → ℕ → Named → Option Giver
@@ -47,7 +47,7 @@ of_wanted cards n = option_map_or (unless_alike n) (giver n.name cards []) (Some
 
 -- F10 of a calculation
 abbrev pub of_target : List SpecCard → CalculationSpec → Option NowhereCause
-of_target cards k = option_and_then (of_wanted cards) (wants (deed_of k))
+of_target cards k = option_and_then (of_wanted cards) (target_name (statement_of k))
 
 -- F10 of a card
 abbrev pub nowhere_cause : List SpecCard → SpecCard → List SpecCard → Option NowhereCause
@@ -83,13 +83,13 @@ twice before c after =
 
 -- ---- F13, F14: the label or the subroutine that a card names
 
--- a name that is wanted, with the card that gives it
+-- a name that is referred to, with the card that defines it
 abbrev pub target_by : List SpecCard → Named → Option Target
 target_by cards n = option_map (λ (g : Giver). record { name = n.name; card = g.card }) (giver n.name cards [])
 
 -- that of a GOTO or EXSR
 abbrev pub target_of : List SpecCard → CalculationSpec → Option Target
-target_of cards k = option_and_then (target_by cards) (wants (deed_of k))
+target_of cards k = option_and_then (target_by cards) (target_name (statement_of k))
 
 -- that of a card
 abbrev pub card_target : List SpecCard → SpecCard → List SpecCard → Option Target

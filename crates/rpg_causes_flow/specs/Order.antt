@@ -3,9 +3,9 @@ use Rattle.std.specs.Prelude.{ℕ, nat_lt, List, [], ◌∷◌, ◌++◌, Bool, 
 use Rattle.std.specs.Option.{option_map, option_map_or, option_or}
 use Rattle.rpg_cards.specs.Calculations.{card_ending, group_end, open_calculation_group}
 use Rattle.rpg_cards.specs.Cards.{calculation_on}
-use Rattle.rpg_cards.specs.Deeds.{deed_of}
+use Rattle.rpg_cards.specs.Statements.{statement_of}
 use Rattle.rpg_cards.specs.Groups.{joins}
-use Rattle.rpg_cards.specs.Labels.{gives, is_begsr, is_endsr}
+use Rattle.rpg_cards.specs.Labels.{defined_name, is_begsr, is_endsr}
 use Rattle.rpg_cards.specs.Sections.{is_subroutine}
 use Rattle.rpg_cards.specs.declared.labels.Named.{Named}
 use Rattle.rpg_cards.specs.declared.spec_card.SpecCard.{SpecCard}
@@ -60,7 +60,7 @@ first_later own (c ∷ cs) = option_or (option_and_then (if_later own c) (calcul
 -- SR in no subroutine, with the last BEGSR or ENDSR before
 abbrev pub if_outside : CalculationSpec → List SpecCard → Option Bracket → Option OrderCause
 if_outside k after last =
-    if is_subroutine k.control_level && (not (is_bracket (deed_of (group_end k after))) && not (opens last)) then Some (Outside (bracket_card last)) else None
+    if is_subroutine k.control_level && (not (is_bracket (statement_of (group_end k after))) && not (opens last)) then Some (Outside (bracket_card last)) else None
 
 -- an AN or OR card that has no calculation right before it
 abbrev pub unless_open : List SpecCard → Option OrderCause
@@ -79,19 +79,19 @@ first_card before c after k = of_group (joins k.control_level) before c k after
 
 -- BEGSR or ENDSR in another section
 abbrev pub if_elsewhere : CalculationSpec → Option OrderCause
-if_elsewhere k = if is_bracket (deed_of k) then Some (OutsideSection (is_endsr (deed_of k))) else None
+if_elsewhere k = if is_bracket (statement_of k) then Some (OutsideSection (is_endsr (statement_of k))) else None
 
 -- ENDSR without BEGSR, with the last BEGSR or ENDSR before
 abbrev pub if_unbegun : CalculationSpec → Option Bracket → Option OrderCause
-if_unbegun k last = if is_endsr (deed_of k) && not (opens last) then Some (NoBegsr (bracket_card last)) else None
+if_unbegun k last = if is_endsr (statement_of k) && not (opens last) then Some (NoBegsr (bracket_card last)) else None
 
--- the name that a BEGSR gives
+-- the name that a BEGSR defines
 abbrev pub begun_name : CalculationSpec → Option (List ℕ)
-begun_name k = option_map (λ (n : Named). n.name) (gives (deed_of k))
+begun_name k = option_map (λ (n : Named). n.name) (defined_name (statement_of k))
 
 -- BEGSR without ENDSR, with the next BEGSR or ENDSR
 abbrev pub if_unended : CalculationSpec → Option Bracket → Option OrderCause
-if_unended k next = if is_begsr (deed_of k) && not (closes next) then Some (NoEndsr (begun_name k) (bracket_card next)) else None
+if_unended k next = if is_begsr (statement_of k) && not (closes next) then Some (NoEndsr (begun_name k) (bracket_card next)) else None
 
 -- of a group of that section
 abbrev pub of_section : ControlLevel → List SpecCard → SpecCard → List SpecCard → CalculationSpec → Option OrderCause

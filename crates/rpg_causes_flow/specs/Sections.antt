@@ -3,8 +3,8 @@ use Rattle.std.specs.Prelude.{ℕ, ◌-◌, List, [], ◌∷◌, ◌++◌, Bool,
 use Rattle.std.specs.Cmp.Lexicographic.{pointwise}
 use Rattle.std.specs.Option.{option_or}
 use Rattle.rpg_cards.specs.Calculations.{calculation_of, calculations_before, card_ending, group_with, open_calculation_group}
-use Rattle.rpg_cards.specs.Deeds.{deed_of}
-use Rattle.rpg_cards.specs.Labels.{gives, section_of, wants}
+use Rattle.rpg_cards.specs.Statements.{statement_of}
+use Rattle.rpg_cards.specs.Labels.{defined_name, section_of, target_name}
 use Rattle.rpg_cards.specs.declared.labels.Named.{Named}
 use Rattle.rpg_cards.specs.declared.labels.Section.{Section}
 use Rattle.rpg_cards.specs.declared.labels.Section.TheVariants.{Detail, Outside, Subroutine, Total}
@@ -37,14 +37,14 @@ section_by_state control.Or begins inside begun = Outside
 
 -- ---- the label, or the subroutine, of a name
 
--- the one that a card gives, if it is that name
+-- the one that a card defines, if it is that name
 abbrev pub label_if : List ℕ → List SpecCard → SpecCard → List SpecCard → CalculationSpec → Named → Option LabelOnCard
 label_if name front c after k n =
     if pointwise nat_eq name n.name then Some (record { card = c.number; is_subroutine = n.is_subroutine; section = section_on front c after k }) else None
 
--- the label that a C card gives, if it is that name
+-- the label that a C card defines, if it is that name
 abbrev pub label_by : List ℕ → List SpecCard → SpecCard → List SpecCard → CalculationSpec → Option LabelOnCard
-label_by name front c after k = option_and_then (label_if name front c after k) (gives (deed_of k))
+label_by name front c after k = option_and_then (label_if name front c after k) (defined_name (statement_of k))
 
 -- likewise for any card
 abbrev pub label_on_card : List ℕ → List SpecCard → SpecCard → List SpecCard → Option LabelOnCard
@@ -61,13 +61,13 @@ first_label_on_cards name front (c ∷ cs) = option_or (label_on_card name front
 abbrev pub if_apart : Section → Named → LabelOnCard → Option Target
 if_apart own n l = if not l.is_subroutine && (not n.is_subroutine && are_apart own l.section) then Some (record { name = n.name; card = l.card }) else None
 
--- of a name that a calculation of that section wants
+-- of a name that a calculation of that section refers to
 abbrev pub apart_by : List SpecCard → Section → Named → Option Target
 apart_by cards own n = option_and_then (if_apart own n) (first_label_on_cards n.name [] cards)
 
 -- the label or subroutine that a C card leads to, if that is in another section
 abbrev pub apart_on : List SpecCard → List SpecCard → SpecCard → List SpecCard → CalculationSpec → Option Target
-apart_on cards before c after k = option_and_then (apart_by cards (section_on before c after k)) (wants (deed_of k))
+apart_on cards before c after k = option_and_then (apart_by cards (section_on before c after k)) (target_name (statement_of k))
 
 -- F13 of a card
 abbrev pub apart : List SpecCard → List SpecCard → SpecCard → List SpecCard → Option Target

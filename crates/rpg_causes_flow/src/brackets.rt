@@ -3,7 +3,7 @@
 ghost use Rattle.std.specs.Prelude.{◌≡◌, ◌∷◌, ◌++◌, ◌≤◌, List, None, Some, false, length, if◌then◌else◌};
 ghost use Rattle.std.specs.Option.{option_map_or};
 ghost use Rattle.rpg_cards.specs.Calculations.{calculation_ending, calculations_before, open_calculation_group};
-ghost use Rattle.rpg_cards.specs.Deeds as deeds;
+ghost use Rattle.rpg_cards.specs.Statements as statements;
 ghost use Rattle.rpg_cards.specs.Labels.{begins_subroutine, begun_count};
 ghost use Rattle.rpg_cards.specs.declared.spec_card.SpecCard.{SpecCard};
 ghost use Rattle.rpg_causes_flow.specs.Order as causes;
@@ -60,7 +60,7 @@ pub(crate) fn open_level(before: &[SpecCard]) -> Option<ControlLevel>
 // ---- BEGSR and ENDSR
 
 pub(crate) fn is_bracket(calculation: &CalculationSpec) -> bool
-    ensures { result ≡ rules.is_bracket (deeds.deed_of calculation.now) }
+    ensures { result ≡ rules.is_bracket (statements.statement_of calculation.now) }
 {
     begins_subroutine(calculation) || ends_subroutine(calculation)
 }

@@ -11,7 +11,7 @@ ghost use Rattle.rpg_sheet_specs.specs.declared.column_range.ColumnRange.TheVari
 ghost use Rattle.rpg_sheet_specs.specs.declared.literal.Factor.TheVariants as factor;
 
 use rpg_cards::{
-    Column, Content, Shown, SpecCard, columns, depends, goes_on, group_end, joins, plain_name,
+    Column, Content, Shown, SpecCard, columns, continues, depends, group_end, joins, plain_name,
 };
 use rpg_faults_flow::{further_range, has_more, may_depend};
 use rpg_sheet_specs::{CalculationSpec, ColumnRange, Entry, Factor, Indicator, Operation, Three};
@@ -86,7 +86,7 @@ fn of_calculation(
     if calculation.length.is_some() && calculation.result_field.is_none() {
         return Some(ColumnCause::LengthAlone);
     }
-    match of_end(goes_on(after), calculation) {
+    match of_end(continues(after), calculation) {
         Some(cause) => Some(cause),
         None => of_conditions(is_in_group, calculation, after),
     }
@@ -106,18 +106,18 @@ fn of_conditions(
         } else {
             Some(ColumnCause::Unconditioned)
         }
-    } else if goes_on(after) || (joins(calculation) && is_in_group) {
+    } else if continues(after) || (joins(calculation) && is_in_group) {
         Some(ColumnCause::ConditionsNeeded)
     } else {
         None
     }
 }
 
-fn of_end(goes_on: bool, calculation: &CalculationSpec) -> Option<ColumnCause>
-    ensures cause { result ≡ causes.end_column_cause goes_on calculation.now }
-    ensures rule { is_some result ≡ rules.bad_by_end goes_on calculation.now }
+fn of_end(continues: bool, calculation: &CalculationSpec) -> Option<ColumnCause>
+    ensures cause { result ≡ causes.end_column_cause continues calculation.now }
+    ensures rule { is_some result ≡ rules.bad_by_end continues calculation.now }
 {
-    if !goes_on {
+    if !continues {
         return match calculation.operation {
             None => Some(ColumnCause::NoOperation),
             Some(operation) => of_operation(calculation, operation),

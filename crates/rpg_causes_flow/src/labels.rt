@@ -10,7 +10,7 @@ ghost use Rattle.rpg_causes_flow.specs.Labels as causes;
 ghost use Rattle.rpg_causes_operands.specs.Names as defined;
 ghost use Rattle.rpg_faults_flow.specs.Flow as rules;
 
-use rpg_cards::{Definition, IndexedCards, Named, SpecCard, gives, last_card, wants};
+use rpg_cards::{Definition, IndexedCards, Named, SpecCard, defined_name, last_card, target_name};
 use rpg_causes_operands::{first_defining, with_card};
 use rpg_sheet_specs::{CalculationSpec, Word};
 use rpg_symbols::Name;
@@ -55,7 +55,7 @@ pub struct Target {
 fn given_on(card: &SpecCard, after: &[SpecCard]) -> Option<Named>
     ensures { result ≡ causes.name_given_on card.now after.now }
 {
-    gives(last_card(card, after)?)
+    defined_name(last_card(card, after)?)
 }
 
 fn giver_on(name: &Name, card: &SpecCard, after: &[SpecCard]) -> Option<Giver>
@@ -99,7 +99,7 @@ pub fn nowhere_cause(
     after: &[SpecCard],
 ) -> Option<NowhereCause>
     ensures cause { result ≡ causes.nowhere_cause source.now card.now after.now }
-    ensures rule { is_some result ≡ rules.goes_nowhere source.now before.now card.now after.now }
+    ensures rule { is_some result ≡ rules.lacks_target source.now before.now card.now after.now }
 {
     of_ending(source, card, after)
 }
@@ -113,7 +113,7 @@ fn of_ending(source: &IndexedCards, card: &SpecCard, after: &[SpecCard]) -> Opti
 fn of_target(source: &IndexedCards, calculation: &CalculationSpec) -> Option<NowhereCause>
     ensures { result ≡ causes.of_target source.now calculation.now }
 {
-    of_wanted(source, wants(calculation)?)
+    of_wanted(source, target_name(calculation)?)
 }
 
 fn of_wanted(source: &IndexedCards, wanted: Named) -> Option<NowhereCause>
@@ -141,7 +141,7 @@ pub fn twice_cause(
 ) -> Option<TwiceCause>
     requires { source.now ≡ before.now ++ card.now ∷ after.now }
     ensures cause { result ≡ causes.twice before.now card.now after.now }
-    ensures rule { is_some result ≡ rules.names_twice before.now card.now after.now }
+    ensures rule { is_some result ≡ rules.repeats_name before.now card.now after.now }
 {
     match of_given_on(source, before, card, after) {
         Some(cause) => Some(cause),
@@ -158,7 +158,7 @@ fn of_given_on(
 ) -> Option<TwiceCause>
     requires { source.now ≡ before.now ++ card.now ∷ after.now }
     ensures cause { result ≡ option_and_then (causes.of_given before.now card.now after.now) (causes.name_given_on card.now after.now) }
-    ensures rule { is_some result ≡ option_map_or (rules.gives_again before.now card.now after.now) (calculation_ending before.now card.now after.now) false }
+    ensures rule { is_some result ≡ option_map_or (rules.defines_again before.now card.now after.now) (calculation_ending before.now card.now after.now) false }
 {
     let named = given_on(card, after)?;
     match if_given(source, before, card, after, &named.name) {
@@ -260,7 +260,7 @@ pub fn target_on(source: &IndexedCards, card: &SpecCard, after: &[SpecCard]) -> 
 fn target_of(source: &IndexedCards, calculation: &CalculationSpec) -> Option<Target>
     ensures { result ≡ causes.target_of source.now calculation.now }
 {
-    target_by(source, wants(calculation)?)
+    target_by(source, target_name(calculation)?)
 }
 
 fn target_by(source: &IndexedCards, wanted: Named) -> Option<Target>

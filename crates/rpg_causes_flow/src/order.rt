@@ -12,7 +12,8 @@ use crate::brackets::{
 };
 use crate::columns::is_in_group;
 use rpg_cards::{
-    SpecCard, begins_subroutine, ends_subroutine, gives, group_end, is_subroutine, joins, last_card,
+    SpecCard, begins_subroutine, defined_name, ends_subroutine, group_end, is_subroutine, joins,
+    last_card,
 };
 use rpg_sheet_specs::{CalculationSpec, ControlLevel};
 use rpg_symbols::Name;
@@ -248,5 +249,5 @@ fn if_unended(calculation: &CalculationSpec, next: Option<Bracket>) -> Option<Or
 fn begun_name(calculation: &CalculationSpec) -> Option<Name>
     ensures { result ≡ causes.begun_name calculation.now }
 {
-    Some(gives(calculation)?.name)
+    Some(defined_name(calculation)?.name)
 }

@@ -7,7 +7,7 @@ ghost use Rattle.rpg_faults_flow.specs.Flow as rules;
 use crate::brackets::{count_begun, last_bracket, level_in, open_level, opens};
 use crate::labels::Target;
 use rpg_cards::{
-    IndexedCards, Named, Section, SpecCard, begins_subroutine, gives, last_card, wants,
+    IndexedCards, Named, Section, SpecCard, begins_subroutine, defined_name, last_card, target_name,
 };
 use rpg_causes_operands::with_card;
 use rpg_sheet_specs::{CalculationSpec, ControlLevel, Word};
@@ -31,7 +31,7 @@ pub fn apart_cause(
     requires split { source.now ≡ before.now ++ card.now ∷ after.now }
     requires few { length source.now ≤ 2000 }
     ensures cause { result ≡ causes.apart source.now before.now card.now after.now }
-    ensures rule { is_some result ≡ rules.goes_apart source.now before.now card.now after.now }
+    ensures rule { is_some result ≡ rules.leaves_its_section source.now before.now card.now after.now }
 {
     on_ending(source, before, card, after)
 }
@@ -60,7 +60,7 @@ fn apart_on(
     requires few { length source.now ≤ 2000 }
     ensures { result ≡ causes.apart_on source.now before.now card.now after.now calculation.now }
 {
-    let wanted = wants(calculation)?;
+    let wanted = target_name(calculation)?;
     let own = section_on(source, before, card, after, calculation);
     apart_by(source, own, wanted)
 }
@@ -121,7 +121,7 @@ fn label_on(
     ensures { result ≡ causes.label_on_card name.now front.now card.now after.now }
 {
     let calculation = last_card(card, after)?;
-    let named = gives(calculation)?;
+    let named = defined_name(calculation)?;
     if *name == named.name {
         return Some(LabelOnCard {
             card: card.number,

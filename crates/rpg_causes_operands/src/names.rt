@@ -109,7 +109,7 @@ fn if_undefined(source: &IndexedCards, name: &Name) -> Option<Name>
 {
     match source.form_of_name(name) {
         Defined::Missing => Some(Word::new(name.as_slice())),
-        Defined::Bad | Defined::Good(_) => None,
+        Defined::Bad | Defined::Valid(_) => None,
     }
 }
 
@@ -178,12 +178,12 @@ fn redefined_by(source: &IndexedCards, place: usize, definition: &Definition) ->
 {
     let here = definition.form?;
     match source.form_before(&definition.name, place) {
-        Defined::Good(first) if !is_same_form(&first, &here) => Some(Redefined {
+        Defined::Valid(first) if !is_same_form(&first, &here) => Some(Redefined {
             name: Word::new(definition.name.as_slice()),
             here,
             first,
             definer: definer(source, &definition.name),
         }),
-        Defined::Good(_) | Defined::Missing | Defined::Bad => None,
+        Defined::Valid(_) | Defined::Missing | Defined::Bad => None,
     }
 }

@@ -7,7 +7,7 @@ ghost use Rattle.rpg_cli_answers.specs.declared.answer.Answer.TheVariants as ans
 use arrayvec::ArrayVec;
 use rpg_cli_files::FileFault;
 use rpg_cli_values::WarningCode;
-use rpg_cli_words::FileWord;
+use rpg_cli_words::FileArgument;
 use rpg_engine::{ObjectFault, Report, RunFault};
 use rpg_faults::SourceFault;
 
@@ -55,7 +55,7 @@ pub enum Answer {
     Run(RunFault),
     /// The file of an argument failed.
     File {
-        word: FileWord,
+        argument: FileArgument,
         fault: FileFault,
     },
     /// A code was explained.
@@ -98,12 +98,12 @@ pub enum Answer {
 }
 
 /// Turns a file fault into that of the file that an argument names.
-pub fn named<T>(word: FileWord, given: Result<T, FileFault>) -> Result<T, Answer>
-    ensures { result ≡ named_fault word given }
+pub fn named<T>(argument: FileArgument, given: Result<T, FileFault>) -> Result<T, Answer>
+    ensures { result ≡ named_fault argument given }
 {
     match given {
         Ok(value) => Ok(value),
-        Err(fault) => Err(Answer::File { word, fault }),
+        Err(fault) => Err(Answer::File { argument, fault }),
     }
 }
 

@@ -38,7 +38,7 @@ impl<'a, L: Listener> FormedListener<'a, L> {
     }
 
     /// Takes a text, and passes on the objects of all complete lines.
-    fn tell_objects(&mut self, text: &str, uncoded: Severity) {
+    fn report_objects(&mut self, text: &str, uncoded: Severity) {
         if self.begun.push_str(text).is_err() || !text.ends_with('\n') {
             return;
         }
@@ -47,17 +47,17 @@ impl<'a, L: Listener> FormedListener<'a, L> {
             uncoded,
         };
         if let Ok(objects) = diagnostics(self.alloc, known, self.begun.as_str()) {
-            self.listener.tell(objects.as_str());
+            self.listener.report(objects.as_str());
         }
         self.begun.clear();
     }
 }
 
 impl<L: Listener> Listener for FormedListener<'_, L> {
-    fn tell(&mut self, text: &str) {
+    fn report(&mut self, text: &str) {
         match self.form {
-            Form::Text => self.listener.tell(text),
-            Form::Objects { uncoded } => self.tell_objects(text, uncoded),
+            Form::Text => self.listener.report(text),
+            Form::Objects { uncoded } => self.report_objects(text, uncoded),
         }
     }
 

@@ -1,38 +1,38 @@
 //! Files that two arguments name.
 
 use rpg_cli_files::{FileIdentity, Opened, Pending, identity, identity_at};
-use rpg_cli_words::{FileWord, SameFile, Shared};
+use rpg_cli_words::{FileArgument, SameFile, Shared};
 use std::rt::Files;
 
 /// An argument, and the regular file that it names, if any.
 #[derive(Clone, Copy)]
 pub struct NamedFile {
-    word: FileWord,
+    argument: FileArgument,
     identity: Option<FileIdentity>,
 }
 
 impl NamedFile {
-    pub fn at<R: Files>(rt: &R, word: FileWord, path: &str) -> NamedFile {
+    pub fn at<R: Files>(rt: &R, argument: FileArgument, path: &str) -> NamedFile {
         NamedFile {
-            word,
+            argument,
             identity: identity_at(rt, path),
         }
     }
 
     /// Returns the file that an argument may name.
-    pub fn named<R: Files>(rt: &R, word: FileWord, path: Option<&str>) -> NamedFile {
+    pub fn named<R: Files>(rt: &R, argument: FileArgument, path: Option<&str>) -> NamedFile {
         let identity = match path {
             Some(path) => identity_at(rt, path),
             None => None,
         };
-        NamedFile { word, identity }
+        NamedFile { argument, identity }
     }
 
     /// Returns an open file of a job, or the one that a standard stream is redirected to, which the
     /// system knows by this path.
     pub fn opened<R: Files>(
         rt: &R,
-        word: FileWord,
+        argument: FileArgument,
         file: &Opened<R::File>,
         stream: &str,
     ) -> NamedFile {
@@ -41,20 +41,20 @@ impl NamedFile {
             Opened::File(file) | Opened::New(file) => identity(file),
             Opened::Standard => identity_at(rt, stream),
         };
-        NamedFile { word, identity }
+        NamedFile { argument, identity }
     }
 
     /// Returns a file that a job writes, or the place of one that is written beside it.
     pub fn written<R: Files>(
         rt: &R,
-        word: FileWord,
+        argument: FileArgument,
         file: &Opened<R::File>,
         pending: &Option<Pending<'_>>,
         stream: &str,
     ) -> NamedFile {
         match pending {
-            Some(pending) => NamedFile::at(rt, word, pending.place()),
-            None => NamedFile::opened(rt, word, file, stream),
+            Some(pending) => NamedFile::at(rt, argument, pending.place()),
+            None => NamedFile::opened(rt, argument, file, stream),
         }
     }
 }
@@ -67,8 +67,8 @@ pub fn refuse_same_file(written: NamedFile, others: &[NamedFile]) -> Result<(), 
     for earlier in others {
         if earlier.identity == written.identity {
             return Err(SameFile {
-                earlier: earlier.word,
-                written: written.word,
+                earlier: earlier.argument,
+                written: written.argument,
                 shared: Shared::File,
             });
         }

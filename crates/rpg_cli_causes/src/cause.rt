@@ -19,7 +19,7 @@ use rpg_faults::FaultCode;
 use rpg_sheet::ColumnFault;
 
 /// Writes a cause in words.
-fn write_told(out: &mut TextWriter, spot: Spot<'_>, cause: &Cause) {
+fn write_reported(out: &mut TextWriter, spot: Spot<'_>, cause: &Cause) {
     match cause {
         Cause::UndefinedName(name) => write_undefined(out, spot, name.as_slice()),
         Cause::RedefinedName(redefined) => write_redefined(out, spot, redefined),
@@ -65,7 +65,7 @@ pub fn write_cause(
     };
     match spot.cause(code) {
         Some(cause) => {
-            write_told(out, spot, &cause);
+            write_reported(out, spot, &cause);
             true
         }
         None => false,

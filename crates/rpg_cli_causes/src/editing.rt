@@ -1,7 +1,7 @@
 //! F17: how an edit code or an edit word fails to fit its number.
 
 use crate::forms::noun;
-use rpg_causes::{EditingCause, Misfit};
+use rpg_causes::{EditingCause, Mismatch};
 use rpg_cli_text::TextWriter;
 use rpg_faults::FaultCode;
 
@@ -18,22 +18,22 @@ fn write_digits(out: &mut TextWriter, name: &[u8], length: u16, decimals: u8) {
 pub(crate) fn write_editing(out: &mut TextWriter, cause: &EditingCause) {
     let name = cause.name.as_slice();
     out.write_str(FaultCode::F17.sentence());
-    match cause.misfit {
-        Misfit::Fill => {}
-        Misfit::Text { length } => {
+    match cause.mismatch {
+        Mismatch::Fill => {}
+        Mismatch::Text { length } => {
             let characters = noun(usize::from(length), "character", "characters");
             out.fill_three(": {} is a text of {} {}", name, length, characters);
         }
-        Misfit::Date { length, decimals } => {
+        Mismatch::Date { length, decimals } => {
             out.write_str(": code Y edits 6 digits without decimals, and ");
             write_digits(out, name, length, decimals);
         }
-        Misfit::Word { places: None, .. } => {
+        Mismatch::Word { places: None, .. } => {
             out.write_str(
                 ": the word's $ stands right before its stop (rpg2 fit rewrites it: A18)",
             );
         }
-        Misfit::Word {
+        Mismatch::Word {
             places: Some(places),
             length,
             decimals,

@@ -2,13 +2,13 @@
 
 use crate::near::is_near;
 use crate::spot::Spot;
-use rpg_cards::{Named, SpecCard, gives};
+use rpg_cards::{Named, SpecCard, defined_name};
 use rpg_causes::{NowhereCause, Target, TwiceCause};
 use rpg_cli_text::TextWriter;
 
 /// Returns the label or the subroutine that a card defines.
 fn given_on(card: &SpecCard) -> Option<Named> {
-    gives(card.calculation()?)
+    defined_name(card.calculation()?)
 }
 
 /// Writes a label or a subroutine whose name is similar to an undefined one.

@@ -43,7 +43,7 @@ pub(crate) fn is_near(one: &[u8], other: &[u8]) -> bool {
 /// How many names are listed so far, and how many definitions come before a card.
 #[derive(Clone, Copy)]
 struct Near {
-    told: usize,
+    reported: usize,
     definitions: usize,
 }
 
@@ -60,10 +60,10 @@ fn write_defined(
     for definition in definitions.as_slice() {
         let other = definition.name.as_slice();
         let is_first = source.is_new_name(near.definitions, &definition.name);
-        if near.told < MOST && is_first && is_near(name, other) {
-            out.write_str(if near.told == 0 { " (" } else { ", " });
+        if near.reported < MOST && is_first && is_near(name, other) {
+            out.write_str(if near.reported == 0 { " (" } else { ", " });
             out.write_shown(other);
-            near.told = near.told.saturating_add(1);
+            near.reported = near.reported.saturating_add(1);
         }
         near.definitions = near.definitions.saturating_add(1);
     }
@@ -73,13 +73,13 @@ fn write_defined(
 /// Writes which defined names are similar to a name.
 pub(crate) fn write_near_names(out: &mut TextWriter, spot: Spot<'_>, name: &[u8]) {
     let mut near = Near {
-        told: 0,
+        reported: 0,
         definitions: 0,
     };
     for card in spot.source.cards.as_slice() {
         near = write_defined(out, spot.source.cards, name, near, card);
     }
-    match near.told {
+    match near.reported {
         0 => {}
         1 => out.write_str(" is defined)"),
         _ => out.write_str(" are defined)"),

@@ -136,7 +136,7 @@ impl<'a> Spot<'a> {
     /// Returns the form of a name.
     pub fn form(self, name: &Word<6>) -> Option<FieldForm> {
         match self.source.cards.form_of_name(name) {
-            Defined::Good(form) => Some(form),
+            Defined::Valid(form) => Some(form),
             Defined::Missing | Defined::Bad => None,
         }
     }

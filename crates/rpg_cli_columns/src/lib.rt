@@ -16,8 +16,8 @@ mod range;
 mod refused;
 mod ruler;
 mod sheets;
+mod shift;
 mod shorthand;
-mod slip;
 mod unread;
 
 pub use deck::deck_of;

@@ -15,7 +15,7 @@ pub(crate) struct Range {
 
 /// Which range of a card to find. Columns are counted from 1.
 #[derive(Clone, Copy)]
-pub(crate) enum Sought {
+pub(crate) enum WantedRange {
     /// The one with exactly these columns.
     Columns(ColumnFault),
     /// The one that begins in a column.
@@ -46,23 +46,23 @@ fn range_in(row: &'static str) -> Range {
 }
 
 /// Whether the range of a line is the one to find.
-fn is_sought(row: &str, sought: Sought) -> bool {
+fn is_wanted(row: &str, which: WantedRange) -> bool {
     let ColumnFault { column, last } = columns_at(row.as_bytes(), 1);
-    match sought {
-        Sought::Columns(columns) => column == columns.column && last == columns.last,
-        Sought::From(first) => usize::from(column) == first,
-        Sought::Around(inner) => usize::from(column) <= inner && inner <= usize::from(last),
-        Sought::NameBefore(next) => {
+    match which {
+        WantedRange::Columns(columns) => column == columns.column && last == columns.last,
+        WantedRange::From(first) => usize::from(column) == first,
+        WantedRange::Around(inner) => usize::from(column) <= inner && inner <= usize::from(last),
+        WantedRange::NameBefore(next) => {
             last.saturating_add(1) == next && matches!(letter_in(row), b'N' | b'E')
         }
     }
 }
 
 /// Finds a range of a card.
-pub(crate) fn range_of(kind: CardKind, sought: Sought) -> Option<Range> {
+pub(crate) fn range_of(kind: CardKind, which: WantedRange) -> Option<Range> {
     let (_, ranges) = sheet_of(kind);
     for row in ranges.lines() {
-        if is_sought(row, sought) {
+        if is_wanted(row, which) {
             return Some(range_in(row));
         }
     }
@@ -71,5 +71,5 @@ pub(crate) fn range_of(kind: CardKind, sought: Sought) -> Option<Range> {
 
 /// Whether a range of a card's sheet begins in a column, which is counted from 1.
 pub(crate) fn begins_range(line: &[u8], column: usize) -> bool {
-    range_of(CardKind::of(line), Sought::From(column)).is_some()
+    range_of(CardKind::of(line), WantedRange::From(column)).is_some()
 }

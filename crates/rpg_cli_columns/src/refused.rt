@@ -2,8 +2,8 @@
 
 use crate::card::CardKind;
 use crate::pattern::{character_at, write_columns};
-use crate::range::{Range, Sought, range_of};
-use crate::slip::{write_form_type_slip, write_slip};
+use crate::range::{Range, WantedRange, range_of};
+use crate::shift::{write_form_type_shift, write_shift};
 use crate::unread::feature_at;
 use rpg_cli_text::TextWriter;
 use rpg_sheet::ColumnFault;
@@ -30,7 +30,7 @@ pub fn write_form_type(out: &mut TextWriter, line: &[u8]) {
     if is_starred(line) {
         out.write_str("; a comment has * in column 7");
     }
-    write_form_type_slip(out, line);
+    write_form_type_shift(out, line);
 }
 
 /// Whether a card begins with an asterisk, as if it were a comment.
@@ -46,19 +46,19 @@ fn is_starred(line: &[u8]) -> bool {
 /// Writes which columns have a bad value: what they hold, what that is in RPG II or what they may hold, and whether the text is in the
 /// wrong columns.
 pub fn write_bad_columns(out: &mut TextWriter, line: &[u8], columns: ColumnFault) {
-    let range = range_of(CardKind::of(line), Sought::Columns(columns));
+    let range = range_of(CardKind::of(line), WantedRange::Columns(columns));
     write_columns_found(out, line, columns, range);
     match feature_at(line, columns) {
         Some(feature) => {
             out.write_shown(feature.sentence);
             if feature.is_any {
-                write_slip(out, line, columns, 1);
+                write_shift(out, line, columns, 1);
             }
         }
         None => {
             write_wanted(out, line, columns, range);
             write_overlong(out, line, columns);
-            write_slip(out, line, columns, 2);
+            write_shift(out, line, columns, 2);
         }
     }
 }
@@ -143,7 +143,7 @@ fn is_full(line: &[u8], first: u8, last: u8) -> bool {
 
 /// Writes that a name which continues from the columns before these may be too long for its own.
 fn write_overlong(out: &mut TextWriter, line: &[u8], columns: ColumnFault) {
-    let before = range_of(CardKind::of(line), Sought::NameBefore(columns.column));
+    let before = range_of(CardKind::of(line), WantedRange::NameBefore(columns.column));
     let Some(range) = before else {
         return;
     };

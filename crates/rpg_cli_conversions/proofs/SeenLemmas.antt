@@ -224,7 +224,7 @@ value_or s (Ok other) = other
 value_or s (Err fault) = s
 
 pub by_cards : CardsSayTheOutput
-by_cards words deck input format one other e f =
+by_cards arguments deck input format one other e f =
     let same : layout_seen one ≡ layout_seen other = ap (value_or (layout_seen one)) (sym e ∙ f) in (
       ap (λ (way : ConversionSettings). conversion way input) (lines_are_seen one format ∙ ap (seen_lines format) same ∙ sym (lines_are_seen other format)),
       ap (λ (way : ConversionSettings). conversion way input) (records_are_seen one format ∙ ap (seen_records format) same ∙ sym (records_are_seen other format)),

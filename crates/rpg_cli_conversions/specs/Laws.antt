@@ -10,9 +10,9 @@ use Rattle.rpg_record_lines.specs.declared.conversion.RecordFormat.{RecordFormat
 
 -- it is a layout of the records by the cards of a deck
 abbrev pub IsLayoutOf : DeckWords → List ℕ → Layout → Type 0
-IsLayoutOf words deck layout = layout_by words deck ≡ Ok (layout_seen layout)
+IsLayoutOf arguments deck layout = layout_by arguments deck ≡ Ok (layout_seen layout)
 
 -- The cards determine the whole conversion, both ways: each input is converted alike by every layout of a deck's records.
 abbrev pub CardsSayTheOutput : Type 0
-CardsSayTheOutput = (words : DeckWords) (deck input : List ℕ) (format : RecordFormat) (one other : Layout) → IsLayoutOf words deck one → IsLayoutOf words deck other
+CardsSayTheOutput = (arguments : DeckWords) (deck input : List ℕ) (format : RecordFormat) (one other : Layout) → IsLayoutOf arguments deck one → IsLayoutOf arguments deck other
     → (conversion (to_lines one format) input ≡ conversion (to_lines other format) input) × (conversion (to_records one format) input ≡ conversion (to_records other format) input)

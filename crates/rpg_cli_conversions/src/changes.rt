@@ -3,7 +3,7 @@
 use crate::sentence::{write_card, write_sentence};
 use rpg_cli_messages::{CardLines, write_picture};
 use rpg_cli_text::{Piece, TextWriter};
-use rpg_fit::{Card, Fitted, FittedDeck, Note, Refusal, Rule, Told, What};
+use rpg_fit::{Card, Fitted, FittedDeck, Note, Refusal, Remark, Rule, What};
 use std::alloc::{AllocError, Global};
 
 /// The columns of a card.
@@ -39,18 +39,18 @@ fn write_rule(out: &mut TextWriter, rule: Rule) {
 /// Writes the changes of a card. Returns whether there are any.
 fn write_changes(out: &mut TextWriter, path: &str, fitted: &Fitted, card: usize) -> bool {
     let mut is_changed = false;
-    for told in fitted.told(card) {
-        is_changed = write_change(out, path, card, told) || is_changed;
+    for remarks in fitted.remarks(card) {
+        is_changed = write_change(out, path, card, remarks) || is_changed;
     }
     is_changed
 }
 
 /// Writes a change; nothing if the card changes along with another one.
-fn write_change(out: &mut TextWriter, path: &str, card: usize, told: &Told) -> bool {
-    match &told.what {
+fn write_change(out: &mut TextWriter, path: &str, card: usize, remarks: &Remark) -> bool {
+    match &remarks.what {
         What::Change(sentence) => {
             write_card(out, path, card);
-            write_rule(out, told.rule);
+            write_rule(out, remarks.rule);
             write_sentence(out, sentence);
             out.write_char('\n');
             true

@@ -4,7 +4,7 @@ use crate::changes::{change_messages, refusal_message, too_many_message};
 use crate::new_deck::new_deck_messages;
 use rpg_cli_answers::{Answer, CommandStop, Listener, NamedFile, named, refuse_same_file};
 use rpg_cli_files::{FileFault, Opened, Reason, file_bytes, lines, write_bytes};
-use rpg_cli_words::{FileWord, FitWords, is_standard};
+use rpg_cli_words::{FileArgument, FitArguments, is_standard};
 use rpg_faults::{CardFault, SourceCode, SourceFault};
 use rpg_fit::{FitFault, FittedDeck, Settings, Switches, TableFile, fit};
 use rpg_sheet::SheetCode;
@@ -16,10 +16,13 @@ use std::rt::Files;
 const PAST_LIMIT: u16 = 2001;
 
 /// Reads the records of the table files that the arguments name.
-fn table_records<R: Files + AllocGlobal>(rt: &R, words: &FitWords) -> Result<Vec<Vec<u8>>, Answer> {
+fn table_records<R: Files + AllocGlobal>(
+    rt: &R,
+    arguments: &FitArguments,
+) -> Result<Vec<Vec<u8>>, Answer> {
     let mut records = Vec::new(rt.alloc());
-    for (place, table) in words.tables.iter().enumerate() {
-        let bytes = named(FileWord::Table(place), file_bytes(rt, table.path))?;
+    for (place, table) in arguments.tables.iter().enumerate() {
+        let bytes = named(FileArgument::Table(place), file_bytes(rt, table.path))?;
         if records.push(bytes).is_err() {
             return Err(Answer::NoMemory);
         }
@@ -30,11 +33,11 @@ fn table_records<R: Files + AllocGlobal>(rt: &R, words: &FitWords) -> Result<Vec
 /// Returns the table files with their names.
 fn table_files<'b>(
     alloc: Global,
-    words: &FitWords<'b>,
+    arguments: &FitArguments<'b>,
     records: &'b [Vec<u8>],
 ) -> Result<Vec<TableFile<'b>>, AllocError> {
     let mut files = Vec::new(alloc);
-    for (table, bytes) in words.tables.iter().zip(records) {
+    for (table, bytes) in arguments.tables.iter().zip(records) {
         files.push(TableFile {
             name: table.name.as_bytes(),
             records: bytes.as_slice(),
@@ -43,8 +46,8 @@ fn table_files<'b>(
     Ok(files)
 }
 
-fn switches_of(words: &FitWords) -> Switches {
-    match words.switches {
+fn switches_of(arguments: &FitArguments) -> Switches {
+    match arguments.switches {
         Some(digits) => Switches::of(digits.as_bytes()).unwrap_or(Switches::OFF),
         None => Switches::OFF,
     }
@@ -53,14 +56,14 @@ fn switches_of(words: &FitWords) -> Switches {
 /// Rewrites a deck.
 fn rewrite(
     alloc: Global,
-    words: &FitWords,
+    arguments: &FitArguments,
     source: &[u8],
     records: &[Vec<u8>],
 ) -> Result<FittedDeck, FitFault> {
-    let tables = table_files(alloc, words, records)?;
+    let tables = table_files(alloc, arguments, records)?;
     let settings = Settings {
-        switches: switches_of(words),
-        keeps_forms: words.keeps_forms,
+        switches: switches_of(arguments),
+        keeps_forms: arguments.keeps_forms,
         tables: tables.as_slice(),
     };
     fit(alloc, source, &settings)
@@ -69,15 +72,15 @@ fn rewrite(
 /// Reports why a deck isn't rewritten, and returns the answer.
 fn refuse<L: Listener>(
     alloc: Global,
-    words: &FitWords,
+    arguments: &FitArguments,
     source: &[u8],
     fault: &FitFault,
     listener: &mut L,
 ) -> Answer {
     match fault {
         FitFault::Refused(refusal) => {
-            if let Ok(message) = refusal_message(alloc, words.source, source, refusal) {
-                listener.tell(message.as_str());
+            if let Ok(message) = refusal_message(alloc, arguments.source, source, refusal) {
+                listener.report(message.as_str());
             }
             Answer::FitRefused {
                 card: refusal.card as u64,
@@ -85,8 +88,8 @@ fn refuse<L: Listener>(
             }
         }
         FitFault::TooMany => {
-            if let Ok(message) = too_many_message(alloc, words.source) {
-                listener.tell(message.as_str());
+            if let Ok(message) = too_many_message(alloc, arguments.source) {
+                listener.report(message.as_str());
             }
             Answer::NewDeck(SourceFault::At {
                 card: PAST_LIMIT,
@@ -99,12 +102,12 @@ fn refuse<L: Listener>(
 }
 
 /// Refuses to write the new deck over a file that is read.
-fn keep_files<R: Files>(rt: &R, words: &FitWords, path: &str) -> Result<(), CommandStop> {
-    let written = NamedFile::at(rt, FileWord::Fitted, path);
-    let source = NamedFile::at(rt, FileWord::Source, words.source);
+fn keep_files<R: Files>(rt: &R, arguments: &FitArguments, path: &str) -> Result<(), CommandStop> {
+    let written = NamedFile::at(rt, FileArgument::Fitted, path);
+    let source = NamedFile::at(rt, FileArgument::Source, arguments.source);
     refuse_same_file(written, &[source])?;
-    for (place, table) in words.tables.iter().enumerate() {
-        let file = NamedFile::at(rt, FileWord::Table(place), table.path);
+    for (place, table) in arguments.tables.iter().enumerate() {
+        let file = NamedFile::at(rt, FileArgument::Table(place), table.path);
         refuse_same_file(written, &[file])?;
     }
     Ok(())
@@ -116,7 +119,7 @@ fn show_new_deck<R: Files + Print>(rt: &R, new: &[u8]) -> Result<(), Answer> {
     match target.write_all(new) {
         Ok(()) => Ok(()),
         Err(_) => Err(Answer::File {
-            word: FileWord::Fitted,
+            argument: FileArgument::Fitted,
             fault: FileFault::Output(target.fault().unwrap_or(Reason::Other)),
         }),
     }
@@ -125,35 +128,35 @@ fn show_new_deck<R: Files + Print>(rt: &R, new: &[u8]) -> Result<(), Answer> {
 /// Writes the new deck, if the arguments ask for it.
 fn write_new_deck<R: Files + Print + AllocGlobal>(
     rt: &R,
-    words: &FitWords,
+    arguments: &FitArguments,
     new: &[u8],
 ) -> Result<(), CommandStop> {
-    match words.new_deck {
+    match arguments.new_deck {
         None => Ok(()),
         Some(path) if is_standard(path) => {
-            keep_files(rt, words, "/dev/stdout")?;
+            keep_files(rt, arguments, "/dev/stdout")?;
             Ok(show_new_deck(rt, new)?)
         }
         Some(path) => {
-            keep_files(rt, words, path)?;
-            Ok(named(FileWord::Fitted, write_bytes(rt, path, new))?)
+            keep_files(rt, arguments, path)?;
+            Ok(named(FileArgument::Fitted, write_bytes(rt, path, new))?)
         }
     }
 }
 
 /// Reports the changes of a deck, and the faults of the new one. If memory runs out for them, nothing is printed.
-fn tell_fit<L: Listener>(
+fn report_fit<L: Listener>(
     alloc: Global,
-    words: &FitWords,
+    arguments: &FitArguments,
     source: &[u8],
     fit: &FittedDeck,
     listener: &mut L,
 ) {
-    if let Ok(messages) = change_messages(alloc, words.source, source, fit) {
-        listener.tell(messages.as_str());
+    if let Ok(messages) = change_messages(alloc, arguments.source, source, fit) {
+        listener.report(messages.as_str());
     }
-    if let Ok(messages) = new_deck_messages(alloc, words.new_name(), words.source, fit) {
-        listener.tell(messages.as_str());
+    if let Ok(messages) = new_deck_messages(alloc, arguments.new_name(), arguments.source, fit) {
+        listener.report(messages.as_str());
     }
 }
 
@@ -180,13 +183,13 @@ fn answer_of(fit: &FittedDeck) -> Answer {
 /// Writes a new deck, and reports its changes.
 fn conclude<R: Files + Print + AllocGlobal, L: Listener>(
     rt: &R,
-    words: &FitWords,
+    arguments: &FitArguments,
     source: &[u8],
     fit: &FittedDeck,
     listener: &mut L,
 ) -> Result<Answer, CommandStop> {
-    write_new_deck(rt, words, fit.fitted.new.as_slice())?;
-    tell_fit(rt.alloc(), words, source, fit, listener);
+    write_new_deck(rt, arguments, fit.fitted.new.as_slice())?;
+    report_fit(rt.alloc(), arguments, source, fit, listener);
     Ok(answer_of(fit))
 }
 
@@ -194,13 +197,13 @@ fn conclude<R: Files + Print + AllocGlobal, L: Listener>(
 /// written.
 pub fn fit_file<R: Files + Print + AllocGlobal, L: Listener>(
     rt: &R,
-    words: &FitWords,
+    arguments: &FitArguments,
     listener: &mut L,
 ) -> Result<Answer, CommandStop> {
-    let source = named(FileWord::Source, file_bytes(rt, words.source))?;
-    let records = table_records(rt, words)?;
-    match rewrite(rt.alloc(), words, &source, records.as_slice()) {
-        Ok(fit) => conclude(rt, words, &source, &fit, listener),
-        Err(fault) => Ok(refuse(rt.alloc(), words, &source, &fault, listener)),
+    let source = named(FileArgument::Source, file_bytes(rt, arguments.source))?;
+    let records = table_records(rt, arguments)?;
+    match rewrite(rt.alloc(), arguments, &source, records.as_slice()) {
+        Ok(fit) => conclude(rt, arguments, &source, &fit, listener),
+        Err(fault) => Ok(refuse(rt.alloc(), arguments, &source, &fault, listener)),
     }
 }

@@ -7,7 +7,7 @@ use rpg_cli_files::{
     kept_file, lines, records, write_bytes,
 };
 use rpg_cli_words::{
-    FileWord, RecordFraming, RecordsWay, RecordsWords, SameFile, Shared, is_standard,
+    FileArgument, RecordFraming, RecordsArguments, RecordsWay, SameFile, Shared, is_standard,
 };
 use rpg_record_decks::{DeckFault, DeckWords, fitted_deck, layout_of};
 use rpg_record_lines::{
@@ -34,59 +34,59 @@ fn refusal(fault: DeckFault) -> Answer {
 /// Returns the layout of the records, from the deck. Reports a bad card.
 fn layout<L: Listener>(
     alloc: Global,
-    words: &RecordsWords,
+    arguments: &RecordsArguments,
     source: &[u8],
     listener: &mut L,
 ) -> Result<Layout, Answer> {
-    let deck_words = DeckWords {
-        file: words.file,
-        length: words.length,
-        are_lines: words.framing == RecordFraming::Lines,
+    let deck_arguments = DeckWords {
+        file: arguments.file,
+        length: arguments.length,
+        are_lines: arguments.framing == RecordFraming::Lines,
     };
-    match layout_of(alloc, source, deck_words) {
+    match layout_of(alloc, source, deck_arguments) {
         Ok(layout) => Ok(layout),
         Err(fault) => {
-            if let Ok(message) = deck_message(alloc, words.deck, fault) {
-                listener.tell(message.as_str());
+            if let Ok(message) = deck_message(alloc, arguments.deck, fault) {
+                listener.report(message.as_str());
             }
             Err(refusal(fault))
         }
     }
 }
 
-fn format_of(words: &RecordsWords) -> RecordFormat {
+fn format_of(arguments: &RecordsArguments) -> RecordFormat {
     RecordFormat {
-        page: if words.is_ascii {
+        page: if arguments.is_ascii {
             Page::Ascii
         } else {
             Page::Ebcdic
         },
-        framing: match words.framing {
+        framing: match arguments.framing {
             RecordFraming::EndToEnd => Framing::EndToEnd,
             RecordFraming::Descriptors => Framing::Descriptors,
             RecordFraming::Lines => Framing::Lines,
         },
-        low_blank: words.low_blank,
-        dropped: words.dropped,
+        low_blank: arguments.low_blank,
+        dropped: arguments.dropped,
     }
 }
 
 /// Opens the input.
-fn opened_input<R: Files>(rt: &R, words: &RecordsWords) -> Result<Opened<R::File>, Answer> {
-    if is_standard(words.input) {
+fn opened_input<R: Files>(rt: &R, arguments: &RecordsArguments) -> Result<Opened<R::File>, Answer> {
+    if is_standard(arguments.input) {
         return Ok(Opened::Standard);
     }
-    let file = named(FileWord::In, input_file(rt, words.input))?;
+    let file = named(FileArgument::In, input_file(rt, arguments.input))?;
     Ok(Opened::File(file))
 }
 
 /// Whether NEW and OUT would be the same file, if neither exists yet.
 fn is_shared<R: Files + AllocGlobal>(
     rt: &R,
-    words: &RecordsWords,
+    arguments: &RecordsArguments,
     pending: &Option<Pending<'_>>,
 ) -> Result<bool, Answer> {
-    match (pending, words.new_deck) {
+    match (pending, arguments.new_deck) {
         (Some(pending), Some(path)) => match pending.goes_to(rt, path) {
             Ok(is_shared) => Ok(is_shared),
             Err(_) => Err(Answer::NoMemory),
@@ -98,20 +98,20 @@ fn is_shared<R: Files + AllocGlobal>(
 /// Refuses to write a file that another argument names too.
 fn keep_files<R: Files + AllocGlobal>(
     rt: &R,
-    words: &RecordsWords,
+    arguments: &RecordsArguments,
     input: &Opened<R::File>,
     pending: &Option<Pending<'_>>,
 ) -> Result<(), CommandStop> {
-    let deck = NamedFile::at(rt, words.deck_word(), words.deck);
-    let input = NamedFile::opened(rt, FileWord::In, input, "/dev/stdin");
-    let output = NamedFile::at(rt, FileWord::Out, words.output);
-    let new_deck = NamedFile::named(rt, FileWord::NewDeck, words.new_deck);
+    let deck = NamedFile::at(rt, arguments.deck_argument(), arguments.deck);
+    let input = NamedFile::opened(rt, FileArgument::In, input, "/dev/stdin");
+    let output = NamedFile::at(rt, FileArgument::Out, arguments.output);
+    let new_deck = NamedFile::named(rt, FileArgument::NewDeck, arguments.new_deck);
     refuse_same_file(output, &[input, deck])?;
     refuse_same_file(new_deck, &[input, output, deck])?;
-    if is_shared(rt, words, pending)? {
+    if is_shared(rt, arguments, pending)? {
         return Err(CommandStop::SameFile(SameFile {
-            earlier: FileWord::Out,
-            written: FileWord::NewDeck,
+            earlier: FileArgument::Out,
+            written: FileArgument::NewDeck,
             shared: Shared::File,
         }));
     }
@@ -126,7 +126,7 @@ fn reason_of(fault: Option<Reason>) -> Reason {
 /// Returns the answer for a conversion that ended early. Reports a bad record.
 fn early_answer<L: Listener>(
     alloc: Global,
-    words: &RecordsWords,
+    arguments: &RecordsArguments,
     fault: ConversionFault,
     read: Option<Reason>,
     written: Option<Reason>,
@@ -138,17 +138,17 @@ fn early_answer<L: Listener>(
             offset,
             fault,
         } => {
-            if let Ok(message) = record_message(alloc, words.input, number, offset, fault) {
-                listener.tell(message.as_str());
+            if let Ok(message) = record_message(alloc, arguments.input, number, offset, fault) {
+                listener.report(message.as_str());
             }
             Answer::RecordRefused { number }
         }
         ConversionFault::Read => Answer::File {
-            word: FileWord::In,
+            argument: FileArgument::In,
             fault: FileFault::Input(reason_of(read)),
         },
         ConversionFault::Write => Answer::File {
-            word: FileWord::Out,
+            argument: FileArgument::Out,
             fault: FileFault::Output(reason_of(written)),
         },
         ConversionFault::NoMemory => Answer::NoMemory,
@@ -158,13 +158,13 @@ fn early_answer<L: Listener>(
 /// Converts records to lines, or lines to records, and flushes the output.
 fn convert_all<S: Read, T: Write>(
     alloc: Global,
-    words: &RecordsWords,
+    arguments: &RecordsArguments,
     layout: &Layout,
     source: &mut S,
     target: &mut T,
 ) -> Result<Counts, ConversionFault> {
-    let format = format_of(words);
-    let counts = match words.way {
+    let format = format_of(arguments);
+    let counts = match arguments.way {
         RecordsWay::ToLines => records_to_lines(alloc, layout, format, source, target)?,
         RecordsWay::ToRecords => lines_to_records(alloc, layout, format, source, target)?,
     };
@@ -183,7 +183,7 @@ fn convert<
     L: Listener,
 >(
     alloc: Global,
-    words: &RecordsWords,
+    arguments: &RecordsArguments,
     layout: &Layout,
     mut source: RecordSource<F, S>,
     target: LineTarget<T, P>,
@@ -192,11 +192,11 @@ fn convert<
     let Ok(mut writer) = BufWriter::with_capacity(alloc, WRITE_ROOM, target) else {
         return Err(Answer::NoMemory);
     };
-    match convert_all(alloc, words, layout, &mut source, &mut writer) {
+    match convert_all(alloc, arguments, layout, &mut source, &mut writer) {
         Ok(counts) => Ok(counts),
         Err(fault) => {
             let (read, written) = (source.fault(), writer.get_ref().fault());
-            Err(early_answer(alloc, words, fault, read, written, listener))
+            Err(early_answer(alloc, arguments, fault, read, written, listener))
         }
     }
 }
@@ -204,44 +204,47 @@ fn convert<
 /// Empties the output, unless another argument names the same file.
 fn empty_output<R: Files + AllocGlobal>(
     rt: &R,
-    words: &RecordsWords,
+    arguments: &RecordsArguments,
     input: &Opened<R::File>,
     output: &Opened<R::File>,
     pending: &Option<Pending<'_>>,
 ) -> Result<(), CommandStop> {
-    keep_files(rt, words, input, pending)?;
-    Ok(named(FileWord::Out, output.empty())?)
+    keep_files(rt, arguments, input, pending)?;
+    Ok(named(FileArgument::Out, output.empty())?)
 }
 
 /// Converts the open files, unless another argument names a file that is written.
 fn convert_opened<R: Files + Input + Print + AllocGlobal, L: Listener>(
     rt: &R,
-    words: &RecordsWords,
+    arguments: &RecordsArguments,
     layout: &Layout,
     input: Opened<R::File>,
     output: Opened<R::File>,
     pending: &Option<Pending<'_>>,
     listener: &mut L,
 ) -> Result<Counts, CommandStop> {
-    empty_output(rt, words, &input, &output, pending)?;
+    empty_output(rt, arguments, &input, &output, pending)?;
     let (source, target) = (records(rt, input), lines(rt, output));
-    Ok(convert(rt.alloc(), words, layout, source, target, listener)?)
+    Ok(convert(rt.alloc(), arguments, layout, source, target, listener)?)
 }
 
 /// Writes the deck that reads the lines, if the arguments ask for it.
 fn write_deck<R: Files + AllocGlobal>(
     rt: &R,
-    words: &RecordsWords,
+    arguments: &RecordsArguments,
     source: &[u8],
     layout: &Layout,
 ) -> Result<(), Answer> {
-    let Some(path) = words.new_deck else {
+    let Some(path) = arguments.new_deck else {
         return Ok(());
     };
     let Ok(deck) = fitted_deck(rt.alloc(), source, layout) else {
         return Err(Answer::NoMemory);
     };
-    named(FileWord::NewDeck, write_bytes(rt, path, deck.as_slice()))
+    named(
+        FileArgument::NewDeck,
+        write_bytes(rt, path, deck.as_slice()),
+    )
 }
 
 /// Moves a file that was written beside its place to its place, or removes it.
@@ -251,7 +254,7 @@ fn conclude<R: Files>(
     converted: Result<Counts, CommandStop>,
 ) -> Result<Counts, CommandStop> {
     let concluded = match converted {
-        Ok(counts) => match named(FileWord::Out, pending.put_in_place(rt)) {
+        Ok(counts) => match named(FileArgument::Out, pending.put_in_place(rt)) {
             Ok(()) => Ok(counts),
             Err(answer) => Err(answer.into()),
         },
@@ -266,13 +269,13 @@ fn conclude<R: Files>(
 /// Converts the records or the lines of a file.
 fn convert_file<R: Files + Input + Print + AllocGlobal, L: Listener>(
     rt: &R,
-    words: &RecordsWords,
+    arguments: &RecordsArguments,
     layout: &Layout,
     listener: &mut L,
 ) -> Result<Counts, CommandStop> {
-    let input = opened_input(rt, words)?;
-    let KeptFile { opened, pending } = named(FileWord::Out, kept_file(rt, words.output))?;
-    let converted = convert_opened(rt, words, layout, input, opened, &pending, listener);
+    let input = opened_input(rt, arguments)?;
+    let KeptFile { opened, pending } = named(FileArgument::Out, kept_file(rt, arguments.output))?;
+    let converted = convert_opened(rt, arguments, layout, input, opened, &pending, listener);
     match &pending {
         Some(pending) => conclude(rt, pending, converted),
         None => converted,
@@ -285,13 +288,13 @@ fn convert_file<R: Files + Input + Print + AllocGlobal, L: Listener>(
 /// unchanged.
 pub fn records_file<R: Files + Input + Print + AllocGlobal, L: Listener>(
     rt: &R,
-    words: &RecordsWords,
+    arguments: &RecordsArguments,
     listener: &mut L,
 ) -> Result<Answer, CommandStop> {
-    let source = named(words.deck_word(), file_bytes(rt, words.deck))?;
-    let layout = layout(rt.alloc(), words, &source, listener)?;
-    let Counts { records, dropped } = convert_file(rt, words, &layout, listener)?;
-    write_deck(rt, words, &source, &layout)?;
+    let source = named(arguments.deck_argument(), file_bytes(rt, arguments.deck))?;
+    let layout = layout(rt.alloc(), arguments, &source, listener)?;
+    let Counts { records, dropped } = convert_file(rt, arguments, &layout, listener)?;
+    write_deck(rt, arguments, &source, &layout)?;
     Ok(Answer::Records {
         records,
         dropped,

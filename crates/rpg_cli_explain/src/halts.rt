@@ -16,7 +16,7 @@ pub(crate) const HALTS: &str = "\
     %look at that record in its file: the message has its number. Or add a record type\nwithout codes and without lines\
     @halt 4%a numeric field holds a character that isn't a digit%\
     %- in the columns of a number: \"5O0\" (a letter O in the middle), \"-120\", \"1.50\"\n- a MOVE of such a text to a number\
-    %- \"12 5\" is 1205 and \"35 \" is 350: blanks are zeros\n- the last column may have a letter for the sign: } and J to R are minus 0 to 9, { and A to I\n  plus 0 to 9. So \"50O\" is good too, and is -506\
+    %- \"12 5\" is 1205 and \"35 \" is 350: blanks are zeros\n- the last column may have a letter for the sign: } and J to R are minus 0 to 9, { and A to I\n  plus 0 to 9. So \"50O\" is valid too, and is -506\
     %look at the columns of numbers in the record; rpg2 run with --source\nSRC shows their name and their card. A number has no point, no comma and no minus sign: decimals\nare the input card's, so 1.50 with 2 decimals is 150\
     @halt 5%the cycle has used up its allowance of backward branches and calls%\
     %- a GOTO back to a label before it that is done more than 1,000 times in a cycle\

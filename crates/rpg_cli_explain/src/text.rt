@@ -54,10 +54,10 @@ fn write_page(out: &mut TextWriter, topic: Topic) {
     if !page.given.is_empty() {
         out.fill("\n{}\n", &[page.given.into()]);
     }
-    let (bad, good) = headings(topic);
+    let (bad, valid) = headings(topic);
     out.write_str(bad);
     write_examples(out, page.breaks);
-    out.write_str(good);
+    out.write_str(valid);
     write_examples(out, page.keeps);
     out.fill(
         "\nWhat to do: {}.\n\nThen: {}.\n",

@@ -5,7 +5,7 @@ use crate::reason::Reason;
 /// Writes diagnostics to standard error and texts to standard output.
 pub trait Listener {
     /// Prints a diagnostic. A failure to write it is ignored.
-    fn tell(&mut self, text: &str);
+    fn report(&mut self, text: &str);
 
     /// Prints a text before the line. The error is why it couldn't be written completely.
     fn show(&mut self, text: &str) -> Result<(), Reason>;

@@ -1,6 +1,6 @@
 //! Finds the record that a job halted at, by reading its input files again.
 
-use rpg_cycle_records::{KeptFile, MatchValue, fill, identify, is_good};
+use rpg_cycle_records::{KeptFile, MatchValue, fill, identify, is_valid};
 use rpg_program::input::{ControlField, InputFile};
 use rpg_text::first_line;
 use rpg_verify::Verified;
@@ -97,7 +97,7 @@ impl HaltedRecord {
     /// Makes the record wait. Returns whether its job continues.
     fn wait(&mut self, program: &Verified) -> Result<bool, AllocError> {
         let text = text_of(&self.line);
-        if !is_good(program, self.file, text) {
+        if !is_valid(program, self.file, text) {
             return Ok(false);
         }
         fill(&mut self.kept.record, program, self.file, text)?;

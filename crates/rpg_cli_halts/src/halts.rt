@@ -85,18 +85,18 @@ impl<'a> InputNames<'a> {
 
 /// A halt of a job, with what is known about its record.
 #[derive(Clone, Copy)]
-struct Told<'a> {
+struct HaltContext<'a> {
     names: InputNames<'a>,
     program: &'a Verified,
     halted: HaltedCycle,
     /// The file of the record, and its number there, from 1.
     record: Option<(InputFile, u64)>,
-    found: Found<'a>,
+    found: RecordProblem<'a>,
 }
 
 /// What is wrong with the record of a halt, and its text.
 #[derive(Clone, Copy)]
-enum Found<'a> {
+enum RecordProblem<'a> {
     Nothing,
     /// Columns that should be a number.
     Input(BadInput, &'a [u8]),
@@ -108,7 +108,7 @@ enum Found<'a> {
     Lower(Lower<'a>),
 }
 
-impl<'a> Found<'a> {
+impl<'a> RecordProblem<'a> {
     fn of(program: &'a Verified, halted: HaltedCycle, record: &'a HaltedRecord) -> Option<Self> {
         let rows = program.program().rows();
         match (halted.place, halted.halt) {
@@ -116,15 +116,15 @@ impl<'a> Found<'a> {
                 let text = record.text();
                 let length = usize::from(rows.input_length(record.file));
                 match bad_byte(text) {
-                    Some(place) => Some(Found::Byte(place, text)),
-                    None if text.len() > length => Some(Found::TooLong(length, text)),
+                    Some(place) => Some(RecordProblem::Byte(place, text)),
+                    None if text.len() > length => Some(RecordProblem::TooLong(length, text)),
                     None => None,
                 }
             }
             (None, Halt::BadDigit) => {
-                Some(Found::Input(bad_columns(rows, record)?, record.filled()))
+                Some(RecordProblem::Input(bad_columns(rows, record)?, record.filled()))
             }
-            (None, Halt::OutOfSequence) => Some(Found::Lower(record.lower(program)?)),
+            (None, Halt::OutOfSequence) => Some(RecordProblem::Lower(record.lower(program)?)),
             _ => None,
         }
     }
@@ -132,10 +132,12 @@ impl<'a> Found<'a> {
     /// Returns the first column that it is about, counted from 1.
     fn column(self) -> Option<usize> {
         match self {
-            Found::Nothing => None,
-            Found::Input(bad, _) => Some(usize::from(bad.input.from)),
-            Found::Byte(before, _) | Found::TooLong(before, _) => Some(before.saturating_add(1)),
-            Found::Lower(lower) => Some(lower.column),
+            RecordProblem::Nothing => None,
+            RecordProblem::Input(bad, _) => Some(usize::from(bad.input.from)),
+            RecordProblem::Byte(before, _) | RecordProblem::TooLong(before, _) => Some(
+                before.saturating_add(1),
+            ),
+            RecordProblem::Lower(lower) => Some(lower.column),
         }
     }
 }
@@ -162,7 +164,7 @@ const LOWER: &str = "match value \"{}\" is lower than \"{}\" of record {}";
 const BETWEEN: &str =
     "it was cycle {}, which puts out the detail lines of record {} and then takes record {}, or comes to the end of the input";
 
-impl Told<'_> {
+impl HaltContext<'_> {
     /// Writes the name of the record's file, or of all input files if it isn't known.
     fn write_names(self, out: &mut TextWriter) {
         let InputNames { primary, secondary } = self.names;
@@ -188,9 +190,9 @@ impl Told<'_> {
         }
         out.fill(": halt {}: ", &[halt.number().into()]);
         match self.found {
-            Found::Byte(place, text) => write_byte_cause(out, text, place),
-            Found::TooLong(length, text) => write_too_long(out, text, length),
-            Found::Lower(lower) => out.fill(
+            RecordProblem::Byte(place, text) => write_byte_cause(out, text, place),
+            RecordProblem::TooLong(length, text) => write_too_long(out, text, length),
+            RecordProblem::Lower(lower) => out.fill(
                 LOWER,
                 &[
                     lower.value.into(),
@@ -198,7 +200,7 @@ impl Told<'_> {
                     lower.follows.into(),
                 ],
             ),
-            Found::Input(_, _) | Found::Nothing => out.write_str(halt.sentence()),
+            RecordProblem::Input(_, _) | RecordProblem::Nothing => out.write_str(halt.sentence()),
         }
     }
 
@@ -211,7 +213,7 @@ impl Told<'_> {
                 write_instruction_at(out, program, usize::from(place.number));
             }
             (None, Halt::BadIndex, _) => write_indexed_fields(out, program.rows()),
-            (None, _, Found::Input(bad, text)) => write_columns(out, bad, text),
+            (None, _, RecordProblem::Input(bad, text)) => write_columns(out, bad, text),
             (None, _, _) => {}
         }
     }
@@ -261,10 +263,12 @@ pub fn halt_message(
     source: Option<HaltedSource<'_>>,
 ) -> Result<String, AllocError> {
     let found = match record {
-        Some(record) => Found::of(program, halted, record).unwrap_or(Found::Nothing),
-        None => Found::Nothing,
+        Some(record) => RecordProblem::of(program, halted, record).unwrap_or(
+            RecordProblem::Nothing,
+        ),
+        None => RecordProblem::Nothing,
     };
-    let told = Told {
+    let context = HaltContext {
         names,
         program,
         halted,
@@ -272,18 +276,18 @@ pub fn halt_message(
         found,
     };
     let mut out = TextWriter::new(alloc);
-    told.write_halt(&mut out);
-    told.write_place(&mut out);
+    context.write_halt(&mut out);
+    context.write_place(&mut out);
     out.write_char('\n');
     if let Some(source) = source {
         let bad = match found {
-            Found::Input(bad, _) => Some(bad),
+            RecordProblem::Input(bad, _) => Some(bad),
             _ => None,
         };
         write_source(&mut out, program, halted, bad, source);
     }
-    told.write_names(&mut out);
+    context.write_names(&mut out);
     out.write_str(": ");
-    told.write_cycle(&mut out);
+    context.write_cycle(&mut out);
     out.finish()
 }

@@ -1,4 +1,4 @@
-//! What an output field prints, as far as its card tells.
+//! What an output field prints, as far as its card shows.
 
 use rpg_cards::{Defined, IndexedCards};
 use rpg_decimal::fit;
@@ -42,7 +42,7 @@ pub(crate) fn picture_of(source: &IndexedCards, field: &OutputField) -> Option<P
     match &field.operand {
         None => Some(Picture::of(field.text.as_ref()?.as_slice())),
         Some(entry) => match source.form_of_name(&entry.name) {
-            Defined::Good(form) => field_picture(form, field),
+            Defined::Valid(form) => field_picture(form, field),
             Defined::Missing | Defined::Bad => None,
         },
     }

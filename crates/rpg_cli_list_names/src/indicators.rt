@@ -38,7 +38,7 @@ pub fn overflow_of(file: &FileSpec) -> Option<u8> {
 
 /// A card that tests an indicator.
 #[derive(Clone, Copy)]
-struct Asking {
+struct Testing {
     card: u16,
     is_negated: bool,
 }
@@ -47,7 +47,7 @@ struct Asking {
 #[derive(Drop)]
 struct IndicatorUses {
     turned: Vec<Turning>,
-    asked: Vec<Asking>,
+    tested: Vec<Testing>,
 }
 
 /// All indicators, by number.
@@ -61,7 +61,7 @@ fn unused(alloc: Global) -> Result<Indicators, AllocError> {
     for _ in 0..AFTER {
         uses.push(IndicatorUses {
             turned: Vec::new(alloc),
-            asked: Vec::new(alloc),
+            tested: Vec::new(alloc),
         })?;
     }
     Ok(Indicators { uses })
@@ -87,14 +87,14 @@ impl Indicators {
         }
     }
 
-    fn asked(&mut self, number: u8, asking: Asking) -> Result<(), AllocError> {
+    fn tested(&mut self, number: u8, testing: Testing) -> Result<(), AllocError> {
         let Some(uses) = self.uses.get_mut(usize::from(number)) else {
             return Ok(());
         };
-        let Asking { card, is_negated } = asking;
-        match uses.asked.last() {
+        let Testing { card, is_negated } = testing;
+        match uses.tested.last() {
             Some(last) if last.card == card && last.is_negated == is_negated => Ok(()),
-            _ => Ok(uses.asked.push(asking)?),
+            _ => Ok(uses.tested.push(testing)?),
         }
     }
 
@@ -168,7 +168,7 @@ impl Indicators {
     ) -> Result<(), AllocError> {
         if let Some(number) = level(calculation.control_level) {
             let is_negated = false;
-            self.asked(number, Asking { card, is_negated })?;
+            self.tested(number, Testing { card, is_negated })?;
         }
         self.note_conditions(card, calculation.conditions)?;
         let (sentences, piece) = results_of(calculation.operation);
@@ -194,14 +194,14 @@ impl Indicators {
             return Ok(());
         };
         let is_negated = condition.negated;
-        self.asked(condition.indicator.number(), Asking { card, is_negated })
+        self.tested(condition.indicator.number(), Testing { card, is_negated })
     }
 
     /// Writes the rows of each indicator that a card names.
     pub fn write(&self, out: &mut TextWriter) {
         let mut is_first = true;
         for (number, uses) in self.uses.iter().enumerate() {
-            if !uses.turned.is_empty() || !uses.asked.is_empty() {
+            if !uses.turned.is_empty() || !uses.tested.is_empty() {
                 if is_first {
                     out.write_str(HEADING);
                 }
@@ -227,8 +227,8 @@ impl IndicatorUses {
             .turned
             .len()
             .saturating_add(usize::from(last.is_some()));
-        let asked = self.asked.len().saturating_add(ON_A_LINE - 1) / ON_A_LINE;
-        for line in 0..asked.max(turned) {
+        let tested = self.tested.len().saturating_add(ON_A_LINE - 1) / ON_A_LINE;
+        for line in 0..tested.max(turned) {
             write_name(out, number, line);
             let end = out.len().saturating_add(TURNED);
             match (self.turned.get(line), last) {
@@ -238,7 +238,7 @@ impl IndicatorUses {
             }
             out.pad_to(end);
             out.write_str("  ");
-            write_asked(out, line, &self.asked);
+            write_tested(out, line, &self.tested);
             out.end_line();
         }
     }
@@ -255,13 +255,13 @@ fn write_name(out: &mut TextWriter, number: usize, line: usize) {
 }
 
 /// Writes the cards on a line that test it.
-fn write_asked(out: &mut TextWriter, line: usize, asked: &[Asking]) {
-    if line == 0 && asked.is_empty() {
+fn write_tested(out: &mut TextWriter, line: usize, tested: &[Testing]) {
+    if line == 0 && tested.is_empty() {
         out.write_str("nothing");
     }
     let before = line.saturating_mul(ON_A_LINE);
-    for asking in asked.iter().skip(before).take(ON_A_LINE) {
-        let Asking { card, is_negated } = *asking;
+    for testing in tested.iter().skip(before).take(ON_A_LINE) {
+        let Testing { card, is_negated } = *testing;
         out.fill(if is_negated { "{}N " } else { "{} " }, &[card.into()]);
     }
 }

@@ -2,7 +2,7 @@
 
 use crate::mentions::{By, Mentions};
 use indexmap::IndexMap;
-use rpg_cards::{Named, SpecCard, gives, wants};
+use rpg_cards::{Named, SpecCard, defined_name, target_name};
 use rpg_cli_show_fields::name_text;
 use rpg_cli_text::TextWriter;
 use rpg_sheet_specs::Word;
@@ -35,8 +35,8 @@ impl Labels {
         };
         for card in cards {
             if let Some(calculation) = card.calculation() {
-                labels.note(gives(calculation), By::Giving, card.number)?;
-                labels.note(wants(calculation), By::Using, card.number)?;
+                labels.note(defined_name(calculation), By::Giving, card.number)?;
+                labels.note(target_name(calculation), By::Using, card.number)?;
             }
         }
         Ok(labels)

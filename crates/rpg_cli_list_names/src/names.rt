@@ -185,7 +185,7 @@ fn write_defined(out: &mut TextWriter, defined: Defined) {
     match defined {
         Defined::Missing => out.write_str("not defined"),
         Defined::Bad => out.write_str("past a limit"),
-        Defined::Good(form) => write_form(out, form),
+        Defined::Valid(form) => write_form(out, form),
     }
     out.pad_to(end);
     out.write_str("  ");

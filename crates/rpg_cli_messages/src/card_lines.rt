@@ -17,7 +17,7 @@ impl<'a> CardLines<'a> {
         }
     }
 
-    /// Returns the line of a card, which isn't before the last one asked for. Empty for card 0 and for cards after the
+    /// Returns the line of a card, which isn't before the last one requested. Empty for card 0 and for cards after the
     /// last.
     pub fn line_of(&mut self, card: u16) -> &'a [u8] {
         for _ in self.card..card {

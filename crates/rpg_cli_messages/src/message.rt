@@ -32,9 +32,9 @@ pub fn source_messages(
         text: source,
     };
     let mut out = TextWriter::new(alloc);
-    let mut slips = Vec::new(alloc);
+    let mut mistakes = Vec::new(alloc);
     let listed = faults.get(..usize::from(most)).unwrap_or(faults);
-    write_messages(&mut out, &mut slips, path, known, listed)?;
+    write_messages(&mut out, &mut mistakes, path, known, listed)?;
     write_count(&mut out, path, faults, most);
     out.finish()
 }
@@ -59,7 +59,7 @@ pub fn card_message(
 /// Writes faults in the order of their cards, and notes the mistakes that caused them.
 fn write_messages(
     out: &mut TextWriter,
-    slips: &mut Vec<Slip>,
+    mistakes: &mut Vec<Mistake>,
     path: &str,
     source: SourceCards<'_>,
     faults: &[CardFault],
@@ -67,12 +67,14 @@ fn write_messages(
     let mut lines = CardLines::of(source.text);
     for fault in faults {
         let line = lines.line_of(fault.card);
-        match slip_of(source, line, *fault) {
-            Some(slip) if slips.contains(&slip) => write_follower(out, path, line, *fault, slip),
-            Some(slip) => {
-                slips.push(slip)?;
+        match mistake_of(source, line, *fault) {
+            Some(mistake) if mistakes.contains(&mistake) => write_follower(
+                out, path, line, *fault, mistake,
+            ),
+            Some(mistake) => {
+                mistakes.push(mistake)?;
                 write_message(out, path, line, source, *fault);
-                write_slip_card(out, path, source.text, slip);
+                write_mistaken_card(out, path, source.text, mistake);
             }
             None => write_message(out, path, line, source, *fault),
         }
@@ -82,20 +84,20 @@ fn write_messages(
 
 /// A mistake that can cause several faults.
 #[derive(Clone, Copy, PartialEq, Eq)]
-enum Slip {
+enum Mistake {
     /// A card that comes before those of earlier sheets.
     Later(LaterCard),
     /// A card that causes faults on other cards.
     Root(Root),
 }
 
-fn slip_of(source: SourceCards<'_>, line: &[u8], fault: CardFault) -> Option<Slip> {
+fn mistake_of(source: SourceCards<'_>, line: &[u8], fault: CardFault) -> Option<Mistake> {
     match fault.code {
         SourceCode::Sheet(SheetCode::S4) => {
-            Some(Slip::Later(later_card(source.text, fault.card, line)?))
+            Some(Mistake::Later(later_card(source.text, fault.card, line)?))
         }
         SourceCode::Sheet(_) => None,
-        SourceCode::Fault(_) => Some(Slip::Root(root_of(source, line, fault)?)),
+        SourceCode::Fault(_) => Some(Mistake::Root(root_of(source, line, fault)?)),
     }
 }
 
@@ -106,14 +108,20 @@ const TEXT: &str = "also follows from card {}, whose field is a text\n";
 const LATER_TIME: &str = "also follows from card {}, which is of a later time\n";
 
 /// Writes a fault whose cause is already reported.
-fn write_follower(out: &mut TextWriter, path: &str, line: &[u8], fault: CardFault, slip: Slip) {
+fn write_follower(
+    out: &mut TextWriter,
+    path: &str,
+    line: &[u8],
+    fault: CardFault,
+    mistake: Mistake,
+) {
     let columns = columns_of(line, fault);
     write_place(out, path, fault.card, columns, fault.code.text());
-    let (sentence, card) = match slip {
-        Slip::Later(later) => (LATER_SHEET, later.card),
-        Slip::Root(Root::Text(card)) => (TEXT, card),
-        Slip::Root(Root::Later(card)) => (LATER_TIME, card),
-        Slip::Root(Root::Unknown(name)) => {
+    let (sentence, card) = match mistake {
+        Mistake::Later(later) => (LATER_SHEET, later.card),
+        Mistake::Root(Root::Text(card)) => (TEXT, card),
+        Mistake::Root(Root::Later(card)) => (LATER_TIME, card),
+        Mistake::Root(Root::Unknown(name)) => {
             out.write_shown(trimmed(&name));
             (" again\n", 0)
         }
@@ -128,8 +136,8 @@ const DECIMALS: ColumnFault = ColumnFault {
 };
 
 /// Writes the card of a mistake, if the fault is on another.
-fn write_slip_card(out: &mut TextWriter, path: &str, source: &[u8], slip: Slip) {
-    let Slip::Root(Root::Text(card)) = slip else {
+fn write_mistaken_card(out: &mut TextWriter, path: &str, source: &[u8], mistake: Mistake) {
+    let Mistake::Root(Root::Text(card)) = mistake else {
         return;
     };
     let line = CardLines::of(source).line_of(card);
@@ -271,14 +279,14 @@ fn write_count(out: &mut TextWriter, path: &str, faults: &[CardFault], most: u16
     };
     out.fill(sentence, &[count.into()]);
     if count > usize::from(most) {
-        write_told(out, most);
+        write_reported(out, most);
     }
-    out.write_str(untold(are_unread, count));
+    out.write_str(later_checks(are_unread, count));
     out.write_char('\n');
 }
 
 /// Writes how many of the faults are listed.
-pub fn write_told(out: &mut TextWriter, most: u16) {
+pub fn write_reported(out: &mut TextWriter, most: u16) {
     let sentence = match most {
         0 => ", none shown",
         _ => ", {} of them shown",
@@ -287,7 +295,7 @@ pub fn write_told(out: &mut TextWriter, most: u16) {
 }
 
 /// Returns that other checks run later, if some cards can't be read.
-fn untold(are_unread: bool, count: usize) -> &'static str {
+fn later_checks(are_unread: bool, count: usize) -> &'static str {
     match (are_unread, count) {
         (true, 1) => "; other checks run once it can",
         (true, _) => "; other checks run once they can",

@@ -24,7 +24,7 @@ fn is_card(line: &[u8], form: u8) -> bool {
 }
 
 /// Whether a line is an E card with entries per card, whose data come after a `**` card.
-fn wants_data(line: &[u8]) -> bool {
+fn expects_data(line: &[u8]) -> bool {
     is_card(line, b'E') && !is_blank(line.get(32..line.len().min(35)).unwrap_or(&[]))
 }
 
@@ -34,7 +34,7 @@ impl Tally {
         if begins_data(line) {
             self.begun = self.begun.saturating_add(1);
         } else if self.begun == 0 {
-            if wants_data(line) {
+            if expects_data(line) {
                 self.wanted = self.wanted.saturating_add(1);
             }
             if is_card(line, b'O') {

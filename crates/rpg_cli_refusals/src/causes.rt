@@ -48,7 +48,7 @@ fn sentence_of(cause: Cause) -> &'static str {
         }
         Cause::Alternative { .. } => "; its alternative {} asks MR",
         Cause::Field { .. } => "; its field {} is ",
-        Cause::Asked { .. } => "; its indicators:",
+        Cause::Tested { .. } => "; its indicators:",
         Cause::Target { .. } => "; it leads to {}; they begin at {} and end at {}",
         Cause::Called { .. } => "; it calls subroutine {}",
         Cause::StrayReturn { .. } => ": the RET at place {} stands in no subroutine",
@@ -137,16 +137,16 @@ fn write_marks(out: &mut TextWriter, marks: Marks) {
     }
 }
 
-fn asked_by(condition: Option<Condition>) -> Option<u8> {
+fn tested_by(condition: Option<Condition>) -> Option<u8> {
     Some(condition?.indicator)
 }
 
 /// Returns the indicators that conditions test.
-fn asked(conditions: Conditions) -> Shows {
+fn tested(conditions: Conditions) -> Shows {
     Shows {
-        plus: asked_by(conditions.first),
-        minus: asked_by(conditions.second),
-        zero: asked_by(conditions.third),
+        plus: tested_by(conditions.first),
+        minus: tested_by(conditions.second),
+        zero: tested_by(conditions.third),
     }
 }
 
@@ -181,8 +181,8 @@ fn write_parts(out: &mut TextWriter, rows: &Rows, row: usize, cause: Cause) {
             out.fill(", and ends at place {}", &[field.end.into()]);
         }
         Cause::Operand { column, used } => write_used(out, rows, column, used),
-        Cause::Asked { conditions } => {
-            write_shows(out, asked(conditions));
+        Cause::Tested { conditions } => {
+            write_shows(out, tested(conditions));
         }
         Cause::Marked { marks } => write_marks(out, marks),
         Cause::Unordered { marks, used } => {

@@ -1,12 +1,12 @@
 -- Writers that are flushed after a run: what is reported of them, and how often their calls failed.
 use Rattle.std.proofs.Common.{◌≡◌, ℕ, ◌+◌, ◌⊎◌, List, Option, Result, Ok, Err, ap, inl, inr, refl, ◌∙◌}
 use Rattle.rpg_cli_run.specs.Flushing.{Flush, flush_faults, flushed}
-use Rattle.rpg_cli_run.specs.Running.{TellsFaults}
+use Rattle.rpg_cli_run.specs.Running.{ReportsFaults}
 use Rattle.rpg_cli_answers.specs.declared.answer.Answer.{Answer}
 use Rattle.rpg_cli_answers.specs.declared.answer.Answer.TheVariants as answers
 use Rattle.rpg_cli_files.specs.declared.files.FileFault.{FileFault}
-use Rattle.rpg_cli_words.specs.declared.request.FileWord.{FileWord}
-use Rattle.rpg_cli_words.specs.declared.request.FileWord.TheVariants as words
+use Rattle.rpg_cli_words.specs.declared.request.FileArgument.{FileArgument}
+use Rattle.rpg_cli_words.specs.declared.request.FileArgument.TheVariants as arguments
 use Rattle.rpg_engine.proofs.Outputs.{each_file}
 use Rattle.rpg_engine.proofs.Whose.{none_rises, only_rises}
 use Rattle.rpg_engine.specs.Faults.{Counts, NoneRises, OnlyRises, Reader, Writer}
@@ -25,22 +25,22 @@ module _ (old mid new : Counts) (same : NoneRises old mid) (primary : new (Reade
       (λ _. primary ∙ same (Reader Primary)) (λ _. secondary ∙ same (Reader Secondary)) (λ file other. stays file other ∙ same (Writer file))
 
   -- the answer says which it is
-  pub faults_told : (report : Report) (printer file : Flush) (given left others rest : Option (List ℕ))
-      → ((written : OutputFile) → new (Writer written) ≡ flush_faults printer file written (mid (Writer written))) → TellsFaults (flushed report printer file) given left others rest old new
-  faults_told report (Err fault) file given left others rest counts =
+  pub faults_reported : (report : Report) (printer file : Flush) (given left others rest : Option (List ℕ))
+      → ((written : OutputFile) → new (Writer written) ≡ flush_faults printer file written (mid (Writer written))) → ReportsFaults (flushed report printer file) given left others rest old new
+  faults_reported report (Err fault) file given left others rest counts =
       one_failed Print (counts Print) (each_file (λ f. (Writer f ≡ Writer Print → ⊥) → new (Writer f) ≡ mid (Writer f)) (λ other. absurd (other refl)) (λ _. counts Disk))
-  faults_told report (Ok u) (Err fault) given left others rest counts =
+  faults_reported report (Ok u) (Err fault) given left others rest counts =
       one_failed Disk (counts Disk) (each_file (λ f. (Writer f ≡ Writer Disk → ⊥) → new (Writer f) ≡ mid (Writer f)) (λ _. counts Print) (λ other. absurd (other refl)))
-  faults_told report (Ok u) (Ok v) given left others rest counts = none_rises old new (primary ∙ same (Reader Primary)) (secondary ∙ same (Reader Secondary))
+  faults_reported report (Ok u) (Ok v) given left others rest counts = none_rises old new (primary ∙ same (Reader Primary)) (secondary ∙ same (Reader Secondary))
       (each_file (λ f. new (Writer f) ≡ old (Writer f)) (counts Print ∙ same (Writer Print)) (counts Disk ∙ same (Writer Disk)))
 
 -- ---- the answer of a run that gave a report
 
 -- it is the report, or the fault of a file
 abbrev pub Ended : Report → Result Report Answer → Type 0
-Ended report given = (given ≡ Ok report) ⊎ ((word : FileWord) × (fault : FileFault) × (given ≡ Err (answers.File word fault)))
+Ended report given = (given ≡ Ok report) ⊎ ((argument : FileArgument) × (fault : FileFault) × (given ≡ Err (answers.File argument fault)))
 
 pub ended : (report : Report) (printer file : Flush) (given : Result Report Answer) → given ≡ flushed report printer file → Ended report given
-ended report (Err fault) file given is = inr (words.Print, fault, is)
-ended report (Ok u) (Err fault) given is = inr (words.Disk, fault, is)
+ended report (Err fault) file given is = inr (arguments.Print, fault, is)
+ended report (Ok u) (Err fault) given is = inr (arguments.Disk, fault, is)
 ended report (Ok u) (Ok v) given is = inl is

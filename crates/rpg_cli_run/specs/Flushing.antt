@@ -4,7 +4,7 @@ use Rattle.std.specs.Io.KnownBytes.{Keeps}
 use Rattle.rpg_cli_answers.specs.declared.answer.Answer.{Answer}
 use Rattle.rpg_cli_answers.specs.declared.answer.Answer.TheVariants as answers
 use Rattle.rpg_cli_files.specs.declared.files.FileFault.{FileFault}
-use Rattle.rpg_cli_words.specs.declared.request.FileWord.TheVariants as words
+use Rattle.rpg_cli_words.specs.declared.request.FileArgument.TheVariants as arguments
 use Rattle.rpg_engine.specs.Devices.{file_contents}
 use Rattle.rpg_engine.specs.Faults.{write_faults}
 use Rattle.rpg_engine.specs.declared.files.OutputFile.{OutputFile}
@@ -19,8 +19,8 @@ Flush = Result (Unit {0}) FileFault
 
 -- The printer is flushed, and if that ended well the disk file.
 abbrev pub flushed : Report → (print disk : Flush) → Result Report Answer
-flushed report (Err fault) disk = Err (answers.File words.Print fault)
-flushed report (Ok u) (Err fault) = Err (answers.File words.Disk fault)
+flushed report (Err fault) disk = Err (answers.File arguments.Print fault)
+flushed report (Ok u) (Err fault) = Err (answers.File arguments.Disk fault)
 flushed report (Ok u) (Ok v) = Ok report
 
 -- how often calls of a file's writer have failed then

@@ -11,14 +11,14 @@ use Rattle.rpg_cli_answers.specs.declared.answer.Answer.{Answer}
 use Rattle.rpg_cli_answers.specs.declared.answer.Answer.TheVariants as answers
 
 -- the fault that compiling finds
-abbrev pub TellsSource : Answer → List ℕ → Type 0
-TellsSource (answers.Source fault) text = IsSourceRefusal fault text
-TellsSource e text = ⊥
+abbrev pub ReportsSource : Answer → List ℕ → Type 0
+ReportsSource (answers.Source fault) text = IsSourceRefusal fault text
+ReportsSource e text = ⊥
 
 -- the fault that verifying finds
-abbrev pub TellsObject : Answer → List ℕ → Type 0
-TellsObject (answers.Object fault) bytes = HasObjectFault fault bytes
-TellsObject e bytes = ⊥
+abbrev pub ReportsObject : Answer → List ℕ → Type 0
+ReportsObject (answers.Object fault) bytes = HasObjectFault fault bytes
+ReportsObject e bytes = ⊥
 
 -- the bound of an accepted program is greater than the arguments allow; or the date is bad
 abbrev pub BreaksBound : Answer → Object → ℕ → Type 0
@@ -46,8 +46,8 @@ pub record IsOtherSource (text : List ℕ) (bytes : List ℕ) : Type 0 where
   pub compiled : CompilesToOther text program.allowance bytes
 
 -- why a source isn't that of the bytes: they encode no program, it has a fault, or it compiles to others
-abbrev pub TellsMismatch : Answer → List ℕ → List ℕ → Type 0
-TellsMismatch (answers.Object fault) text bytes = HasObjectFault fault bytes
-TellsMismatch (answers.Source fault) text bytes = IsSourceRefusal fault text
-TellsMismatch answers.OtherSource text bytes = IsOtherSource text bytes
-TellsMismatch e text bytes = ⊥
+abbrev pub ReportsMismatch : Answer → List ℕ → List ℕ → Type 0
+ReportsMismatch (answers.Object fault) text bytes = HasObjectFault fault bytes
+ReportsMismatch (answers.Source fault) text bytes = IsSourceRefusal fault text
+ReportsMismatch answers.OtherSource text bytes = IsOtherSource text bytes
+ReportsMismatch e text bytes = ⊥

@@ -6,11 +6,11 @@ ghost use Rattle.rpg_cli_answers.specs.declared.answer.Answer.TheVariants as ans
 
 use rpg_cli_answers::Answer;
 use rpg_cli_show_fields::uses_date;
-use rpg_cli_words::DateWord;
+use rpg_cli_words::DateArgument;
 use rpg_engine::Program;
 
 /// Requires a date if the program uses it and the arguments have none.
-pub(crate) fn has_date(program: &Program, date: Option<DateWord<'_>>) -> Result<(), Answer>
+pub(crate) fn has_date(program: &Program, date: Option<DateArgument<'_>>) -> Result<(), Answer>
     ensures ok { OnOk result (HasDate date.entry program.now) }
     ensures err { IfErr result (λ answer. answer ≡ answers.DateWanted) }
 {

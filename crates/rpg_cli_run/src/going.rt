@@ -1,11 +1,11 @@
 //! The command that compiles a source and runs it.
 
 use crate::jobs::run_own;
-use crate::refusing::tell_wanted;
-use crate::sources::{OwnSource, tell_faults};
+use crate::refusing::report_wanted;
+use crate::sources::{OwnSource, report_faults};
 use crate::warned::deny_warnings;
 use rpg_cli_answers::{Answer, CommandStop, Listener, named, source_bytes};
-use rpg_cli_words::{FileWord, GoWords};
+use rpg_cli_words::{FileArgument, GoArguments};
 use rpg_engine::Report;
 use rpg_meaning::CompiledSource;
 use std::alloc::Global;
@@ -14,12 +14,18 @@ use std::rt::Files;
 /// Rejects a source that has a warning, if the arguments deny it. Otherwise its warnings aren't reported.
 fn deny_warned<L: Listener>(
     alloc: Global,
-    words: &GoWords,
+    arguments: &GoArguments,
     text: &[u8],
     listener: &mut L,
 ) -> Result<(), Answer> {
-    if words.warnings.denies {
-        deny_warnings(alloc, words.run.object, text, words.warnings, listener)
+    if arguments.warnings.denies {
+        deny_warnings(
+            alloc,
+            arguments.run.object,
+            text,
+            arguments.warnings,
+            listener,
+        )
     } else {
         Ok(())
     }
@@ -28,17 +34,17 @@ fn deny_warned<L: Listener>(
 /// Runs a compiled source, unless a warning rejects it. The diagnostic of a halt has cards and names.
 fn run_compiled<R: Files + Input + Print + AllocGlobal, L: Listener>(
     rt: &R,
-    words: &GoWords,
+    arguments: &GoArguments,
     compiled: CompiledSource,
     listener: &mut L,
 ) -> Result<Report, CommandStop> {
-    let path = words.run.object;
-    deny_warned(rt.alloc(), words, compiled.text(), listener)?;
+    let path = arguments.run.object;
+    deny_warned(rt.alloc(), arguments, compiled.text(), listener)?;
     let source = OwnSource::of(rt.alloc(), path, compiled)?;
-    let ran = run_own(rt, &words.run, &source, listener);
+    let ran = run_own(rt, &arguments.run, &source, listener);
     if let Err(CommandStop::Answer(answer)) = ran {
         let program = source.compiled.program().program();
-        tell_wanted(rt.alloc(), path, program, answer, listener);
+        report_wanted(rt.alloc(), path, program, answer, listener);
     }
     ran
 }
@@ -46,18 +52,18 @@ fn run_compiled<R: Files + Input + Print + AllocGlobal, L: Listener>(
 /// Compiles a source and runs its program over its files, which are opened only if the source has no faults.
 pub fn go_files<R: Files + Input + Print + AllocGlobal, L: Listener>(
     rt: &R,
-    words: &GoWords,
+    arguments: &GoArguments,
     listener: &mut L,
 ) -> Result<Report, CommandStop> {
-    if let Some(same) = words.run.shared_stream() {
+    if let Some(same) = arguments.run.shared_stream() {
         return Err(same.into());
     }
-    let text = named(FileWord::Source, source_bytes(rt, words.run.object))?;
-    match CompiledSource::new(rt.alloc(), text, words.allowance) {
-        Ok(compiled) => run_compiled(rt, words, compiled, listener),
+    let text = named(FileArgument::Source, source_bytes(rt, arguments.run.object))?;
+    match CompiledSource::new(rt.alloc(), text, arguments.allowance) {
+        Ok(compiled) => run_compiled(rt, arguments, compiled, listener),
         Err((text, fault)) => {
-            let most = words.warnings.most;
-            tell_faults(rt.alloc(), words.run.object, &text, most, listener);
+            let most = arguments.warnings.most;
+            report_faults(rt.alloc(), arguments.run.object, &text, most, listener);
             Err(Answer::Source(fault).into())
         }
     }

@@ -5,7 +5,7 @@ use rpg_cli_files::{identity_at, input_file};
 use rpg_cli_halts::{
     HaltedCycle, HaltedRecord, HaltedSource, InputNames, halt_message, record_again,
 };
-use rpg_cli_words::{RunWords, is_standard};
+use rpg_cli_words::{RunArguments, is_standard};
 use rpg_engine::{JobEnd, Report, Verified};
 use std::alloc::AllocError;
 use std::io::BufReader;
@@ -29,28 +29,28 @@ fn opened_again<R: Files + AllocGlobal>(rt: &R, path: Option<&str>) -> Option<Bu
 /// Returns the record that a halt is about, if it is needed and can be read again.
 fn halted_record<R: Files + AllocGlobal>(
     rt: &R,
-    words: &RunWords,
+    arguments: &RunArguments,
     program: &Verified,
     halted: HaltedCycle,
 ) -> Option<HaltedRecord> {
     let cycles = halted.cycles_again(program)?;
-    let primary = opened_again(rt, words.input_file());
-    let secondary = opened_again(rt, words.secondary);
+    let primary = opened_again(rt, arguments.input_file());
+    let secondary = opened_again(rt, arguments.secondary);
     record_again(rt.alloc(), program, cycles, primary, secondary)
 }
 
 fn halted_message<R: Files + AllocGlobal>(
     rt: &R,
-    words: &RunWords,
+    arguments: &RunArguments,
     program: &Verified,
     halted: HaltedCycle,
     source: Option<HaltedSource<'_>>,
 ) -> Result<String, AllocError> {
     let names = InputNames {
-        primary: words.input,
-        secondary: words.secondary,
+        primary: arguments.input,
+        secondary: arguments.secondary,
     };
-    let record = halted_record(rt, words, program, halted);
+    let record = halted_record(rt, arguments, program, halted);
     halt_message(rt.alloc(), names, program, halted, record.as_ref(), source)
 }
 
@@ -67,9 +67,9 @@ fn halt_of(report: Report) -> Option<HaltedCycle> {
 }
 
 /// Reports where a job halted, if it did, reading again the records that the arguments name.
-pub(crate) fn tell_halt<R: Files + AllocGlobal, L: Listener>(
+pub(crate) fn report_halt<R: Files + AllocGlobal, L: Listener>(
     rt: &R,
-    words: &RunWords,
+    arguments: &RunArguments,
     program: &Verified,
     report: Report,
     source: Option<HaltedSource<'_>>,
@@ -78,7 +78,7 @@ pub(crate) fn tell_halt<R: Files + AllocGlobal, L: Listener>(
     let Some(halted) = halt_of(report) else {
         return;
     };
-    if let Ok(message) = halted_message(rt, words, program, halted, source) {
-        listener.tell(message.as_str());
+    if let Ok(message) = halted_message(rt, arguments, program, halted, source) {
+        listener.report(message.as_str());
     }
 }

@@ -7,10 +7,10 @@ ghost use Rattle.rpg_engine.specs.Devices.{CanCountFaults};
 ghost use Rattle.rpg_engine.specs.Objects.{HasObjectFault, SpellsProgram};
 
 use crate::dating::has_date;
-use crate::halting::tell_halt;
+use crate::halting::report_halt;
 use crate::keeping::Kept;
 use crate::looking::run_as_asked;
-use crate::refusing::tell_refused;
+use crate::refusing::report_refused;
 use crate::running::{run_over, run_source_over};
 use crate::sources::{OwnSource, own_source};
 use rpg_cli_answers::{
@@ -22,7 +22,7 @@ use rpg_cli_files::{
 };
 use rpg_cli_halts::HaltedSource;
 use rpg_cli_show_fields::SourceRows;
-use rpg_cli_words::{FileWord, RunWords, is_standard};
+use rpg_cli_words::{FileArgument, RunArguments, is_standard};
 use rpg_engine::{
     ObjectFault, Program, Readers, Report, RunFault, Verified, Watcher, Writers, accept,
     decode_object, has_disk_file, has_secondary_file,
@@ -55,11 +55,19 @@ struct WantedFiles<'a> {
 
 impl<'a> WantedFiles<'a> {
     /// Returns those that the arguments name. The disk file is checked first, then the secondary file, and the date last.
-    fn of(program: &Program, words: &RunWords<'a>) -> Result<WantedFiles<'a>, Answer> {
-        let disk = wanted_path(has_disk_file(program), words.disk, Answer::DiskFileWanted)?;
+    fn of(program: &Program, arguments: &RunArguments<'a>) -> Result<WantedFiles<'a>, Answer> {
+        let disk = wanted_path(
+            has_disk_file(program),
+            arguments.disk,
+            Answer::DiskFileWanted,
+        )?;
         let has_secondary = has_secondary_file(program);
-        let secondary = wanted_path(has_secondary, words.secondary, Answer::SecondaryFileWanted)?;
-        has_date(program, words.date)?;
+        let secondary = wanted_path(
+            has_secondary,
+            arguments.secondary,
+            Answer::SecondaryFileWanted,
+        )?;
+        has_date(program, arguments.date)?;
         Ok(WantedFiles { secondary, disk })
     }
 }
@@ -103,14 +111,14 @@ fn keeps_limit(
 /// Checks whether a program may run, if this must happen before the other files are opened.
 fn keeps_asked_limit(
     accepted: &Result<Verified, ObjectFault>,
-    words: &RunWords,
+    arguments: &RunArguments,
 ) -> Result<(), Answer>
-    ensures { OnOk result (IfSome words.now.most (λ most. IfOk accepted.now (λ program. bound program ≤ most))) }
+    ensures { OnOk result (IfSome arguments.now.most (λ most. IfOk accepted.now (λ program. bound program ≤ most))) }
 {
-    if let Some(most) = words.most {
-        keeps_limit(accepted, words.date_text(), most)
-    } else if words.keeps {
-        keeps_limit(accepted, words.date_text(), u64::MAX)
+    if let Some(most) = arguments.most {
+        keeps_limit(accepted, arguments.date_text(), most)
+    } else if arguments.keeps {
+        keeps_limit(accepted, arguments.date_text(), u64::MAX)
     } else {
         Ok(())
     }
@@ -128,20 +136,26 @@ struct RunFiles<F> {
 /// Opens the inputs, then the outputs. Those that are written beside their places go into `kept`.
 fn open_files<'a, R: Files + AllocGlobal>(
     rt: &R,
-    words: &RunWords<'a>,
+    arguments: &RunArguments<'a>,
     wanted: WantedFiles<'a>,
     kept: &mut Kept<'a>,
 ) -> Result<RunFiles<R::File>, Answer> {
-    let input = read_file(rt, FileWord::Input, Some(words.input))?;
-    let secondary = read_file(rt, FileWord::Secondary, wanted.secondary)?;
+    let input = read_file(rt, FileArgument::Input, Some(arguments.input))?;
+    let secondary = read_file(rt, FileArgument::Secondary, wanted.secondary)?;
     let print = written_file(
         rt,
-        words,
-        FileWord::Print,
-        Some(words.print),
+        arguments,
+        FileArgument::Print,
+        Some(arguments.print),
         &mut kept.print,
     )?;
-    let disk = written_file(rt, words, FileWord::Disk, wanted.disk, &mut kept.disk)?;
+    let disk = written_file(
+        rt,
+        arguments,
+        FileArgument::Disk,
+        wanted.disk,
+        &mut kept.disk,
+    )?;
     Ok(RunFiles {
         input,
         secondary,
@@ -153,58 +167,62 @@ fn open_files<'a, R: Files + AllocGlobal>(
 /// Opens a file for reading, if there is one.
 fn read_file<R: Files>(
     rt: &R,
-    word: FileWord,
+    argument: FileArgument,
     path: Option<&str>,
 ) -> Result<Opened<R::File>, Answer> {
     match path {
         None => Ok(Opened::Nothing),
         Some(path) if is_standard(path) => Ok(Opened::Standard),
-        Some(path) => Ok(Opened::File(named(word, input_file(rt, path))?)),
+        Some(path) => Ok(Opened::File(named(argument, input_file(rt, path))?)),
     }
 }
 
 /// Opens a file for writing, if there is one, or creates a new one beside it, which goes into `new`.
 fn written_file<'a, R: Files + AllocGlobal>(
     rt: &R,
-    words: &RunWords,
-    word: FileWord,
+    arguments: &RunArguments,
+    argument: FileArgument,
     path: Option<&'a str>,
     new: &mut Option<Pending<'a>>,
 ) -> Result<Opened<R::File>, Answer> {
     match path {
         None => Ok(Opened::Nothing),
         Some(path) if is_standard(path) => Ok(Opened::Standard),
-        Some(path) if words.keeps => {
-            let KeptFile { opened, pending } = named(word, kept_file(rt, path))?;
+        Some(path) if arguments.keeps => {
+            let KeptFile { opened, pending } = named(argument, kept_file(rt, path))?;
             *new = pending;
             Ok(opened)
         }
-        Some(path) => Ok(Opened::File(named(word, output_file(rt, path))?)),
+        Some(path) => Ok(Opened::File(named(argument, output_file(rt, path))?)),
     }
 }
 
 /// Returns the files that a run reads: the object, its source and both inputs.
-fn read_files<R: Files>(rt: &R, words: &RunWords, files: &RunFiles<R::File>) -> [NamedFile; 4] {
+fn read_files<R: Files>(
+    rt: &R,
+    arguments: &RunArguments,
+    files: &RunFiles<R::File>,
+) -> [NamedFile; 4] {
     let stream = "/dev/stdin";
     [
-        NamedFile::at(rt, words.program, system_path(words.object)),
-        NamedFile::named(rt, FileWord::OwnSource, words.source),
-        NamedFile::opened(rt, FileWord::Input, &files.input, stream),
-        NamedFile::opened(rt, FileWord::Secondary, &files.secondary, stream),
+        NamedFile::at(rt, arguments.program, system_path(arguments.object)),
+        NamedFile::named(rt, FileArgument::OwnSource, arguments.source),
+        NamedFile::opened(rt, FileArgument::Input, &files.input, stream),
+        NamedFile::opened(rt, FileArgument::Secondary, &files.secondary, stream),
     ]
 }
 
 /// Refuses to empty or replace a file that another argument names too.
 fn refuse_shared<R: Files + AllocGlobal>(
     rt: &R,
-    words: &RunWords,
+    arguments: &RunArguments,
     files: &RunFiles<R::File>,
     kept: &Kept<'_>,
 ) -> Result<(), CommandStop> {
     let stream = "/dev/stdout";
-    let [object, source, primary, secondary] = read_files(rt, words, files);
-    let print = NamedFile::written(rt, FileWord::Print, &files.print, &kept.print, stream);
-    let disk = NamedFile::written(rt, FileWord::Disk, &files.disk, &kept.disk, stream);
+    let [object, source, primary, secondary] = read_files(rt, arguments, files);
+    let print = NamedFile::written(rt, FileArgument::Print, &files.print, &kept.print, stream);
+    let disk = NamedFile::written(rt, FileArgument::Disk, &files.disk, &kept.disk, stream);
     let all = [object, source, primary, secondary, print, disk];
     refuse_same_file(print, &all[..4])?;
     refuse_same_file(disk, &all[..5])?;
@@ -214,13 +232,13 @@ fn refuse_shared<R: Files + AllocGlobal>(
 /// Empties the output files, unless another argument names one of them.
 fn empty_files<R: Files + AllocGlobal>(
     rt: &R,
-    words: &RunWords,
+    arguments: &RunArguments,
     files: &RunFiles<R::File>,
     kept: &Kept<'_>,
 ) -> Result<(), CommandStop> {
-    refuse_shared(rt, words, files, kept)?;
-    named(FileWord::Print, files.print.empty())?;
-    Ok(named(FileWord::Disk, files.disk.empty())?)
+    refuse_shared(rt, arguments, files, kept)?;
+    named(FileArgument::Print, files.print.empty())?;
+    Ok(named(FileArgument::Disk, files.disk.empty())?)
 }
 
 /// What a run reads and writes.
@@ -335,16 +353,22 @@ pub(crate) fn run_devices<
 /// Opens the files of a run, empties the outputs, and runs the program over them.
 fn run_opened<'a, R: Files + Input + Print + AllocGlobal, L: Listener>(
     rt: &R,
-    words: &RunWords<'a>,
+    arguments: &RunArguments<'a>,
     accepted: Result<Runnable<'_>, ObjectFault>,
     wanted: WantedFiles<'a>,
     kept: &mut Kept<'a>,
     listener: &mut L,
 ) -> Result<Report, CommandStop> {
-    let files = open_files(rt, words, wanted, kept)?;
-    empty_files(rt, words, &files, kept)?;
+    let files = open_files(rt, arguments, wanted, kept)?;
+    empty_files(rt, arguments, &files, kept)?;
     match accepted {
-        Ok(runnable) => run_as_asked(rt.alloc(), words, runnable, devices_of(rt, files), listener),
+        Ok(runnable) => run_as_asked(
+            rt.alloc(),
+            arguments,
+            runnable,
+            devices_of(rt, files),
+            listener,
+        ),
         Err(fault) => Err(Answer::Object(fault).into()),
     }
 }
@@ -352,16 +376,16 @@ fn run_opened<'a, R: Files + Input + Print + AllocGlobal, L: Listener>(
 /// Runs an accepted program over its files, and reports where its job halted.
 fn run_accepted<R: Files + Input + Print + AllocGlobal, L: Listener>(
     rt: &R,
-    words: &RunWords,
+    arguments: &RunArguments,
     accepted: Result<Runnable<'_>, ObjectFault>,
     wanted: WantedFiles<'_>,
     listener: &mut L,
 ) -> Result<Report, CommandStop> {
     let mut kept = Kept::new();
-    let ran = run_opened(rt, words, accepted, wanted, &mut kept, listener);
+    let ran = run_opened(rt, arguments, accepted, wanted, &mut kept, listener);
     if let (Ok(report), Ok(runnable)) = (ran, accepted) {
         let program = runnable.program();
-        tell_halt(rt, words, program, report, runnable.halted(), listener);
+        report_halt(rt, arguments, program, report, runnable.halted(), listener);
     }
     kept.finish(rt, ran, listener)
 }
@@ -372,34 +396,34 @@ fn run_accepted<R: Files + Input + Print + AllocGlobal, L: Listener>(
 /// arguments name a limit, or output files keep their contents, the rules, the date and the limit are checked next, before the other files.
 fn program_of<'a>(
     alloc: Global,
-    words: &RunWords<'a>,
+    arguments: &RunArguments<'a>,
     object: &[u8],
 ) -> Result<(Result<Verified, ObjectFault>, WantedFiles<'a>), Answer>
-    ensures spelled { IfOk result (λ told. IfOk told.0 (λ program. SpellsProgram object.now program)) }
-    ensures refused { IfOk result (λ told. IfErr told.0 (λ fault. HasObjectFault fault object.now)) }
-    ensures limit { IfOk result (λ told. IfSome words.now.most (λ most. IfOk told.0 (λ program. bound program ≤ most))) }
+    ensures spelled { IfOk result (λ reported. IfOk reported.0 (λ program. SpellsProgram object.now program)) }
+    ensures refused { IfOk result (λ reported. IfErr reported.0 (λ fault. HasObjectFault fault object.now)) }
+    ensures limit { IfOk result (λ reported. IfSome arguments.now.most (λ most. IfOk reported.0 (λ program. bound program ≤ most))) }
 {
     let program = decode_object(alloc, object)?;
-    let wanted = WantedFiles::of(&program, words)?;
+    let wanted = WantedFiles::of(&program, arguments)?;
     let accepted = accept(alloc, program);
-    keeps_asked_limit(&accepted, words)?;
+    keeps_asked_limit(&accepted, arguments)?;
     Ok((accepted, wanted))
 }
 
 /// Returns the files that the program of a compiled source needs besides those of every run. A missing date, the date and the limit are
 /// checked next, as for an object.
 fn source_files<'a>(
-    words: &RunWords<'a>,
+    arguments: &RunArguments<'a>,
     compiled: &CompiledSource,
 ) -> Result<WantedFiles<'a>, Answer>
-    ensures limit { OnOk result (IfSome words.now.most (λ most. bound compiled.now.program ≤ most)) }
+    ensures limit { OnOk result (IfSome arguments.now.most (λ most. bound compiled.now.program ≤ most)) }
 {
     let program = compiled.program();
-    let wanted = WantedFiles::of(program.program(), words)?;
-    if let Some(most) = words.most {
-        keeps_bound(program, words.date_text(), most)?;
-    } else if words.keeps {
-        keeps_bound(program, words.date_text(), u64::MAX)?;
+    let wanted = WantedFiles::of(program.program(), arguments)?;
+    if let Some(most) = arguments.most {
+        keeps_bound(program, arguments.date_text(), most)?;
+    } else if arguments.keeps {
+        keeps_bound(program, arguments.date_text(), u64::MAX)?;
     }
     Ok(wanted)
 }
@@ -407,56 +431,62 @@ fn source_files<'a>(
 /// Runs a compiled source over its files.
 pub(crate) fn run_own<R: Files + Input + Print + AllocGlobal, L: Listener>(
     rt: &R,
-    words: &RunWords,
+    arguments: &RunArguments,
     source: &OwnSource<'_>,
     listener: &mut L,
 ) -> Result<Report, CommandStop> {
-    let wanted = source_files(words, &source.compiled)?;
-    run_accepted(rt, words, Ok(Runnable::Source(source)), wanted, listener)
+    let wanted = source_files(arguments, &source.compiled)?;
+    run_accepted(
+        rt,
+        arguments,
+        Ok(Runnable::Source(source)),
+        wanted,
+        listener,
+    )
 }
 
 /// Runs the object program in these bytes. Rules and date are checked after its files are opened, unless the arguments name a limit or keep
 /// files.
 fn run_object<R: Files + Input + Print + AllocGlobal, L: Listener>(
     rt: &R,
-    words: &RunWords,
+    arguments: &RunArguments,
     object: &[u8],
     listener: &mut L,
 ) -> Result<Report, CommandStop> {
-    let (accepted, wanted) = program_of(rt.alloc(), words, object)?;
+    let (accepted, wanted) = program_of(rt.alloc(), arguments, object)?;
     let runnable = match &accepted {
         Ok(program) => Ok(Runnable::Object(program)),
         Err(fault) => Err(*fault),
     };
-    run_accepted(rt, words, runnable, wanted, listener)
+    run_accepted(rt, arguments, runnable, wanted, listener)
 }
 
 /// Runs the object program in these bytes, or the source that the arguments name, once it proves to be the object's.
 fn run_named<R: Files + Input + Print + AllocGlobal, L: Listener>(
     rt: &R,
-    words: &RunWords,
+    arguments: &RunArguments,
     object: &[u8],
     listener: &mut L,
 ) -> Result<Report, CommandStop> {
-    match own_source(rt, words.source, object, listener)? {
-        Some(source) => run_own(rt, words, &source, listener),
-        None => run_object(rt, words, object, listener),
+    match own_source(rt, arguments.source, object, listener)? {
+        Some(source) => run_own(rt, arguments, &source, listener),
+        None => run_object(rt, arguments, object, listener),
     }
 }
 
 /// Runs an object program over its files. Reports why it is rejected, or where its job halted.
 pub fn run_files<R: Files + Input + Print + AllocGlobal, L: Listener>(
     rt: &R,
-    words: &RunWords,
+    arguments: &RunArguments,
     listener: &mut L,
 ) -> Result<Report, CommandStop> {
-    if let Some(same) = words.shared_stream() {
+    if let Some(same) = arguments.shared_stream() {
         return Err(same.into());
     }
-    let object = named(FileWord::Object, file_bytes(rt, words.object))?;
-    let ran = run_named(rt, words, &object, listener);
+    let object = named(FileArgument::Object, file_bytes(rt, arguments.object))?;
+    let ran = run_named(rt, arguments, &object, listener);
     if let Err(CommandStop::Answer(answer)) = ran {
-        tell_refused(rt.alloc(), words.object, &object, answer, listener);
+        report_refused(rt.alloc(), arguments.object, &object, answer, listener);
     }
     ran
 }

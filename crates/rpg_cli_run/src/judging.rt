@@ -1,7 +1,7 @@
 //! Compiles sources and verifies object programs, given their bytes.
 
 ghost use Rattle.std.specs.Prelude.{◌≡◌, ◌<◌, IfErr, IfOk};
-ghost use Rattle.rpg_cli_run.specs.Judging.{IsSourceOf, TellsMismatch, TellsObject, TellsSource};
+ghost use Rattle.rpg_cli_run.specs.Judging.{IsSourceOf, ReportsMismatch, ReportsObject, ReportsSource};
 ghost use Rattle.rpg_cli_run.specs.Spelling.{CompilesTo};
 ghost use Rattle.rpg_engine.specs.Objects.{IsAcceptedWith};
 
@@ -18,7 +18,7 @@ use std::alloc::Global;
 pub fn compiled(alloc: Global, source: &[u8], allowance: u16) -> Result<CompiledObject, Answer>
     requires { 0 < allowance }
     ensures compiled { IfOk result (λ object. CompilesTo source.now allowance object.bytes.items) }
-    ensures refused { IfErr result (λ answer. TellsSource answer source.now) }
+    ensures refused { IfErr result (λ answer. ReportsSource answer source.now) }
 {
     Ok(compile_to_object(alloc, source, allowance)?)
 }
@@ -26,7 +26,7 @@ pub fn compiled(alloc: Global, source: &[u8], allowance: u16) -> Result<Compiled
 /// Returns the bound of the program in these bytes.
 pub fn verified(alloc: Global, object: &[u8]) -> Result<u64, Answer>
     ensures accepted { IfOk result (λ bound. IsAcceptedWith bound object.now) }
-    ensures refused { IfErr result (λ answer. TellsObject answer object.now) }
+    ensures refused { IfErr result (λ answer. ReportsObject answer object.now) }
 {
     Ok(verify_bytes(alloc, object)?)
 }
@@ -46,7 +46,7 @@ pub(crate) fn matched(
     object: &[u8],
 ) -> Result<CompiledSource, (Vec<u8>, Answer)>
     ensures matched { IfOk result (λ source. IsSourceOf text.items object.now × (source.text ≡ text)) }
-    ensures refused { IfErr result (λ e. TellsMismatch e.1 text.items object.now × (e.0 ≡ text)) }
+    ensures refused { IfErr result (λ e. ReportsMismatch e.1 text.items object.now × (e.0 ≡ text)) }
 {
     a_spelling_is_read_again();
     let program = match decode_object(alloc, object) {

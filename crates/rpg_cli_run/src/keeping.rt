@@ -1,12 +1,12 @@
 //! Files that a run writes beside their places, and what happens to them at its end.
 
 ghost use Rattle.std.specs.Prelude.{◌≡◌, IfErr};
-ghost use Rattle.rpg_cli_run.specs.Keeping.{IsOfFile, KeepsAnswer, fate_of};
+ghost use Rattle.rpg_cli_run.specs.Keeping.{IsOfFile, KeepsAnswer, disposition_of};
 
 use rpg_cli_answers::{Answer, CommandStop, Listener, NamedFile, refuse_same_file};
 use rpg_cli_files::{FileFault, Pending};
 use rpg_cli_text::TextWriter;
-use rpg_cli_words::{FileWord, SameFile, Shared};
+use rpg_cli_words::{FileArgument, SameFile, Shared};
 use rpg_engine::{JobEnd, Report};
 use std::alloc::{AllocError, Global};
 use std::rt::Files;
@@ -20,7 +20,7 @@ pub(crate) struct Kept<'a> {
 
 /// What happens to new files.
 #[derive(Clone, Copy)]
-pub(crate) enum Fate {
+pub(crate) enum Disposition {
     /// They are moved to their places.
     Placed,
     /// They are left beside them.
@@ -30,16 +30,16 @@ pub(crate) enum Fate {
 }
 
 /// Returns what happens to the new files of a run. They are moved to their places only at the end of a job, not at a halt.
-fn end_of_files(ran: &Result<Report, CommandStop>) -> Fate
-    ensures { result ≡ fate_of ran.now }
+fn end_of_files(ran: &Result<Report, CommandStop>) -> Disposition
+    ensures { result ≡ disposition_of ran.now }
 {
     match ran {
         Ok(report) => match report.ending {
-            JobEnd::EndOfJob => Fate::Placed,
-            JobEnd::Halt(_) => Fate::Left,
+            JobEnd::EndOfJob => Disposition::Placed,
+            JobEnd::Halt(_) => Disposition::Left,
         },
-        Err(CommandStop::Job { .. }) => Fate::Left,
-        Err(_) => Fate::Removed,
+        Err(CommandStop::Job { .. }) => Disposition::Left,
+        Err(_) => Disposition::Removed,
     }
 }
 
@@ -54,12 +54,15 @@ fn put_in_place<R: Files>(rt: &R, file: &Option<Pending<'_>>) -> Result<(), File
 /// Returns the message about a file: it is unchanged, and where its part is, or the new one replaced it.
 fn kept_message(
     alloc: Global,
-    word: FileWord,
+    argument: FileArgument,
     place: &str,
     part: Option<&str>,
 ) -> Result<String, AllocError> {
     let mut out = TextWriter::new(alloc);
-    out.fill("{} ({}): ", &[place.as_bytes().into(), word.name().into()]);
+    out.fill(
+        "{} ({}): ",
+        &[place.as_bytes().into(), argument.name().into()],
+    );
     match part {
         Some(part) => {
             out.write_str("left as it was; what this run wrote is in ");
@@ -72,28 +75,28 @@ fn kept_message(
 }
 
 /// Reports what happened to a file. If memory runs out for the message, nothing is printed.
-fn tell_kept<L: Listener>(
+fn report_kept<L: Listener>(
     alloc: Global,
-    word: FileWord,
+    argument: FileArgument,
     place: &str,
     part: Option<&str>,
     listener: &mut L,
 ) {
-    if let Ok(message) = kept_message(alloc, word, place, part) {
-        listener.tell(message.as_str());
+    if let Ok(message) = kept_message(alloc, argument, place, part) {
+        listener.report(message.as_str());
     }
 }
 
 /// Leaves a new file, if there is one, beside its place, and reports where.
 fn leave_part<R: Files + AllocGlobal, L: Listener>(
     rt: &R,
-    word: FileWord,
+    argument: FileArgument,
     file: &Option<Pending<'_>>,
     listener: &mut L,
 ) {
     if let Some(pending) = file {
         let part = pending.leave_part(rt);
-        tell_kept(rt.alloc(), word, pending.place(), Some(part), listener);
+        report_kept(rt.alloc(), argument, pending.place(), Some(part), listener);
     }
 }
 
@@ -107,14 +110,14 @@ fn remove<R: Files>(rt: &R, file: &Option<Pending<'_>>) {
 /// Rejects a part that would replace the file of another argument.
 fn refuse_part<R: Files>(
     rt: &R,
-    word: FileWord,
+    argument: FileArgument,
     file: &Option<Pending<'_>>,
     others: &[NamedFile],
 ) -> Result<(), SameFile> {
     let Some(pending) = file else {
         return Ok(());
     };
-    match refuse_same_file(NamedFile::at(rt, word, pending.part()), others) {
+    match refuse_same_file(NamedFile::at(rt, argument, pending.part()), others) {
         Ok(()) => Ok(()),
         Err(same) => Err(SameFile {
             shared: Shared::Part,
@@ -130,11 +133,11 @@ fn shared_place<R: Files + AllocGlobal>(
     disk: &Pending<'_>,
 ) -> Result<Option<SameFile>, AllocError> {
     let (earlier, written, shared) = if print.goes_to(rt, disk.place())? {
-        (FileWord::Print, FileWord::Disk, Shared::File)
+        (FileArgument::Print, FileArgument::Disk, Shared::File)
     } else if print.goes_to(rt, disk.part())? {
-        (FileWord::Print, FileWord::Disk, Shared::Part)
+        (FileArgument::Print, FileArgument::Disk, Shared::Part)
     } else if disk.goes_to(rt, print.part())? {
-        (FileWord::Disk, FileWord::Print, Shared::Part)
+        (FileArgument::Disk, FileArgument::Print, Shared::Part)
     } else {
         return Ok(None);
     };
@@ -159,8 +162,8 @@ impl<'a> Kept<'a> {
         rt: &R,
         others: &[NamedFile],
     ) -> Result<(), CommandStop> {
-        refuse_part(rt, FileWord::Print, &self.print, others)?;
-        refuse_part(rt, FileWord::Disk, &self.disk, others)?;
+        refuse_part(rt, FileArgument::Print, &self.print, others)?;
+        refuse_part(rt, FileArgument::Disk, &self.disk, others)?;
         let (Some(print), Some(disk)) = (&self.print, &self.disk) else {
             return Ok(());
         };
@@ -182,17 +185,23 @@ impl<'a> Kept<'a> {
         if let Err(fault) = put_in_place(rt, &self.print) {
             self.leave_all(rt, listener);
             return Err(Answer::File {
-                word: FileWord::Print,
+                argument: FileArgument::Print,
                 fault,
             });
         }
         if let Err(fault) = put_in_place(rt, &self.disk) {
             if let Some(print) = &self.print {
-                tell_kept(rt.alloc(), FileWord::Print, print.place(), None, listener);
+                report_kept(
+                    rt.alloc(),
+                    FileArgument::Print,
+                    print.place(),
+                    None,
+                    listener,
+                );
             }
-            leave_part(rt, FileWord::Disk, &self.disk, listener);
+            leave_part(rt, FileArgument::Disk, &self.disk, listener);
             return Err(Answer::File {
-                word: FileWord::Disk,
+                argument: FileArgument::Disk,
                 fault,
             });
         }
@@ -200,8 +209,8 @@ impl<'a> Kept<'a> {
     }
 
     fn leave_all<R: Files + AllocGlobal, L: Listener>(&self, rt: &R, listener: &mut L) {
-        leave_part(rt, FileWord::Print, &self.print, listener);
-        leave_part(rt, FileWord::Disk, &self.disk, listener);
+        leave_part(rt, FileArgument::Print, &self.print, listener);
+        leave_part(rt, FileArgument::Disk, &self.disk, listener);
     }
 
     /// Finishes the new files as the end of their run requires, reports those that are left beside their places, and returns the answer of
@@ -217,13 +226,13 @@ impl<'a> Kept<'a> {
         ensures { KeepsAnswer ran result }
     {
         match end_of_files(&ran) {
-            Fate::Placed => {
+            Disposition::Placed => {
                 if let Err(answer) = self.put_all(rt, listener) {
                     return Err(CommandStop::Answer(answer));
                 }
             }
-            Fate::Left => self.leave_all(rt, listener),
-            Fate::Removed => {
+            Disposition::Left => self.leave_all(rt, listener),
+            Disposition::Removed => {
                 remove(rt, &self.print);
                 remove(rt, &self.disk);
             }

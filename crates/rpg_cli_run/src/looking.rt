@@ -3,7 +3,7 @@
 use crate::jobs::{Devices, Runnable, run_devices};
 use rpg_cli_answers::{CommandStop, Listener};
 use rpg_cli_trace::{JobNames, Looking};
-use rpg_cli_words::RunWords;
+use rpg_cli_words::RunArguments;
 use rpg_engine::Report;
 use std::alloc::Global;
 use std::fs::OpenFile;
@@ -17,19 +17,19 @@ pub(crate) fn run_as_asked<
     L: Listener,
 >(
     alloc: Global,
-    words: &RunWords,
+    arguments: &RunArguments,
     runnable: Runnable<'_>,
     devices: Devices<F, S, P>,
     listener: &mut L,
 ) -> Result<Report, CommandStop> {
-    let date = words.date_text().as_bytes();
+    let date = arguments.date_text().as_bytes();
     let names = JobNames {
         program: runnable.program(),
-        primary: words.input,
-        secondary: words.secondary,
+        primary: arguments.input,
+        secondary: arguments.secondary,
         source: runnable.rows(),
     };
-    let mut looking = Looking::new(alloc, words.looks, names, listener);
+    let mut looking = Looking::new(alloc, arguments.looks, names, listener);
     let ran = run_devices(alloc, runnable, date, devices, &mut looking);
     looking.finish();
     ran

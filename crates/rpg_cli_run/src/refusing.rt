@@ -32,7 +32,7 @@ fn wanted_message(
 }
 
 /// Reports which file or date a program needs but the arguments don't name, if that is the answer.
-pub(crate) fn tell_wanted<L: Listener>(
+pub(crate) fn report_wanted<L: Listener>(
     alloc: Global,
     path: &str,
     program: &Program,
@@ -42,7 +42,7 @@ pub(crate) fn tell_wanted<L: Listener>(
     match answer {
         Answer::DiskFileWanted | Answer::SecondaryFileWanted | Answer::DateWanted => {
             if let Ok(message) = wanted_message(alloc, path, program, answer) {
-                listener.tell(message.as_str());
+                listener.report(message.as_str());
             }
         }
         _ => {}
@@ -50,7 +50,7 @@ pub(crate) fn tell_wanted<L: Listener>(
 }
 
 /// Reports what is wrong with the bytes of a rejected object program, or what it needs.
-pub(crate) fn tell_refused<L: Listener>(
+pub(crate) fn report_refused<L: Listener>(
     alloc: Global,
     path: &str,
     object: &[u8],
@@ -58,9 +58,9 @@ pub(crate) fn tell_refused<L: Listener>(
     listener: &mut L,
 ) {
     if let Answer::Object(fault) = answer {
-        tell_object(alloc, path, object, fault, listener);
+        report_object(alloc, path, object, fault, listener);
     } else if let Ok(program) = decode_object(alloc, object) {
-        tell_wanted(alloc, path, &program, answer, listener);
+        report_wanted(alloc, path, &program, answer, listener);
     }
 }
 
@@ -83,7 +83,7 @@ fn object_message(
 }
 
 /// Reports what is wrong with the bytes of an object file.
-pub fn tell_object<L: Listener>(
+pub fn report_object<L: Listener>(
     alloc: Global,
     path: &str,
     object: &[u8],
@@ -91,6 +91,6 @@ pub fn tell_object<L: Listener>(
     listener: &mut L,
 ) {
     if let Ok(message) = object_message(alloc, path, object, fault) {
-        listener.tell(message.as_str());
+        listener.report(message.as_str());
     }
 }

@@ -6,7 +6,7 @@ use rpg_cli_files::file_bytes;
 use rpg_cli_halts::HaltedSource;
 use rpg_cli_messages::source_messages;
 use rpg_cli_show_fields::SourceRows;
-use rpg_cli_words::FileWord;
+use rpg_cli_words::FileArgument;
 use rpg_faults::{faultless_cards, source_faults};
 use rpg_meaning::CompiledSource;
 use std::alloc::Global;
@@ -67,12 +67,12 @@ pub fn own_source<'a, R: Files + AllocGlobal, L: Listener>(
     let Some(path) = path else {
         return Ok(None);
     };
-    let text = named(FileWord::OwnSource, file_bytes(rt, path))?;
+    let text = named(FileArgument::OwnSource, file_bytes(rt, path))?;
     match matched(rt.alloc(), text, object) {
         Ok(compiled) => Ok(Some(OwnSource::of(rt.alloc(), path, compiled)?)),
         Err((text, answer)) => {
             if let Answer::Source(_) = answer {
-                tell_faults(rt.alloc(), path, &text, MOST_TOLD, listener);
+                report_faults(rt.alloc(), path, &text, MOST_TOLD, listener);
             }
             Err(answer)
         }
@@ -80,7 +80,7 @@ pub fn own_source<'a, R: Files + AllocGlobal, L: Listener>(
 }
 
 /// Reports the faults of a source, if it has any. If memory runs out for the messages, only the line says what is wrong.
-pub fn tell_faults<L: Listener>(
+pub fn report_faults<L: Listener>(
     alloc: Global,
     path: &str,
     source: &[u8],
@@ -94,6 +94,6 @@ pub fn tell_faults<L: Listener>(
         return;
     }
     if let Ok(messages) = source_messages(alloc, path, source, &faults, most) {
-        listener.tell(messages.as_str());
+        listener.report(messages.as_str());
     }
 }

@@ -6,19 +6,19 @@ ghost use Rattle.rpg_cli_run.specs.Warned.{IsDenied, PassesWarnings};
 use rpg_cards::SpecCard;
 use rpg_cli_answers::{Answer, Listener};
 use rpg_cli_warnings::{Warning, wanted_warnings, warning_messages};
-use rpg_cli_words::WarningWords;
+use rpg_cli_words::WarningArguments;
 use rpg_faults::{SourceFault, faultless_cards};
 use std::alloc::Global;
 
 /// Rejects a source for the first of these warnings, if the arguments deny them.
-fn judged(words: WarningWords, warnings: &[Warning]) -> Result<(), Answer>
-    ensures ok { OnOk result (PassesWarnings words.denies warnings.now) }
+fn judged(arguments: WarningArguments, warnings: &[Warning]) -> Result<(), Answer>
+    ensures ok { OnOk result (PassesWarnings arguments.denies warnings.now) }
     ensures err { IfErr result (λ answer. IsDenied answer warnings.now) }
 {
     match warnings.first() {
         None => Ok(()),
         Some(warning) => {
-            if words.denies {
+            if arguments.denies {
                 Err(Answer::Denied {
                     card: warning.card,
                     code: warning.kind.code(),
@@ -31,16 +31,16 @@ fn judged(words: WarningWords, warnings: &[Warning]) -> Result<(), Answer>
 }
 
 /// Reports warnings. If memory runs out for them, nothing is printed.
-fn tell_warnings<L: Listener>(
+fn report_warnings<L: Listener>(
     alloc: Global,
     path: &str,
     source: &[u8],
-    words: WarningWords,
+    arguments: WarningArguments,
     warnings: &[Warning],
     listener: &mut L,
 ) {
-    if let Ok(messages) = warning_messages(alloc, path, source, warnings, words.most) {
-        listener.tell(messages.as_str());
+    if let Ok(messages) = warning_messages(alloc, path, source, warnings, arguments.most) {
+        listener.report(messages.as_str());
     }
 }
 
@@ -52,15 +52,15 @@ pub fn judge_warnings<L: Listener>(
     path: &str,
     source: &[u8],
     cards: &[SpecCard],
-    words: WarningWords,
+    arguments: WarningArguments,
     listener: &mut L,
 ) -> Result<(), Answer> {
-    match wanted_warnings(alloc, cards, words.allowed) {
+    match wanted_warnings(alloc, cards, arguments.allowed) {
         Ok(warnings) => {
-            tell_warnings(alloc, path, source, words, &warnings, listener);
-            judged(words, &warnings)
+            report_warnings(alloc, path, source, arguments, &warnings, listener);
+            judged(arguments, &warnings)
         }
-        Err(_) if words.denies => Err(Answer::NoMemory),
+        Err(_) if arguments.denies => Err(Answer::NoMemory),
         Err(_) => Ok(()),
     }
 }
@@ -70,12 +70,12 @@ pub(crate) fn deny_warnings<L: Listener>(
     alloc: Global,
     path: &str,
     source: &[u8],
-    words: WarningWords,
+    arguments: WarningArguments,
     listener: &mut L,
 ) -> Result<(), Answer> {
     match faultless_cards(alloc, source) {
-        Ok(cards) => judge_warnings(alloc, path, source, &cards, words, listener),
-        Err(SourceFault::NoMemory) if words.denies => Err(Answer::NoMemory),
+        Ok(cards) => judge_warnings(alloc, path, source, &cards, arguments, listener),
+        Err(SourceFault::NoMemory) if arguments.denies => Err(Answer::NoMemory),
         Err(_) => Ok(()),
     }
 }

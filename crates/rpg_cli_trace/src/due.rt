@@ -45,7 +45,7 @@ impl Due {
 }
 
 /// Whether conditions require the overflow indicator to be on. A line with such conditions is written at overflow.
-fn asks_overflow(overflow: Option<u8>, conditions: &[Condition]) -> bool {
+fn tests_overflow(overflow: Option<u8>, conditions: &[Condition]) -> bool {
     for condition in conditions {
         if overflow == Some(condition.indicator) && !condition.is_negated {
             return true;
@@ -57,7 +57,7 @@ fn asks_overflow(overflow: Option<u8>, conditions: &[Condition]) -> bool {
 /// Whether one of a line's alternatives holds at detail output.
 fn is_due(overflow: Option<u8>, line: &Line, on: &Indicators) -> bool {
     for conditions in &line.alternatives {
-        if !asks_overflow(overflow, conditions) && all_hold(on, conditions) {
+        if !tests_overflow(overflow, conditions) && all_hold(on, conditions) {
             return true;
         }
     }

@@ -3,9 +3,9 @@
 use crate::counts::Counts;
 use crate::names::JobNames;
 use crate::records::Records;
-use crate::tracing::{Cycle, Told};
+use crate::tracing::{Cycle, Reported};
 use rpg_cli_files::Listener;
-use rpg_cli_words::LookWords;
+use rpg_cli_words::LookArguments;
 use rpg_engine::{Job, JobEnd, Watcher};
 use rpg_store::Store;
 use std::alloc::Global;
@@ -16,18 +16,18 @@ use std::alloc::Global;
 pub struct Looking<'p, 'f, 's, 'l, L> {
     alloc: Global,
     names: JobNames<'p, 'f, 's>,
-    words: LookWords,
+    words: LookArguments,
     listener: &'l mut L,
     cycles: u64,
     records: Records,
-    told: Option<Told>,
+    reported: Option<Reported>,
     counts: Option<Counts>,
 }
 
 impl<'p, 'f, 's, 'l, L: Listener> Looking<'p, 'f, 's, 'l, L> {
     pub fn new(
         alloc: Global,
-        words: LookWords,
+        words: LookArguments,
         names: JobNames<'p, 'f, 's>,
         listener: &'l mut L,
     ) -> Looking<'p, 'f, 's, 'l, L> {
@@ -38,21 +38,21 @@ impl<'p, 'f, 's, 'l, L: Listener> Looking<'p, 'f, 's, 'l, L> {
             listener,
             cycles: 0,
             records: Records::UNREAD,
-            told: None,
+            reported: None,
             counts: None,
         }
     }
 
     /// Reports a cycle, if it is one of the first.
-    fn tell<S: Store + Drop>(&mut self, job: &Job<'_, S>, cycle: Cycle) {
+    fn report<S: Store + Drop>(&mut self, job: &Job<'_, S>, cycle: Cycle) {
         if cycle.number > self.words.traced {
             return;
         }
-        let Some(told) = &mut self.told else {
+        let Some(reported) = &mut self.reported else {
             return;
         };
-        if let Ok(text) = told.text_of(self.alloc, &self.names, job, cycle) {
-            self.listener.tell(text.as_str());
+        if let Ok(text) = reported.text_of(self.alloc, &self.names, job, cycle) {
+            self.listener.report(text.as_str());
         }
     }
 
@@ -62,7 +62,7 @@ impl<'p, 'f, 's, 'l, L: Listener> Looking<'p, 'f, 's, 'l, L> {
             return;
         };
         if let Ok(text) = counts.text(self.alloc, &self.names) {
-            self.listener.tell(text.as_str());
+            self.listener.report(text.as_str());
         }
     }
 }
@@ -74,7 +74,7 @@ impl<L: Listener> Watcher for Looking<'_, '_, '_, '_, L> {
 
     fn begin<S: Store + Drop>(&mut self, job: &Job<'_, S>) {
         if self.words.traced > 0 {
-            self.told = Told::begin(self.alloc, job).ok();
+            self.reported = Reported::begin(self.alloc, job).ok();
         }
         if self.words.watches {
             self.counts = Counts::begin(self.alloc, job).ok();
@@ -95,7 +95,7 @@ impl<L: Listener> Watcher for Looking<'_, '_, '_, '_, L> {
             record,
             ended,
         };
-        self.tell(job, cycle);
+        self.report(job, cycle);
         if let Some(counts) = &mut self.counts {
             counts.go_on(job, cycle);
         }

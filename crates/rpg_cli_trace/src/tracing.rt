@@ -41,16 +41,16 @@ impl Cycle {
 
 /// The job after the last cycle that was reported.
 #[derive(Drop)]
-pub(crate) struct Told {
+pub(crate) struct Reported {
     lights: Lights,
     values: Values,
 }
 
-impl Told {
+impl Reported {
     /// Returns the job before its first cycle.
-    pub fn begin<S: Store + Drop>(alloc: Global, job: &Job<'_, S>) -> Result<Told, AllocError> {
+    pub fn begin<S: Store + Drop>(alloc: Global, job: &Job<'_, S>) -> Result<Reported, AllocError> {
         let memory = job.memory();
-        Ok(Told {
+        Ok(Reported {
             lights: Lights::of(alloc, memory.on())?,
             values: Values::of(alloc, memory)?,
         })

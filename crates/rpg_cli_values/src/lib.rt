@@ -10,5 +10,5 @@ mod day;
 pub use calendar::may_be_date;
 pub use code::WarningCode;
 pub use codes::WarningCodes;
-pub use date::DateWord;
+pub use date::DateArgument;
 pub use day::{DateOrder, Day};

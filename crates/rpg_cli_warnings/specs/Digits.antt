@@ -31,7 +31,7 @@ whole_digits f = digits_by f.kind f
 
 -- likewise for a name or constant, if it has a form
 abbrev pub whole_digits_of : Defined → Option ℕ
-whole_digits_of (defined.Good f) = whole_digits f
+whole_digits_of (defined.Valid f) = whole_digits f
 whole_digits_of defined.Missing = None
 whole_digits_of defined.Bad = None
 

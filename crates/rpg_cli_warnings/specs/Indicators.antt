@@ -35,16 +35,16 @@ conditions_begin (spec.Calculation k) = 9
 conditions_begin s = 23
 
 -- the condition is on that indicator
-abbrev pub one_asks : ℕ → Option ConditionSpec → Bool
-one_asks n c = option_map_or (λ x. x.indicator == n) c false
+abbrev pub one_tests : ℕ → Option ConditionSpec → Bool
+one_tests n c = option_map_or (λ x. x.indicator == n) c false
 
 -- one of three conditions is on that indicator
-abbrev pub any_asks : ℕ → Three (Option ConditionSpec) → Bool
-any_asks n t = one_asks n t.first || one_asks n t.second || one_asks n t.third
+abbrev pub any_tests : ℕ → Three (Option ConditionSpec) → Bool
+any_tests n t = one_tests n t.first || one_tests n t.second || one_tests n t.third
 
 -- a condition of the card is on that indicator
-abbrev pub asks : ℕ → SpecCard → Bool
-asks n c = option_map_or (any_asks n) (conditions_on_card c.spec) false
+abbrev pub tests : ℕ → SpecCard → Bool
+tests n c = option_map_or (any_tests n) (conditions_on_card c.spec) false
 
 -- the place of the first of three that satisfies the test, each of this many columns
 abbrev pub place_of : {X : Type 0} → (X → Bool) → ℕ → Three X → ℕ
@@ -55,8 +55,8 @@ abbrev pub columns_from : ℕ → ℕ → ColumnFault
 columns_from column more = record { column = column; last = column + more }
 
 -- the columns of the condition on an indicator
-abbrev pub asked_columns : ℕ → SpecCard → ColumnFault
-asked_columns n c = columns_from (conditions_begin c.spec + option_map_or (place_of (one_asks n) 3) (conditions_on_card c.spec) 6) 2
+abbrev pub tested_columns : ℕ → SpecCard → ColumnFault
+tested_columns n c = columns_from (conditions_begin c.spec + option_map_or (place_of (one_tests n) 3) (conditions_on_card c.spec) 6) 2
 
 -- ---- turning on
 
@@ -100,15 +100,15 @@ turns_on n c = spec_turns_on n c.spec
 -- ---- turning on for others to ask
 
 -- a search has to have an indicator
-abbrev pub need_not_be_asked : Option Operation → Bool
-need_not_be_asked (Some operation.SetOff) = true
-need_not_be_asked (Some operation.LookUp) = true
-need_not_be_asked o = false
+abbrev pub need_not_be_tested : Option Operation → Bool
+need_not_be_tested (Some operation.SetOff) = true
+need_not_be_tested (Some operation.LookUp) = true
+need_not_be_tested o = false
 
--- the indicators that a card sets; those of SETOF and LOKUP need not be asked
+-- the indicators that a card sets; those of SETOF and LOKUP need not be tested
 abbrev pub shown_on : Spec → Option (Three (Option ℕ))
 shown_on (spec.Input (input.Field f)) = Some f.indicators
-shown_on (spec.Calculation k) = if need_not_be_asked k.operation then None else Some k.resulting_indicators
+shown_on (spec.Calculation k) = if need_not_be_tested k.operation then None else Some k.resulting_indicators
 shown_on s = None
 
 -- a resulting indicator of the card is that one
@@ -132,19 +132,19 @@ is_of_cards n = nat_le n 99 || (nat_le 112 n && nat_le n 128)
 
 -- W1 at a card
 abbrev pub never_on_at : ℕ → SpecCard → Warning
-never_on_at n c = record { card = c.number; columns = asked_columns n c; kind = kind.NeverOn n }
+never_on_at n c = record { card = c.number; columns = tested_columns n c; kind = kind.NeverOn n }
 
 -- tested but never turned on: at the first card that tests it
 abbrev pub never_on : ℕ → List SpecCard → Option Warning
-never_on n cards = if is_of_cards n && not (list_any (turns_on n) cards) then option_map (never_on_at n) (find (asks n) cards) else None
+never_on n cards = if is_of_cards n && not (list_any (turns_on n) cards) then option_map (never_on_at n) (find (tests n) cards) else None
 
 -- W2 at a card
-abbrev pub never_asked_at : ℕ → SpecCard → Warning
-never_asked_at n c = record { card = c.number; columns = shown_columns n c; kind = kind.NeverAsked n }
+abbrev pub never_tested_at : ℕ → SpecCard → Warning
+never_tested_at n c = record { card = c.number; columns = shown_columns n c; kind = kind.NeverTested n }
 
 -- turned on to be tested, but never tested: at the first card that turns it on
-abbrev pub never_asked : ℕ → List SpecCard → Option Warning
-never_asked n cards = if nat_le n 99 && not (is_some (find (asks n) cards)) then option_map (never_asked_at n) (find (shows n) cards) else None
+abbrev pub never_tested : ℕ → List SpecCard → Option Warning
+never_tested n cards = if nat_le n 99 && not (is_some (find (tests n) cards)) then option_map (never_tested_at n) (find (shows n) cards) else None
 
 -- ---- levels
 
@@ -173,11 +173,11 @@ card_has_level n c = spec_has_level n c.spec
 
 -- the warning about a control level that no field has
 abbrev pub no_level_at : ℕ → SpecCard → Warning
-no_level_at n c = record { card = c.number; columns = asked_columns n c; kind = kind.NoLevel n }
+no_level_at n c = record { card = c.number; columns = tested_columns n c; kind = kind.NoLevel n }
 
--- a level that is asked, that no card turns on, and that no field has: at the first card that asks
+-- a level that is tested, that no card turns on, and that no field has: at the first card that tests it
 abbrev pub no_level : ℕ → List SpecCard → Option Warning
-no_level n cards = if is_level n && not (list_any (turns_on n) cards) && not (list_any (card_has_level n) cards) then option_map (no_level_at n) (find (asks n) cards) else None
+no_level n cards = if is_level n && not (list_any (turns_on n) cards) && not (list_any (card_has_level n) cards) then option_map (no_level_at n) (find (tests n) cards) else None
 
 -- one warning, or none
 abbrev pub listed : Option Warning → List Warning
@@ -185,7 +185,7 @@ listed w = option_to_list w
 
 -- what an indicator is warned of
 abbrev pub indicator_warnings : ℕ → List SpecCard → List Warning
-indicator_warnings n cards = listed (never_on n cards) ++ listed (never_asked n cards) ++ listed (no_level n cards)
+indicator_warnings n cards = listed (never_on n cards) ++ listed (never_tested n cards) ++ listed (no_level n cards)
 
 -- what the indicators up to a number are warned of
 unfoldable pub warnings_up_to : ℕ → List SpecCard → List Warning

@@ -18,7 +18,7 @@ use Rattle.rpg_cli_values.specs.declared.codes.WarningCodes.{WarningCodes}
 -- the code of a warning
 abbrev pub code : WarningKind → WarningCode
 code (kind.NeverOn n) = W1
-code (kind.NeverAsked n) = W2
+code (kind.NeverTested n) = W2
 code (kind.Overlap first last card) = W3
 code (kind.Shorter r f) = W4
 code (kind.NoLevel n) = W5

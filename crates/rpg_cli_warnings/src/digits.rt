@@ -30,7 +30,7 @@ fn digits_of(defined: Defined) -> Option<u16>
     ensures { result ≡ digits.whole_digits_of defined }
 {
     match defined {
-        Defined::Good(form) => whole_digits(form),
+        Defined::Valid(form) => whole_digits(form),
         Defined::Missing | Defined::Bad => None,
     }
 }

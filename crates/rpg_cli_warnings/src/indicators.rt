@@ -4,9 +4,9 @@ ghost use Rattle.std.specs.Prelude.{◌≡◌, ◌++◌, ◌≤◌, OnOk};
 ghost use Rattle.std.specs.List.{list_any};
 ghost use Rattle.rpg_cli_warnings.specs.Indicators as indicators;
 
-use crate::asking::{asked_columns, first_asking};
 use crate::levels::any_has_level;
-use crate::marks::{asked_by, shown_by};
+use crate::marks::{shown_by, tested_by};
+use crate::testing::{first_testing, tested_columns};
 use crate::turning::{any_turns_on, first_showing, shown_columns};
 use crate::warning::{Warning, WarningKind};
 use rpg_cards::SpecCard;
@@ -26,21 +26,21 @@ fn never_on(cards: &[SpecCard], indicator: u8) -> Option<Warning>
     if !is_of_cards(indicator) || any_turns_on(cards, indicator) {
         return None;
     }
-    match first_asking(cards, indicator) {
+    match first_testing(cards, indicator) {
         None => None,
         Some(card) => Some(Warning {
             card: card.number,
-            columns: asked_columns(card, indicator),
+            columns: tested_columns(card, indicator),
             kind: WarningKind::NeverOn { indicator },
         }),
     }
 }
 
 /// An indicator from 01 to 99 that is turned on to be tested but never tested, reported at the first card that turns it on.
-fn never_asked(cards: &[SpecCard], indicator: u8) -> Option<Warning>
-    ensures { result ≡ indicators.never_asked indicator cards.now }
+fn never_tested(cards: &[SpecCard], indicator: u8) -> Option<Warning>
+    ensures { result ≡ indicators.never_tested indicator cards.now }
 {
-    if indicator > 99 || first_asking(cards, indicator).is_some() {
+    if indicator > 99 || first_testing(cards, indicator).is_some() {
         return None;
     }
     match first_showing(cards, indicator) {
@@ -48,7 +48,7 @@ fn never_asked(cards: &[SpecCard], indicator: u8) -> Option<Warning>
         Some(card) => Some(Warning {
             card: card.number,
             columns: shown_columns(card, indicator),
-            kind: WarningKind::NeverAsked { indicator },
+            kind: WarningKind::NeverTested { indicator },
         }),
     }
 }
@@ -63,11 +63,11 @@ fn no_level(cards: &[SpecCard], indicator: u8) -> Option<Warning>
     {
         return None;
     }
-    match first_asking(cards, indicator) {
+    match first_testing(cards, indicator) {
         None => None,
         Some(card) => Some(Warning {
             card: card.number,
-            columns: asked_columns(card, indicator),
+            columns: tested_columns(card, indicator),
             kind: WarningKind::NoLevel { indicator },
         }),
     }
@@ -88,18 +88,18 @@ fn put_of(
     warnings: &mut Vec<Warning>,
     cards: &[SpecCard],
     indicator: u8,
-    is_asked: bool,
+    is_tested: bool,
     is_shown: bool,
 ) -> Result<(), AllocError>
-    requires asked { is_asked ≡ list_any (indicators.asks indicator) cards.now }
+    requires tested { is_tested ≡ list_any (indicators.tests indicator) cards.now }
     requires shown { is_shown ≡ list_any (indicators.shows indicator) cards.now }
     ensures { OnOk result (warnings.new.items ≡ warnings.old.items ++ indicators.indicator_warnings indicator cards.now) }
 {
-    if is_asked {
+    if is_tested {
         put(warnings, never_on(cards, indicator))?;
         put(warnings, no_level(cards, indicator))?;
     } else if is_shown {
-        put(warnings, never_asked(cards, indicator))?;
+        put(warnings, never_tested(cards, indicator))?;
     }
     Ok(())
 }
@@ -112,13 +112,13 @@ pub(crate) fn put_indicators(
 ) -> Result<(), AllocError>
     ensures { OnOk result (warnings.new.items ≡ warnings.old.items ++ indicators.warnings_up_to last cards.now) }
 {
-    let asked = asked_by(cards);
+    let tested = tested_by(cards);
     let shown = shown_by(cards);
     let mut indicator = 0;
     while indicator < last {
         indicator += 1;
         let number = usize::from(indicator);
-        put_of(warnings, cards, indicator, asked[number], shown[number])?;
+        put_of(warnings, cards, indicator, tested[number], shown[number])?;
     }
     Ok(())
 }

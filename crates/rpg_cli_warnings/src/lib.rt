@@ -2,7 +2,6 @@
 //! fields of a line, results that are shorter than their operands, page numbers with conditions, and halts.
 #![tactic(auto)]
 
-mod asking;
 mod digits;
 mod halts;
 mod indicators;
@@ -11,6 +10,7 @@ mod marks;
 mod messages;
 mod overlaps;
 mod pages;
+mod testing;
 mod turning;
 mod warning;
 mod warnings;

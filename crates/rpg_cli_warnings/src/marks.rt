@@ -5,15 +5,15 @@ ghost use Rattle.std.specs.List.{list_any};
 ghost use Rattle.rpg_cli_warnings.specs.Indicators as indicators;
 ghost use Rattle.rpg_cli_warnings.specs.Marks.{is_marked};
 
-use crate::asking::asked_on;
+use crate::testing::tested_on;
 use crate::turning::shown_on;
 use rpg_cards::SpecCard;
 use rpg_sheet_specs::{ConditionSpec, Indicator};
 
 /// Marks the number of a condition's indicator.
 #[tactic(auto, using(crate::proofs::Marking::mark_one, crate::proofs::Marking::or_false))]
-fn mark_asked(marks: &mut [bool; 256], condition: Option<ConditionSpec>)
-    ensures { (n : ℕ) → is_marked n marks.new ≡ (is_marked n marks.old || indicators.one_asks n condition) }
+fn mark_tested(marks: &mut [bool; 256], condition: Option<ConditionSpec>)
+    ensures { (n : ℕ) → is_marked n marks.new ≡ (is_marked n marks.old || indicators.one_tests n condition) }
 {
     if let Some(condition) = condition {
         marks[usize::from(condition.indicator.number())] = true;
@@ -22,23 +22,23 @@ fn mark_asked(marks: &mut [bool; 256], condition: Option<ConditionSpec>)
 
 /// Marks the indicators that a card tests.
 #[tactic(auto, using(crate::proofs::Marking::or_false))]
-fn note_asked(marks: &mut [bool; 256], card: &SpecCard)
-    ensures { (n : ℕ) → is_marked n marks.new ≡ (is_marked n marks.old || indicators.asks n card.now) }
+fn note_tested(marks: &mut [bool; 256], card: &SpecCard)
+    ensures { (n : ℕ) → is_marked n marks.new ≡ (is_marked n marks.old || indicators.tests n card.now) }
 {
-    if let Some(conditions) = asked_on(card) {
-        mark_asked(marks, conditions.first);
-        mark_asked(marks, conditions.second);
-        mark_asked(marks, conditions.third);
+    if let Some(conditions) = tested_on(card) {
+        mark_tested(marks, conditions.first);
+        mark_tested(marks, conditions.second);
+        mark_tested(marks, conditions.third);
     }
 }
 
 /// Marks each indicator that one of the cards tests.
-pub(crate) fn asked_by(cards: &[SpecCard]) -> [bool; 256]
-    ensures { (n : ℕ) → is_marked n result ≡ list_any (indicators.asks n) cards.now }
+pub(crate) fn tested_by(cards: &[SpecCard]) -> [bool; 256]
+    ensures { (n : ℕ) → is_marked n result ≡ list_any (indicators.tests n) cards.now }
 {
     let mut marks = [false; 256];
     for card in cards {
-        note_asked(&mut marks, card);
+        note_tested(&mut marks, card);
     }
     marks
 }

@@ -1,7 +1,7 @@
 //! The diagnostics for the warnings of a source.
 
 use crate::warning::{Warning, WarningKind};
-use rpg_cli_messages::{CardLines, write_picture, write_place, write_told};
+use rpg_cli_messages::{CardLines, write_picture, write_place, write_reported};
 use rpg_cli_show_fields::Indicator;
 use rpg_cli_text::TextWriter;
 use std::alloc::{AllocError, Global};
@@ -32,7 +32,7 @@ fn write_sentence(out: &mut TextWriter, kind: WarningKind) {
             "indicator {} is tested, and nothing turns it on",
             indicator,
         ),
-        WarningKind::NeverAsked { indicator } => (
+        WarningKind::NeverTested { indicator } => (
             "indicator {} is turned on, and no card tests it",
             indicator,
         ),
@@ -76,7 +76,7 @@ fn write_count(out: &mut TextWriter, path: &str, count: usize, most: u16) {
         &[path.as_bytes().into(), count.into(), of_warnings.into()],
     );
     if count > usize::from(most) {
-        write_told(out, most);
+        write_reported(out, most);
     }
     out.write_char('\n');
 }

@@ -14,7 +14,7 @@ pub enum WarningKind {
         indicator: u8,
     },
     /// It turns on an indicator that no card tests.
-    NeverAsked {
+    NeverTested {
         indicator: u8,
     },
     /// Its field has these places of the line, some of which another card's field has
@@ -48,7 +48,7 @@ impl WarningKind {
     {
         match self {
             WarningKind::NeverOn { .. } => WarningCode::W1,
-            WarningKind::NeverAsked { .. } => WarningCode::W2,
+            WarningKind::NeverTested { .. } => WarningCode::W2,
             WarningKind::Overlap { .. } => WarningCode::W3,
             WarningKind::Shorter { .. } => WarningCode::W4,
             WarningKind::NoLevel { .. } => WarningCode::W5,

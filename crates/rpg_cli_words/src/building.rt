@@ -2,49 +2,49 @@
 //!
 //! An argument is built by a chain of small functions: the proof of a chain of calls grows with its length.
 
-use crate::commands::{COMMANDS, CommandRow, Word, line_of};
+use crate::commands::{Argument, COMMANDS, CommandRow, line_of};
 use clap::error::ErrorKind;
 use clap::{Arg, ArgMatches, Command, Error};
 use std::alloc::{AllocError, Global};
 
 /// Builds an argument with only its name, its help and whether it is required.
-fn plain<'a>(alloc: Global, word: Word) -> Arg<'a> {
-    Arg::new(alloc, word.name)
-        .help(word.help)
-        .required(word.is_required())
+fn plain<'a>(alloc: Global, argument: Argument) -> Arg<'a> {
+    Arg::new(alloc, argument.name)
+        .help(argument.help)
+        .required(argument.is_required())
 }
 
 /// Adds its name, unless it is positional.
-fn named<'a>(alloc: Global, word: Word) -> Arg<'a> {
-    if word.is_placed() {
-        plain(alloc, word)
-    } else if word.is_quiet() {
-        plain(alloc, word).long(word.name).short('q')
+fn named<'a>(alloc: Global, argument: Argument) -> Arg<'a> {
+    if argument.is_placed() {
+        plain(alloc, argument)
+    } else if argument.is_quiet() {
+        plain(alloc, argument).long(argument.name).short('q')
     } else {
-        plain(alloc, word).long(word.name)
+        plain(alloc, argument).long(argument.name)
     }
 }
 
 /// Adds its action and its value parser.
-fn parsed<'a>(alloc: Global, word: Word) -> Arg<'a> {
-    named(alloc, word)
-        .action(word.action())
-        .value_parser(word.value_parser())
+fn parsed<'a>(alloc: Global, argument: Argument) -> Arg<'a> {
+    named(alloc, argument)
+        .action(argument.action())
+        .value_parser(argument.value_parser())
 }
 
 /// Adds how many values it takes, what help calls them, and their defaults.
-fn valued<'a>(alloc: Global, word: Word) -> Arg<'a> {
-    parsed(alloc, word)
-        .num_args(word.values())
-        .value_name(word.value)
-        .default_values(word.defaults())
+fn valued<'a>(alloc: Global, argument: Argument) -> Arg<'a> {
+    parsed(alloc, argument)
+        .num_args(argument.values())
+        .value_name(argument.value)
+        .default_values(argument.defaults())
 }
 
 /// Builds an argument for clap, with the one that conflicts with it, and the one that can replace it.
-fn arg<'a>(alloc: Global, word: Word) -> Result<Arg<'a>, AllocError> {
-    valued(alloc, word)
-        .conflicts_with_all(word.other.as_slice())?
-        .required_unless_present_any(word.unless().as_slice())
+fn arg<'a>(alloc: Global, argument: Argument) -> Result<Arg<'a>, AllocError> {
+    valued(alloc, argument)
+        .conflicts_with_all(argument.other.as_slice())?
+        .required_unless_present_any(argument.unless().as_slice())
 }
 
 /// Appends what was built, unless memory ran out for it.
@@ -57,14 +57,14 @@ fn put<T: Drop>(made: &mut Vec<T>, one: Result<T, AllocError>) -> Result<(), All
 fn args_of<'a>(alloc: Global, keys: &'static str) -> Result<Vec<Arg<'a>>, AllocError> {
     let mut args = Vec::new(alloc);
     for key in keys.split(' ') {
-        put(&mut args, arg(alloc, Word::of(key)))?;
+        put(&mut args, arg(alloc, Argument::of(key)))?;
     }
     Ok(args)
 }
 
 /// Builds a command with its arguments.
 fn command_of<'a>(alloc: Global, row: CommandRow) -> Result<Command<'a>, AllocError> {
-    let args = args_of(alloc, row.words)?;
+    let args = args_of(alloc, row.arguments)?;
     Command::new(alloc, row.name).about(row.about).args(args)
 }
 
@@ -79,8 +79,8 @@ fn commands<'a>(alloc: Global, lines: &'static str) -> Result<Vec<Command<'a>>, 
 
 /// Returns the line of the command named after the program, or those of all commands, as when help is requested: clap reads no other
 /// command, and each costs some ten allocations.
-fn lines_of(words: &[String]) -> &'static str {
-    match words.get(1) {
+fn lines_of(arguments: &[String]) -> &'static str {
+    match arguments.get(1) {
         Some(first) => line_of(first).unwrap_or(COMMANDS),
         None => COMMANDS,
     }
@@ -112,8 +112,11 @@ fn command<'a>(alloc: Global, lines: &'static str) -> Result<Command<'a>, AllocE
 }
 
 /// Parses the arguments, or returns what clap reports instead. The first argument is the program's name.
-pub(crate) fn matches_of<'a>(alloc: Global, words: &'a [String]) -> Result<ArgMatches<'a>, Error> {
-    command(alloc, lines_of(words))?.try_get_matches_from(words)
+pub(crate) fn matches_of<'a>(
+    alloc: Global,
+    arguments: &'a [String],
+) -> Result<ArgMatches<'a>, Error> {
+    command(alloc, lines_of(arguments))?.try_get_matches_from(arguments)
 }
 
 /// A fault of the command line that clap doesn't detect, in clap's form, for a program of this name.

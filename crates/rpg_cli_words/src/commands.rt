@@ -40,7 +40,7 @@ go: SRC INPUT PRINT.go date secondary disk most keep trace watch allowance fault
 /// | `C` | the code of a warning, several times |
 ///
 /// `=VALUE` after the letter is what help calls the value, and `!OTHER` names an argument that conflicts with this one.
-const WORDS: &str = "SRC R The source, one card per line; - is standard input
+const ARGUMENTS: &str = "SRC R The source, one card per line; - is standard input
 SRC.each S The sources, one card per line; - is standard input
 SRC.short R The lines of shorthand, or with --short the cards; - is standard input
 SRC.old R The old deck, one card per line
@@ -101,15 +101,19 @@ pub(crate) fn cut(text: &'static str, mark: &str) -> (&'static str, &'static str
 pub(crate) struct CommandRow {
     pub name: &'static str,
     /// The keys of its arguments.
-    pub words: &'static str,
+    pub arguments: &'static str,
     pub about: &'static str,
 }
 
 impl CommandRow {
     pub fn of(line: &'static str) -> CommandRow {
         let (name, rest) = cut(line, ": ");
-        let (words, about) = cut(rest, ": ");
-        CommandRow { name, words, about }
+        let (arguments, about) = cut(rest, ": ");
+        CommandRow {
+            name,
+            arguments,
+            about,
+        }
     }
 }
 
@@ -125,7 +129,7 @@ pub(crate) fn line_of(name: &str) -> Option<&'static str> {
 
 /// An argument of a command, as its line describes it.
 #[derive(Clone, Copy)]
-pub(crate) struct Word {
+pub(crate) struct Argument {
     pub name: &'static str,
     pub help: &'static str,
     letter: u8,
@@ -137,7 +141,7 @@ pub(crate) struct Word {
 
 /// Returns what follows a key in the line of its argument.
 fn row_of(key: &str) -> &'static str {
-    for line in WORDS.lines() {
+    for line in ARGUMENTS.lines() {
         let (found, row) = cut(line, " ");
         if found == key {
             return row;
@@ -146,13 +150,13 @@ fn row_of(key: &str) -> &'static str {
     ""
 }
 
-impl Word {
+impl Argument {
     /// Returns the argument with this key.
-    pub fn of(key: &'static str) -> Word {
+    pub fn of(key: &'static str) -> Argument {
         let (name, _) = cut(key, ".");
         let (kind, help) = cut(row_of(key), " ");
         let (kind, other) = cut(kind, "!");
-        Word {
+        Argument {
             name,
             help,
             letter: kind.as_bytes().first().copied().unwrap_or(b'F'),

@@ -2,24 +2,24 @@
 
 use crate::format::{Format, format_of};
 use crate::given::needed;
-use crate::request::{FileWord, Request, may_be_standard};
+use crate::request::{FileArgument, Request, may_be_standard};
 use clap::ArgMatches;
 use std::alloc::{AllocError, Global};
 
 /// A table file: its name on F and E cards, and the path of its records.
 #[derive(Clone, Copy)]
-pub struct TableWord<'a> {
+pub struct TableArgument<'a> {
     pub name: &'a str,
     pub path: &'a str,
 }
 
 /// The arguments of `fit`.
 #[derive(Drop)]
-pub struct FitWords<'a> {
+pub struct FitArguments<'a> {
     pub source: &'a str,
     /// Where the new deck goes, a file or `-`, if it is written.
     pub new_deck: Option<&'a str>,
-    pub tables: Vec<TableWord<'a>>,
+    pub tables: Vec<TableArgument<'a>>,
     /// Eight digits: for each of U1 to U8 whether it is on. All are off by default.
     pub switches: Option<&'a str>,
     /// Whether each form keeps at most the lines of its L card.
@@ -27,7 +27,7 @@ pub struct FitWords<'a> {
     pub format: Format,
 }
 
-impl<'a> FitWords<'a> {
+impl<'a> FitArguments<'a> {
     /// Returns the name of the new deck in diagnostics: its file, or NEW if it isn't written.
     pub fn new_name(&self) -> &'a str {
         self.new_deck.unwrap_or("NEW")
@@ -38,20 +38,20 @@ impl<'a> FitWords<'a> {
         may_be_standard(self.new_deck)
     }
 
-    pub(crate) fn path(&self, word: FileWord) -> Option<&'a str> {
-        match word {
-            FileWord::Source => Some(self.source),
-            FileWord::Fitted => self.new_deck,
-            FileWord::Table(place) => Some(self.tables.get(place)?.path),
+    pub(crate) fn path(&self, argument: FileArgument) -> Option<&'a str> {
+        match argument {
+            FileArgument::Source => Some(self.source),
+            FileArgument::Fitted => self.new_deck,
+            FileArgument::Table(place) => Some(self.tables.get(place)?.path),
             _ => None,
         }
     }
 }
 
 /// Returns the table file of an argument `NAME=FILE`.
-fn table_of(text: &str) -> Option<TableWord<'_>> {
+fn table_of(text: &str) -> Option<TableArgument<'_>> {
     let (name, path) = text.split_once('=')?;
-    (!name.is_empty()).then_some(TableWord { name, path })
+    (!name.is_empty()).then_some(TableArgument { name, path })
 }
 
 /// Whether a text has a digit 0 or 1 for each switch.
@@ -99,17 +99,20 @@ pub(crate) fn fault_of(given: &ArgMatches) -> Option<&'static str> {
 }
 
 /// Returns the table files that the arguments name.
-fn tables_of<'a>(alloc: Global, given: &ArgMatches<'a>) -> Result<Vec<TableWord<'a>>, AllocError> {
+fn tables_of<'a>(
+    alloc: Global,
+    given: &ArgMatches<'a>,
+) -> Result<Vec<TableArgument<'a>>, AllocError> {
     let texts = given.get_strs("table").unwrap_or(&[]);
     texts.iter().copied().filter_map(table_of).collect(alloc)
 }
 
-pub(crate) fn fit_words<'a>(
+pub(crate) fn fit_arguments<'a>(
     alloc: Global,
     given: &ArgMatches<'a>,
 ) -> Result<Request<'a>, AllocError> {
     let tables = tables_of(alloc, given)?;
-    Ok(Request::Fit(FitWords {
+    Ok(Request::Fit(FitArguments {
         source: needed(given, "SRC"),
         new_deck: given.get_str("NEW"),
         tables,

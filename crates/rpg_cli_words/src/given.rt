@@ -1,23 +1,23 @@
 //! The values of arguments that clap requires.
 
-use crate::commands::{CommandRow, Word, line_of};
+use crate::commands::{Argument, CommandRow, line_of};
 use clap::ArgMatches;
 
 /// Whether an argument, or the one that can replace it, is there, or it is optional.
-fn is_there(word: Word, given: &ArgMatches<'_>) -> bool {
-    if given.get_str(word.name).is_some() {
+fn is_there(argument: Argument, given: &ArgMatches<'_>) -> bool {
+    if given.get_str(argument.name).is_some() {
         return true;
     }
-    match word.unless() {
+    match argument.unless() {
         Some(other) => given.get_str(other).is_some(),
-        None => !word.is_required(),
+        None => !argument.is_required(),
     }
 }
 
 /// Whether all required arguments of these keys are there.
 fn are_there(keys: &'static str, given: &ArgMatches<'_>) -> bool {
     for key in keys.split(' ') {
-        if !is_there(Word::of(key), given) {
+        if !is_there(Argument::of(key), given) {
             return false;
         }
     }
@@ -28,7 +28,7 @@ fn are_there(keys: &'static str, given: &ArgMatches<'_>) -> bool {
 /// run instead.
 pub(crate) fn is_whole(name: &str, given: &ArgMatches<'_>) -> bool {
     match line_of(name) {
-        Some(line) => are_there(CommandRow::of(line).words, given),
+        Some(line) => are_there(CommandRow::of(line).arguments, given),
         None => false,
     }
 }

@@ -2,25 +2,25 @@
 
 ghost use Rattle.std.specs.Prelude.{◌<◌};
 
-use crate::request::{FileWord, Request, RunWords, allowance_of, run_words};
-use crate::warned::{WarningWords, warning_words};
+use crate::request::{FileArgument, Request, RunArguments, allowance_of, run_arguments};
+use crate::warned::{WarningArguments, warning_arguments};
 use clap::ArgMatches;
 
 /// The arguments of `go`.
 #[derive(Clone, Copy)]
-pub struct GoWords<'a> {
+pub struct GoArguments<'a> {
     /// The arguments of the run, whose program is a source.
-    pub run: RunWords<'a>,
+    pub run: RunArguments<'a>,
     /// How many backward branches and calls a cycle may take.
     pub allowance: u16,
-    pub warnings: WarningWords,
+    pub warnings: WarningArguments,
     ghost positive: { 0 < allowance },
 }
 
-impl<'a> GoWords<'a> {
+impl<'a> GoArguments<'a> {
     /// Returns these arguments with those of another run.
-    pub fn with<'b>(&'b self, run: RunWords<'b>) -> GoWords<'b> {
-        GoWords {
+    pub fn with<'b>(&'b self, run: RunArguments<'b>) -> GoArguments<'b> {
+        GoArguments {
             run,
             allowance: self.allowance,
             warnings: self.warnings,
@@ -28,10 +28,10 @@ impl<'a> GoWords<'a> {
     }
 }
 
-pub(crate) fn go_words<'a>(given: &ArgMatches<'a>) -> Request<'a> {
-    Request::Go(GoWords {
-        run: run_words(given, FileWord::Source),
+pub(crate) fn go_arguments<'a>(given: &ArgMatches<'a>) -> Request<'a> {
+    Request::Go(GoArguments {
+        run: run_arguments(given, FileArgument::Source),
         allowance: allowance_of(given),
-        warnings: warning_words(given),
+        warnings: warning_arguments(given),
     })
 }

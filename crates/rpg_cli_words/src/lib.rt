@@ -13,15 +13,16 @@ mod records;
 mod request;
 mod warned;
 
-pub use fitting::{FitWords, TableWord};
+pub use fitting::{FitArguments, TableArgument};
 pub use format::Format;
-pub use going::GoWords;
-pub use listing::{CardsWanted, CardsWords, ListWords};
-pub use looks::LookWords;
-pub use records::{RecordFraming, RecordsWay, RecordsWords};
+pub use going::GoArguments;
+pub use listing::{CardsArguments, CardsWanted, ListArguments};
+pub use looks::LookArguments;
+pub use records::{RecordFraming, RecordsArguments, RecordsWay};
 pub use request::{
-    CheckWords, CompileWords, ExplainWords, FileWord, Refusal, Request, RunWords, SameFile, Shared,
-    ShowWords, VerifyWords, is_standard, refuse_bytes, refuse_same_file, request_of,
+    CheckArguments, CompileArguments, ExplainArguments, FileArgument, Refusal, Request,
+    RunArguments, SameFile, Shared, ShowArguments, VerifyArguments, is_standard, refuse_bytes,
+    refuse_same_file, request_of,
 };
-pub use rpg_cli_values::DateWord;
-pub use warned::WarningWords;
+pub use rpg_cli_values::DateArgument;
+pub use warned::WarningArguments;

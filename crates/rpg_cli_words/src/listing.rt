@@ -7,14 +7,14 @@ use clap::ArgMatches;
 
 /// The arguments of `list`.
 #[derive(Clone, Copy)]
-pub struct ListWords<'a> {
+pub struct ListArguments<'a> {
     pub source: &'a str,
     pub format: Format,
 }
 
 /// The arguments of `cards`.
 #[derive(Clone, Copy)]
-pub struct CardsWords<'a> {
+pub struct CardsArguments<'a> {
     pub source: &'a str,
     /// What the source is converted to.
     pub wanted: CardsWanted,
@@ -29,8 +29,8 @@ pub enum CardsWanted {
     Shorthand,
 }
 
-pub(crate) fn list_words<'a>(given: &ArgMatches<'a>) -> Request<'a> {
-    Request::List(ListWords {
+pub(crate) fn list_arguments<'a>(given: &ArgMatches<'a>) -> Request<'a> {
+    Request::List(ListArguments {
         source: needed(given, "SRC"),
         format: format_of(given),
     })
@@ -46,8 +46,8 @@ fn wanted(given: &ArgMatches) -> CardsWanted {
     }
 }
 
-pub(crate) fn cards_words<'a>(given: &ArgMatches<'a>) -> Request<'a> {
-    Request::Cards(CardsWords {
+pub(crate) fn cards_arguments<'a>(given: &ArgMatches<'a>) -> Request<'a> {
+    Request::Cards(CardsArguments {
         source: needed(given, "SRC"),
         wanted: wanted(given),
     })

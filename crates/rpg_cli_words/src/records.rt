@@ -2,7 +2,7 @@
 
 use crate::format::{Format, format_of};
 use crate::given::needed;
-use crate::request::{FileWord, Request, may_be_standard};
+use crate::request::{FileArgument, Request, may_be_standard};
 use clap::ArgMatches;
 
 /// The direction of the conversion.
@@ -26,7 +26,7 @@ pub enum RecordFraming {
 
 /// The arguments of `records`.
 #[derive(Clone, Copy)]
-pub struct RecordsWords<'a> {
+pub struct RecordsArguments<'a> {
     /// The records or the lines, a file or `-`.
     pub input: &'a str,
     pub output: &'a str,
@@ -48,21 +48,21 @@ pub struct RecordsWords<'a> {
     pub format: Format,
 }
 
-impl<'a> RecordsWords<'a> {
+impl<'a> RecordsArguments<'a> {
     /// Returns the argument of the deck.
-    pub fn deck_word(&self) -> FileWord {
+    pub fn deck_argument(&self) -> FileArgument {
         match self.way {
-            RecordsWay::ToLines => FileWord::By,
-            RecordsWay::ToRecords => FileWord::To,
+            RecordsWay::ToLines => FileArgument::By,
+            RecordsWay::ToRecords => FileArgument::To,
         }
     }
 
-    pub(crate) fn path(&self, word: FileWord) -> Option<&'a str> {
-        match word {
-            FileWord::In => Some(self.input),
-            FileWord::Out => Some(self.output),
-            FileWord::By | FileWord::To => Some(self.deck),
-            FileWord::NewDeck => self.new_deck,
+    pub(crate) fn path(&self, argument: FileArgument) -> Option<&'a str> {
+        match argument {
+            FileArgument::In => Some(self.input),
+            FileArgument::Out => Some(self.output),
+            FileArgument::By | FileArgument::To => Some(self.deck),
+            FileArgument::NewDeck => self.new_deck,
             _ => None,
         }
     }
@@ -116,9 +116,9 @@ pub(crate) fn fault_of(given: &ArgMatches) -> Option<&'static str> {
     }
 }
 
-pub(crate) fn records_words<'a>(given: &ArgMatches<'a>) -> Request<'a> {
+pub(crate) fn records_arguments<'a>(given: &ArgMatches<'a>) -> Request<'a> {
     let (deck, way) = deck(given);
-    Request::Records(RecordsWords {
+    Request::Records(RecordsArguments {
         input: needed(given, "IN"),
         output: needed(given, "OUT"),
         deck,

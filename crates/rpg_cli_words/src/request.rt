@@ -4,54 +4,54 @@ ghost use Rattle.std.specs.Prelude.{◌<◌, ◌≤◌};
 
 use crate::building::{fault, matches_of};
 use crate::commands::cut;
-use crate::fitting::{self, FitWords, fit_words};
+use crate::fitting::{self, FitArguments, fit_arguments};
 use crate::format::{Format, format_of};
 use crate::given::{is_whole, needed};
-use crate::going::{GoWords, go_words};
-use crate::listing::{CardsWords, ListWords, cards_words, list_words};
-use crate::looks::{LookWords, look_words};
-use crate::records::{RecordsWords, fault_of, records_words};
-use crate::warned::{WarningWords, texts, warning_words};
+use crate::going::{GoArguments, go_arguments};
+use crate::listing::{CardsArguments, ListArguments, cards_arguments, list_arguments};
+use crate::looks::{LookArguments, look_arguments};
+use crate::records::{RecordsArguments, fault_of, records_arguments};
+use crate::warned::{WarningArguments, texts, warning_arguments};
 use clap::error::ErrorKind;
 use clap::{ArgMatches, Error};
-use rpg_cli_values::DateWord;
+use rpg_cli_values::DateArgument;
 use std::alloc::{AllocError, Global};
 
 /// What the arguments request.
 #[derive(Drop)]
 pub enum Request<'a> {
     /// Compiles a source.
-    Compile(CompileWords<'a>),
+    Compile(CompileArguments<'a>),
     /// Reports all faults of sources.
-    Check(CheckWords<'a>),
+    Check(CheckArguments<'a>),
     /// Lists a source.
-    List(ListWords<'a>),
+    List(ListArguments<'a>),
     /// Converts shorthand to cards, or cards to shorthand.
-    Cards(CardsWords<'a>),
+    Cards(CardsArguments<'a>),
     /// Converts records to lines, or lines to records.
-    Records(RecordsWords<'a>),
+    Records(RecordsArguments<'a>),
     /// Rewrites an old deck.
-    Fit(FitWords<'a>),
+    Fit(FitArguments<'a>),
     /// Verifies an object program.
-    Verify(VerifyWords<'a>),
+    Verify(VerifyArguments<'a>),
     /// Shows an object program.
-    Show(ShowWords<'a>),
+    Show(ShowArguments<'a>),
     /// Runs an object program.
-    Run(RunWords<'a>),
+    Run(RunArguments<'a>),
     /// Compiles a source and runs it.
-    Go(GoWords<'a>),
+    Go(GoArguments<'a>),
     /// Explains codes.
-    Explain(ExplainWords<'a>),
+    Explain(ExplainArguments<'a>),
 }
 
 /// The arguments of `compile`.
 #[derive(Clone, Copy)]
-pub struct CompileWords<'a> {
+pub struct CompileArguments<'a> {
     pub source: &'a str,
     pub object: &'a str,
     /// How many backward branches and calls a cycle may take.
     pub allowance: u16,
-    pub warnings: WarningWords,
+    pub warnings: WarningArguments,
     /// Whether no line is printed if the exit status is 0.
     pub is_quiet: bool,
     pub format: Format,
@@ -60,9 +60,9 @@ pub struct CompileWords<'a> {
 
 /// The arguments of `check`.
 #[derive(Drop)]
-pub struct CheckWords<'a> {
+pub struct CheckArguments<'a> {
     pub sources: Vec<&'a str>,
-    pub warnings: WarningWords,
+    pub warnings: WarningArguments,
     /// Whether no line is printed if the exit status is 0.
     pub is_quiet: bool,
     pub format: Format,
@@ -70,7 +70,7 @@ pub struct CheckWords<'a> {
 
 /// The arguments of `verify`.
 #[derive(Clone, Copy)]
-pub struct VerifyWords<'a> {
+pub struct VerifyArguments<'a> {
     pub object: &'a str,
     /// Whether no line is printed if the exit status is 0.
     pub is_quiet: bool,
@@ -79,7 +79,7 @@ pub struct VerifyWords<'a> {
 
 /// The arguments of `show`.
 #[derive(Clone, Copy)]
-pub struct ShowWords<'a> {
+pub struct ShowArguments<'a> {
     pub object: &'a str,
     /// The source of the object program, if the arguments name it.
     pub source: Option<&'a str>,
@@ -90,17 +90,17 @@ pub struct ShowWords<'a> {
 
 /// The arguments of `run`.
 #[derive(Clone, Copy)]
-pub struct RunWords<'a> {
+pub struct RunArguments<'a> {
     /// The object program, or the source that is compiled to it.
     pub object: &'a str,
     /// The argument that names it: OBJ or SRC.
-    pub program: FileWord,
+    pub program: FileArgument,
     /// The records, a file or `-`.
     pub input: &'a str,
     /// Where the printed lines go, a file or `-`.
     pub print: &'a str,
     /// The date, if the arguments have one.
-    pub date: Option<DateWord<'a>>,
+    pub date: Option<DateArgument<'a>>,
     /// The records of a secondary file, if the arguments name them.
     pub secondary: Option<&'a str>,
     /// Where the records of a disk file go, if the arguments name it.
@@ -111,7 +111,7 @@ pub struct RunWords<'a> {
     pub keeps: bool,
     /// The source of the object program, if the arguments name it.
     pub source: Option<&'a str>,
-    pub looks: LookWords,
+    pub looks: LookArguments,
     /// Whether no line is printed if the exit status is 0.
     pub is_quiet: bool,
     pub format: Format,
@@ -119,7 +119,7 @@ pub struct RunWords<'a> {
 
 /// The arguments of `explain`.
 #[derive(Drop)]
-pub struct ExplainWords<'a> {
+pub struct ExplainArguments<'a> {
     /// The codes, with the number of a halt as an argument of its own; if there are none, all are explained.
     pub codes: Vec<&'a str>,
     /// Whether to print a line for each code instead of pages.
@@ -128,7 +128,7 @@ pub struct ExplainWords<'a> {
 
 /// An argument that names a file.
 #[derive(Clone, Copy)]
-pub enum FileWord {
+pub enum FileArgument {
     Source,
     Object,
     Input,
@@ -152,42 +152,42 @@ pub enum FileWord {
     Table(usize),
 }
 
-impl FileWord {
+impl FileArgument {
     /// Returns the name of the argument in the help.
     pub fn name(self) -> &'static str {
         match self {
-            FileWord::Source => "SRC",
-            FileWord::Object => "OBJ",
-            FileWord::Input => "INPUT",
-            FileWord::Secondary => "--secondary FILE",
-            FileWord::Print => "PRINT",
-            FileWord::Disk => "--disk FILE",
-            FileWord::OwnSource | FileWord::By | FileWord::To => "SRC",
-            FileWord::In => "IN",
-            FileWord::Out => "OUT",
-            FileWord::NewDeck => "--deck NEW",
-            FileWord::Fitted => "NEW",
-            FileWord::Table(_) => "--table NAME=FILE",
+            FileArgument::Source => "SRC",
+            FileArgument::Object => "OBJ",
+            FileArgument::Input => "INPUT",
+            FileArgument::Secondary => "--secondary FILE",
+            FileArgument::Print => "PRINT",
+            FileArgument::Disk => "--disk FILE",
+            FileArgument::OwnSource | FileArgument::By | FileArgument::To => "SRC",
+            FileArgument::In => "IN",
+            FileArgument::Out => "OUT",
+            FileArgument::NewDeck => "--deck NEW",
+            FileArgument::Fitted => "NEW",
+            FileArgument::Table(_) => "--table NAME=FILE",
         }
     }
 
     /// Returns the argument as in clap's texts.
     fn text(self) -> &'static str {
         match self {
-            FileWord::Source => "<SRC>",
-            FileWord::Object => "<OBJ>",
-            FileWord::Input => "<INPUT>",
-            FileWord::Secondary => "--secondary <FILE>",
-            FileWord::Print => "<PRINT>",
-            FileWord::Disk => "--disk <FILE>",
-            FileWord::OwnSource => "--source <SRC>",
-            FileWord::In => "<IN>",
-            FileWord::Out => "<OUT>",
-            FileWord::By => "--by <SRC>",
-            FileWord::To => "--to <SRC>",
-            FileWord::NewDeck => "--deck <NEW>",
-            FileWord::Fitted => "[NEW]",
-            FileWord::Table(_) => "--table <NAME=FILE>",
+            FileArgument::Source => "<SRC>",
+            FileArgument::Object => "<OBJ>",
+            FileArgument::Input => "<INPUT>",
+            FileArgument::Secondary => "--secondary <FILE>",
+            FileArgument::Print => "<PRINT>",
+            FileArgument::Disk => "--disk <FILE>",
+            FileArgument::OwnSource => "--source <SRC>",
+            FileArgument::In => "<IN>",
+            FileArgument::Out => "<OUT>",
+            FileArgument::By => "--by <SRC>",
+            FileArgument::To => "--to <SRC>",
+            FileArgument::NewDeck => "--deck <NEW>",
+            FileArgument::Fitted => "[NEW]",
+            FileArgument::Table(_) => "--table <NAME=FILE>",
         }
     }
 }
@@ -196,8 +196,8 @@ impl FileWord {
 /// one's data.
 #[derive(Clone, Copy)]
 pub struct SameFile {
-    pub earlier: FileWord,
-    pub written: FileWord,
+    pub earlier: FileArgument,
+    pub written: FileArgument,
     pub shared: Shared,
 }
 
@@ -225,22 +225,22 @@ impl Shared {
 
 /// Returns the file of an argument, for a command that has a source, an object program, or both.
 fn program_path<'a>(
-    word: FileWord,
+    argument: FileArgument,
     source: Option<&'a str>,
     object: Option<&'a str>,
 ) -> Option<&'a str> {
-    match word {
-        FileWord::Source => source,
-        FileWord::Object => object,
+    match argument {
+        FileArgument::Source => source,
+        FileArgument::Object => object,
         _ => None,
     }
 }
 
-impl<'a> ShowWords<'a> {
-    fn path(&self, word: FileWord) -> Option<&'a str> {
-        match word {
-            FileWord::Object => Some(self.object),
-            FileWord::OwnSource => self.source,
+impl<'a> ShowArguments<'a> {
+    fn path(&self, argument: FileArgument) -> Option<&'a str> {
+        match argument {
+            FileArgument::Object => Some(self.object),
+            FileArgument::OwnSource => self.source,
             _ => None,
         }
     }
@@ -248,18 +248,26 @@ impl<'a> ShowWords<'a> {
 
 impl<'a> Request<'a> {
     /// Returns the file that an argument names, if it is there.
-    pub fn path(&self, word: FileWord) -> Option<&'a str> {
+    pub fn path(&self, argument: FileArgument) -> Option<&'a str> {
         match self {
-            Request::Compile(words) => program_path(word, Some(words.source), Some(words.object)),
-            Request::Check(words) => program_path(word, words.sources.first().copied(), None),
-            Request::List(words) => program_path(word, Some(words.source), None),
-            Request::Cards(words) => program_path(word, Some(words.source), None),
-            Request::Verify(words) => program_path(word, None, Some(words.object)),
-            Request::Show(words) => words.path(word),
-            Request::Run(words) => words.path(word),
-            Request::Go(words) => words.run.path(word),
-            Request::Records(words) => words.path(word),
-            Request::Fit(words) => words.path(word),
+            Request::Compile(arguments) => program_path(
+                argument,
+                Some(arguments.source),
+                Some(arguments.object),
+            ),
+            Request::Check(arguments) => program_path(
+                argument,
+                arguments.sources.first().copied(),
+                None,
+            ),
+            Request::List(arguments) => program_path(argument, Some(arguments.source), None),
+            Request::Cards(arguments) => program_path(argument, Some(arguments.source), None),
+            Request::Verify(arguments) => program_path(argument, None, Some(arguments.object)),
+            Request::Show(arguments) => arguments.path(argument),
+            Request::Run(arguments) => arguments.path(argument),
+            Request::Go(arguments) => arguments.run.path(argument),
+            Request::Records(arguments) => arguments.path(argument),
+            Request::Fit(arguments) => arguments.path(argument),
             Request::Explain(_) => None,
         }
     }
@@ -267,11 +275,11 @@ impl<'a> Request<'a> {
     /// Whether no line is printed if the exit status is 0.
     pub fn is_quiet(&self) -> bool {
         match self {
-            Request::Compile(words) => words.is_quiet,
-            Request::Check(words) => words.is_quiet,
-            Request::Verify(words) => words.is_quiet,
-            Request::Run(words) => words.is_quiet,
-            Request::Go(words) => words.run.is_quiet,
+            Request::Compile(arguments) => arguments.is_quiet,
+            Request::Check(arguments) => arguments.is_quiet,
+            Request::Verify(arguments) => arguments.is_quiet,
+            Request::Run(arguments) => arguments.is_quiet,
+            Request::Go(arguments) => arguments.run.is_quiet,
             _ => false,
         }
     }
@@ -279,15 +287,15 @@ impl<'a> Request<'a> {
     /// Returns the form of diagnostics and of the answer.
     pub fn format(&self) -> Format {
         match self {
-            Request::Compile(words) => words.format,
-            Request::Check(words) => words.format,
-            Request::List(words) => words.format,
-            Request::Records(words) => words.format,
-            Request::Fit(words) => words.format,
-            Request::Verify(words) => words.format,
-            Request::Show(words) => words.format,
-            Request::Run(words) => words.format,
-            Request::Go(words) => words.run.format,
+            Request::Compile(arguments) => arguments.format,
+            Request::Check(arguments) => arguments.format,
+            Request::List(arguments) => arguments.format,
+            Request::Records(arguments) => arguments.format,
+            Request::Fit(arguments) => arguments.format,
+            Request::Verify(arguments) => arguments.format,
+            Request::Show(arguments) => arguments.format,
+            Request::Run(arguments) => arguments.format,
+            Request::Go(arguments) => arguments.run.format,
             Request::Cards(_) | Request::Explain(_) => Format::Text,
         }
     }
@@ -295,9 +303,9 @@ impl<'a> Request<'a> {
     /// Whether the output of a command goes to standard output, so that the line of its answer can't.
     pub fn writes_standard_output(&self) -> bool {
         match self {
-            Request::Run(words) => words.writes_standard_output(),
-            Request::Go(words) => words.run.writes_standard_output(),
-            Request::Fit(words) => words.writes_standard_output(),
+            Request::Run(arguments) => arguments.writes_standard_output(),
+            Request::Go(arguments) => arguments.run.writes_standard_output(),
+            Request::Fit(arguments) => arguments.writes_standard_output(),
             _ => false,
         }
     }
@@ -318,20 +326,20 @@ pub(crate) fn may_be_standard(path: Option<&str>) -> bool {
 /// The date of a job whose program doesn't use it.
 const NO_DATE: &str = "000000";
 
-impl<'a> RunWords<'a> {
+impl<'a> RunArguments<'a> {
     /// Returns the six digits of the date, zeros for a job that has none.
     pub fn date_text(&self) -> &'a str {
         match self.date {
             None => NO_DATE,
-            Some(DateWord::Written(text)) => text,
-            Some(DateWord::Today(_)) => "today",
+            Some(DateArgument::Written(text)) => text,
+            Some(DateArgument::Today(_)) => "today",
         }
     }
 
     /// Returns these arguments with a date.
-    pub fn on<'b>(&'b self, date: &'b str) -> RunWords<'b> {
-        RunWords {
-            date: Some(DateWord::Written(date)),
+    pub fn on<'b>(&'b self, date: &'b str) -> RunArguments<'b> {
+        RunArguments {
+            date: Some(DateArgument::Written(date)),
             ..*self
         }
     }
@@ -353,9 +361,9 @@ impl<'a> RunWords<'a> {
             is_standard(self.input),
             may_be_standard(self.secondary),
         ) {
-            (true, true, _) => (self.program, FileWord::Input),
-            (true, false, true) => (self.program, FileWord::Secondary),
-            (false, true, true) => (FileWord::Input, FileWord::Secondary),
+            (true, true, _) => (self.program, FileArgument::Input),
+            (true, false, true) => (self.program, FileArgument::Secondary),
+            (false, true, true) => (FileArgument::Input, FileArgument::Secondary),
             _ => return None,
         };
         Some(SameFile {
@@ -368,8 +376,8 @@ impl<'a> RunWords<'a> {
     /// Returns two arguments that name standard output.
     fn shared_output(&self) -> Option<SameFile> {
         (is_standard(self.print) && may_be_standard(self.disk)).then_some(SameFile {
-            earlier: FileWord::Print,
-            written: FileWord::Disk,
+            earlier: FileArgument::Print,
+            written: FileArgument::Disk,
             shared: Shared::StandardOutput,
         })
     }
@@ -379,14 +387,14 @@ impl<'a> RunWords<'a> {
         self.shared_input().or(self.shared_output())
     }
 
-    fn path(&self, word: FileWord) -> Option<&'a str> {
-        match word {
-            FileWord::Object | FileWord::Source => Some(self.object),
-            FileWord::Input => Some(self.input),
-            FileWord::Secondary => self.secondary,
-            FileWord::Print => Some(self.print),
-            FileWord::Disk => self.disk,
-            FileWord::OwnSource => self.source,
+    fn path(&self, argument: FileArgument) -> Option<&'a str> {
+        match argument {
+            FileArgument::Object | FileArgument::Source => Some(self.object),
+            FileArgument::Input => Some(self.input),
+            FileArgument::Secondary => self.secondary,
+            FileArgument::Print => Some(self.print),
+            FileArgument::Disk => self.disk,
+            FileArgument::OwnSource => self.source,
             _ => None,
         }
     }
@@ -407,8 +415,8 @@ impl From<AllocError> for Refusal {
 }
 
 impl Refusal {
-    fn of(told: Result<Error, AllocError>) -> Refusal {
-        match told {
+    fn of(reported: Result<Error, AllocError>) -> Refusal {
+        match reported {
             Ok(error) => Refusal { error },
             Err(error) => Refusal::from(error),
         }
@@ -466,38 +474,38 @@ pub(crate) fn allowance_of(given: &ArgMatches<'_>) -> u16
     }
 }
 
-fn compile_words<'a>(given: &ArgMatches<'a>) -> Request<'a> {
-    Request::Compile(CompileWords {
+fn compile_arguments<'a>(given: &ArgMatches<'a>) -> Request<'a> {
+    Request::Compile(CompileArguments {
         source: needed(given, "SRC"),
         object: needed(given, "OBJ"),
         allowance: allowance_of(given),
-        warnings: warning_words(given),
+        warnings: warning_arguments(given),
         is_quiet: given.get_flag("quiet"),
         format: format_of(given),
     })
 }
 
-fn check_words<'a>(alloc: Global, given: &ArgMatches<'a>) -> Result<Request<'a>, AllocError> {
+fn check_arguments<'a>(alloc: Global, given: &ArgMatches<'a>) -> Result<Request<'a>, AllocError> {
     let sources = texts(alloc, given, "SRC")?;
-    Ok(Request::Check(CheckWords {
+    Ok(Request::Check(CheckArguments {
         sources,
-        warnings: warning_words(given),
+        warnings: warning_arguments(given),
         is_quiet: given.get_flag("quiet"),
         format: format_of(given),
     }))
 }
 
-fn verify_words<'a>(given: &ArgMatches<'a>) -> Request<'a> {
-    Request::Verify(VerifyWords {
+fn verify_arguments<'a>(given: &ArgMatches<'a>) -> Request<'a> {
+    Request::Verify(VerifyArguments {
         object: needed(given, "OBJ"),
         is_quiet: given.get_flag("quiet"),
         format: format_of(given),
     })
 }
 
-fn show_words<'a>(given: &ArgMatches<'a>) -> Request<'a> {
+fn show_arguments<'a>(given: &ArgMatches<'a>) -> Request<'a> {
     let source = given.get_str("source");
-    Request::Show(ShowWords {
+    Request::Show(ShowArguments {
         object: needed(given, "OBJ"),
         source,
         rows: given.get_flag("rows") || source.is_some(),
@@ -506,27 +514,27 @@ fn show_words<'a>(given: &ArgMatches<'a>) -> Request<'a> {
 }
 
 /// Returns the arguments of a run, whose program is the file of an argument. Without PRINT, printed lines go to standard output.
-pub(crate) fn run_words<'a>(given: &ArgMatches<'a>, program: FileWord) -> RunWords<'a> {
-    RunWords {
+pub(crate) fn run_arguments<'a>(given: &ArgMatches<'a>, program: FileArgument) -> RunArguments<'a> {
+    RunArguments {
         object: needed(given, program.name()),
         program,
         input: needed(given, "INPUT"),
         print: given.get_str("PRINT").unwrap_or(STANDARD),
-        date: given.get_str("date").map(DateWord::of),
+        date: given.get_str("date").map(DateArgument::of),
         secondary: given.get_str("secondary"),
         disk: given.get_str("disk"),
         most: given.get_one::<u64>("most"),
         keeps: given.get_flag("keep"),
         source: given.get_str("source"),
-        looks: look_words(given),
+        looks: look_arguments(given),
         is_quiet: given.get_flag("quiet"),
         format: format_of(given),
     }
 }
 
-fn explain_words<'a>(alloc: Global, given: &ArgMatches<'a>) -> Result<Request<'a>, AllocError> {
+fn explain_arguments<'a>(alloc: Global, given: &ArgMatches<'a>) -> Result<Request<'a>, AllocError> {
     let codes = texts(alloc, given, "CODE")?;
-    Ok(Request::Explain(ExplainWords {
+    Ok(Request::Explain(ExplainArguments {
         codes,
         lists: given.get_flag("list"),
     }))
@@ -563,14 +571,14 @@ fn bad_value(matches: &ArgMatches) -> Option<&'static str> {
 /// Returns the request of a command whose arguments allocate nothing. The command that isn't listed here is `go`.
 fn plain_request<'a>(name: &str, given: &ArgMatches<'a>) -> Request<'a> {
     match name {
-        "compile" => compile_words(given),
-        "list" => list_words(given),
-        "cards" => cards_words(given),
-        "records" => records_words(given),
-        "verify" => verify_words(given),
-        "show" => show_words(given),
-        "run" => Request::Run(run_words(given, FileWord::Object)),
-        _ => go_words(given),
+        "compile" => compile_arguments(given),
+        "list" => list_arguments(given),
+        "cards" => cards_arguments(given),
+        "records" => records_arguments(given),
+        "verify" => verify_arguments(given),
+        "show" => show_arguments(given),
+        "run" => Request::Run(run_arguments(given, FileArgument::Object)),
+        _ => go_arguments(given),
     }
 }
 
@@ -581,16 +589,16 @@ fn command_request<'a>(
     given: &ArgMatches<'a>,
 ) -> Result<Request<'a>, AllocError> {
     match name {
-        "check" => check_words(alloc, given),
-        "explain" => explain_words(alloc, given),
-        "fit" => fit_words(alloc, given),
+        "check" => check_arguments(alloc, given),
+        "explain" => explain_arguments(alloc, given),
+        "fit" => fit_arguments(alloc, given),
         _ => Ok(plain_request(name, given)),
     }
 }
 
 /// Returns the program's name, which the first argument ends in.
-fn program_name(words: &[String]) -> &str {
-    let Some(path) = words.first() else {
+fn program_name(arguments: &[String]) -> &str {
+    let Some(path) = arguments.first() else {
         return PROGRAM;
     };
     match path.rsplit_once('/') {
@@ -600,32 +608,36 @@ fn program_name(words: &[String]) -> &str {
 }
 
 /// Returns the fault of arguments that clap accepts but that make no request.
-fn unread(alloc: Global, words: &[String], matches: &ArgMatches<'_>) -> Result<Error, AllocError> {
+fn unread(
+    alloc: Global,
+    arguments: &[String],
+    matches: &ArgMatches<'_>,
+) -> Result<Error, AllocError> {
     let (kind, message) = match bad_value(matches) {
         Some(message) => (ErrorKind::InvalidValue, message),
         None => (ErrorKind::MissingSubcommand, "a command is wanted"),
     };
-    fault(alloc, program_name(words), kind, message)
+    fault(alloc, program_name(arguments), kind, message)
 }
 
 /// Returns the request of arguments that clap accepts.
 fn read<'a>(
     alloc: Global,
-    words: &[String],
+    arguments: &[String],
     matches: &ArgMatches<'a>,
 ) -> Result<Request<'a>, Refusal> {
     match matches.subcommand() {
         Some((name, given)) if is_whole(name, given) && bad_value(matches).is_none() => {
             Ok(command_request(alloc, name, given)?)
         }
-        _ => Err(Refusal::of(unread(alloc, words, matches))),
+        _ => Err(Refusal::of(unread(alloc, arguments, matches))),
     }
 }
 
 /// Returns the request of the arguments. The first one is the program's name.
-pub fn request_of<'a>(alloc: Global, words: &'a [String]) -> Result<Request<'a>, Refusal> {
-    match matches_of(alloc, words) {
-        Ok(matches) => read(alloc, words, &matches),
+pub fn request_of<'a>(alloc: Global, arguments: &'a [String]) -> Result<Request<'a>, Refusal> {
+    match matches_of(alloc, arguments) {
+        Ok(matches) => read(alloc, arguments, &matches),
         Err(error) => Err(Refusal { error }),
     }
 }

@@ -9,7 +9,7 @@ const MOST: u16 = 20;
 
 /// How the warnings of a source are treated.
 #[derive(Clone, Copy)]
-pub struct WarningWords {
+pub struct WarningArguments {
     /// Whether a warning rejects the source.
     pub denies: bool,
     /// The codes of the warnings that are left out.
@@ -28,8 +28,8 @@ fn codes_of(texts: &[&str]) -> WarningCodes {
     codes
 }
 
-pub(crate) fn warning_words(given: &ArgMatches<'_>) -> WarningWords {
-    WarningWords {
+pub(crate) fn warning_arguments(given: &ArgMatches<'_>) -> WarningArguments {
+    WarningArguments {
         denies: given.get_flag("deny"),
         allowed: codes_of(given.get_strs("allow").unwrap_or(&[])),
         most: given.get_one::<u16>("faults").unwrap_or(MOST),

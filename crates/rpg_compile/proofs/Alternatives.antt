@@ -41,10 +41,10 @@ begins_here cards i c h e or so_far =
     so_far ∙ ap (alternatives_from (tests_in (take i cards))) d ∙ ap (λ b. cond b (tests_in (take i cards) ∷ alternatives_from (tests_at c) (drop (suc i) cards)) (alternatives_from (tests_in (take i cards) ++ tests_at c) (drop (suc i) cards))) or
     ∙ ap (λ ks. tests_in (take i cards) ∷ alternatives_in ks) (sym d)
 
--- it goes on with the present one
-pub goes_on : (cards : List SpecCard) (i : ℕ) (c : SpecCard) → i < length cards → c ≡ get_or cards i c → begins_alternative c ≡ false →
+-- it continues with the present one
+pub continues : (cards : List SpecCard) (i : ℕ) (c : SpecCard) → i < length cards → c ≡ get_or cards i c → begins_alternative c ≡ false →
     alternatives_in cards ≡ alternatives_from (tests_in (take i cards)) (drop i cards) → alternatives_in cards ≡ alternatives_from (tests_in (take (i + 1) cards)) (drop (i + 1) cards)
-goes_on cards i c h e or so_far =
+continues cards i c h e or so_far =
     let s = split_at cards i c h e in
     let n : suc i ≡ i + 1 = omega arith in
     let t : tests_in (take (suc i) cards) ≡ tests_in (take i cards) ++ tests_at c = ap tests_in s.1 ∙ tests_append (take i cards) (c ∷ []) ∙ ap (λ ts. tests_in (take i cards) ++ ts) (append-nil (tests_at c)) in

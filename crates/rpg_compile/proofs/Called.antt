@@ -1,7 +1,7 @@
 -- The calls that are found by the numbers of names are those of the subroutines.
 use Rattle.std.proofs.Common.{◌≡◌, ℕ, suc, ◌+◌, ◌≤◌, ◌<◌, true, cond, List, [], ◌∷◌, ◌++◌, length, Option, None, Some, refl, ap, ◌∙◌, arith, length-append, ◌⊎◌, inl, inr}
 use Rattle.std.specs.Option.{option_map}
-use Rattle.rpg_cards.specs.Deeds.{Acts, Begins, Calculation, Deed, Ends, Executes, GoesTo, Marks, Nothing, PutsOut, has_instruction}
+use Rattle.rpg_cards.specs.Statements.{Acts, Begins, Calculation, Statement, Ends, Executes, GoesTo, Marks, Nothing, WritesExceptions, has_instruction}
 use Rattle.rpg_cards.specs.Keys.{Key, Name}
 use Rattle.rpg_cards.specs.Plain.{ArePlainBodies, Each, IsCallAmong, IsFound, Pair, call_in, calls_of, with_call}
 use Rattle.rpg_cards.specs.Plain as plain
@@ -9,7 +9,7 @@ use Rattle.rpg_cards.specs.Sections.{Subroutine, callee}
 use Rattle.rpg_compile_program.proofs.Heights.{is_call_either}
 use Rattle.rpg_compile_program.proofs.Whole.{callee_there}
 use Rattle.rpg_compile_program.specs.Code.{size, sizes, waits}
-use Rattle.rpg_cards.specs.Deeds.{tests}
+use Rattle.rpg_cards.specs.Statements.{tests}
 use Rattle.rpg_compile.specs.Called.{callee_in, numbered_calls_from, numbered_calls_in, with_callee}
 use Rattle.rpg_compile.specs.Numbers.{body_sizes}
 
@@ -18,7 +18,7 @@ use Rattle.rpg_compile.specs.Numbers.{body_sizes}
 module _ (all : List (Subroutine Key)) (number : Option Name → ℕ) (is : (n : Option Name) → number n ≡ callee n all) where
   same_in : (caller : ℕ) (gs : List (Calculation Key)) → numbered_calls_in number caller gs ≡ plain.calls_in all caller gs
   same_in caller [] = refl
-  same_in caller (g ∷ gs) = by_call (call_in g.deed) (same_in caller gs)
+  same_in caller (g ∷ gs) = by_call (call_in g.statement) (same_in caller gs)
     where
       by_call : (o : Option (Option Name)) → numbered_calls_in number caller gs ≡ plain.calls_in all caller gs → with_callee caller (option_map number o) (numbered_calls_in number caller gs) ≡ with_call all caller o (plain.calls_in all caller gs)
       by_call None rest = rest
@@ -34,20 +34,20 @@ module _ (all : List (Subroutine Key)) (number : Option Name → ℕ) (is : (n :
 -- ---- callees are there
 
 module _ (all : List (Subroutine Key)) where
-  callees_in : (own a b : ℕ) (gs : List (Calculation Key)) → Each (λ g. IsFound all g.deed) gs → IsCallAmong a b (plain.calls_in all own gs) → b < length all
+  callees_in : (own a b : ℕ) (gs : List (Calculation Key)) → Each (λ g. IsFound all g.statement) gs → IsCallAmong a b (plain.calls_in all own gs) → b < length all
   callees_in own a b [] found h = absurd h
-  callees_in own a b (g ∷ gs) found h = by_deed g.deed found.0 h (callees_in own a b gs found.1)
+  callees_in own a b (g ∷ gs) found h = by_statement g.statement found.0 h (callees_in own a b gs found.1)
     where
-      by_deed : (d : Deed Key) → IsFound all d → IsCallAmong a b (with_call all own (call_in d) (plain.calls_in all own gs)) → (IsCallAmong a b (plain.calls_in all own gs) → b < length all) → b < length all
-      by_deed (Executes n) f (inl h) rest = let there = callee_there n all f in let same = h.1 in omega arith
-      by_deed (Executes n) f (inr h) rest = rest h
-      by_deed (Acts x) f h rest = rest h
-      by_deed PutsOut f h rest = rest h
-      by_deed (GoesTo l) f h rest = rest h
-      by_deed (Marks l) f h rest = rest h
-      by_deed (Begins l) f h rest = rest h
-      by_deed (Ends l) f h rest = rest h
-      by_deed Nothing f h rest = rest h
+      by_statement : (d : Statement Key) → IsFound all d → IsCallAmong a b (with_call all own (call_in d) (plain.calls_in all own gs)) → (IsCallAmong a b (plain.calls_in all own gs) → b < length all) → b < length all
+      by_statement (Executes n) f (inl h) rest = let there = callee_there n all f in let same = h.1 in omega arith
+      by_statement (Executes n) f (inr h) rest = rest h
+      by_statement (Acts x) f h rest = rest h
+      by_statement WritesExceptions f h rest = rest h
+      by_statement (GoesTo l) f h rest = rest h
+      by_statement (Marks l) f h rest = rest h
+      by_statement (Begins l) f h rest = rest h
+      by_statement (Ends l) f h rest = rest h
+      by_statement Nothing f h rest = rest h
 
   callees_from : (own a b : ℕ) (ss : List (Subroutine Key)) → ArePlainBodies all ss → IsCallAmong a b (plain.calls_from all own ss) → b < length all
   callees_from own a b [] bodies h = absurd h
@@ -62,17 +62,17 @@ module _ (all : List (Subroutine Key)) where
 
 -- ---- each call is an instruction
 
-one_size : (g : Calculation Key) → has_instruction g.deed ≡ true → 1 ≤ size g
+one_size : (g : Calculation Key) → has_instruction g.statement ≡ true → 1 ≤ size g
 unfolding size
 one_size g has =
     let one : size g ≡ waits g.level + tests g.alternatives + 1 = ap (λ b. cond b (waits g.level + tests g.alternatives + 1) 0) has in
     omega (arith, one)
 
 module _ (number : Option Name → ℕ) (caller : ℕ) where
-  one_more : (g : Calculation Key) (ps : List Pair) (d : Deed Key) → g.deed ≡ d → length (with_callee caller (callee_in number d) ps) ≤ size g + length ps
+  one_more : (g : Calculation Key) (ps : List Pair) (d : Statement Key) → g.statement ≡ d → length (with_callee caller (callee_in number d) ps) ≤ size g + length ps
   one_more g ps (Executes n) is = let one = one_size g (ap has_instruction is) in omega (arith, one)
   one_more g ps (Acts x) is = omega arith
-  one_more g ps PutsOut is = omega arith
+  one_more g ps WritesExceptions is = omega arith
   one_more g ps (GoesTo l) is = omega arith
   one_more g ps (Marks l) is = omega arith
   one_more g ps (Begins l) is = omega arith
@@ -81,7 +81,7 @@ module _ (number : Option Name → ℕ) (caller : ℕ) where
 
   one_each : (gs : List (Calculation Key)) → length (numbered_calls_in number caller gs) ≤ sizes gs
   one_each [] = omega arith
-  one_each (g ∷ gs) = let here = one_more g (numbered_calls_in number caller gs) g.deed refl in let rest = one_each gs in omega (arith, here, rest)
+  one_each (g ∷ gs) = let here = one_more g (numbered_calls_in number caller gs) g.statement refl in let rest = one_each gs in omega (arith, here, rest)
 
 pub few_calls : (number : Option Name → ℕ) (caller : ℕ) (ss : List (Subroutine Key)) → length (numbered_calls_from number caller ss) ≤ body_sizes ss
 few_calls number caller [] = omega arith

@@ -71,8 +71,8 @@ sized_kept k ascending n h len (Some d) f e =
     })
 
 -- a definition with a form has one that an object program may have
-abbrev HasGoodForm : Definition → Type 0
-HasGoodForm d = ForSome d.form IsFieldRow
+abbrev HasValidForm : Definition → Type 0
+HasValidForm d = ForSome d.form IsFieldRow
 
 plain_kept : (len : ℕ) (decimals : Option ℕ) → ForSome (sized_form len decimals) IsFieldRow
 plain_kept len decimals f e = sized_kept class.Plain false 1 (record { fewest = omega arith; most = omega arith; undated = λ is. absurd cc; single = λ is. refl; unordered = λ is. refl }) len decimals f e
@@ -81,73 +81,73 @@ where_true : (b : Bool) (o : Option FieldForm) → (b ≡ true → ForSome o IsF
 where_true true o h f e = h refl f e
 where_true false o h f e = absurd cc
 
-table_kept : (e : ExtensionSpec) (t : TableSpec) → HasGoodForm (definition_in e t)
+table_kept : (e : ExtensionSpec) (t : TableSpec) → HasValidForm (definition_in e t)
 table_kept e t = where_true (leb 1 e.entries && leb e.entries 9999) _ (λ within. let r = and_parts (leb 1 e.entries) (leb e.entries 9999) within in by (is_table_name t.name) (leb-true _ _ r.0) (leb-true _ _ r.1))
   where
     by : (b : Bool) → 1 ≤ e.entries → e.entries ≤ 9999 → ForSome (sized (form_with (cond b class.Table class.Array) t.ascending e.entries) t.length t.decimals) IsFieldRow
     by true low high f is = sized_kept class.Table t.ascending e.entries (record { fewest = low; most = high; undated = λ x. absurd cc; single = λ x. absurd cc; unordered = λ x. absurd cc }) t.length t.decimals f is
     by false low high f is = sized_kept class.Array t.ascending e.entries (record { fewest = low; most = high; undated = λ x. absurd cc; single = λ x. absurd cc; unordered = λ x. absurd cc }) t.length t.decimals f is
 
-tables_kept : (e : ExtensionSpec) (ts : List TableSpec) → Each HasGoodForm (map (definition_in e) ts)
+tables_kept : (e : ExtensionSpec) (ts : List TableSpec) → Each HasValidForm (map (definition_in e) ts)
 tables_kept e [] = tt
 tables_kept e (t ∷ ts) = (table_kept e t, tables_kept e ts)
 
-extension_kept : (o : Option ExtensionSpec) → Each HasGoodForm (flat_map (λ e. map (definition_in e) (tables_on e)) (option_to_list o))
+extension_kept : (o : Option ExtensionSpec) → Each HasValidForm (flat_map (λ e. map (definition_in e) (tables_on e)) (option_to_list o))
 extension_kept None = tt
-extension_kept (Some e) = each_append HasGoodForm (map (definition_in e) (tables_on e)) [] (tables_kept e (tables_on e)) tt
+extension_kept (Some e) = each_append HasValidForm (map (definition_in e) (tables_on e)) [] (tables_kept e (tables_on e)) tt
 
-field_kept : (o : Option InputFieldSpec) → Each HasGoodForm (option_to_list (option_map definition_of o))
+field_kept : (o : Option InputFieldSpec) → Each HasValidForm (option_to_list (option_map definition_of o))
 field_kept None = tt
 field_kept (Some i) = (where_true (nat_le i.from i.to) _ (λ order. plain_kept (i.to + 1 - i.from) i.decimals), tt)
 
-result_kept : (k : CalculationSpec) (n : Option ℕ) (r : Option Entry) → Each HasGoodForm (option_to_list (option_and_then (λ len. option_map (λ (e : Entry). record { name = e.name; form = sized_form len k.decimals }) r) n))
+result_kept : (k : CalculationSpec) (n : Option ℕ) (r : Option Entry) → Each HasValidForm (option_to_list (option_and_then (λ len. option_map (λ (e : Entry). record { name = e.name; form = sized_form len k.decimals }) r) n))
 result_kept k None r = tt
 result_kept k (Some len) None = tt
 result_kept k (Some len) (Some e) = (plain_kept len k.decimals, tt)
 
-calculation_kept : (o : Option CalculationSpec) → Each HasGoodForm (option_to_list (option_and_then definition_by o))
+calculation_kept : (o : Option CalculationSpec) → Each HasValidForm (option_to_list (option_and_then definition_by o))
 calculation_kept None = tt
 calculation_kept (Some k) = result_kept k k.length k.result_field
 
-definitions_kept : (cards : List SpecCard) → Each HasGoodForm (definitions cards)
+definitions_kept : (cards : List SpecCard) → Each HasValidForm (definitions cards)
 definitions_kept [] = tt
 definitions_kept (c ∷ cs) =
     let tables = flat_map (λ e. map (definition_in e) (tables_on e)) (option_to_list (extension_on c.spec)) in
     let fields = option_to_list (option_map definition_of (input_field_on c.spec)) in
-    each_append HasGoodForm (definitions_on c.spec) (definitions cs)
-    (each_append HasGoodForm (tables ++ fields) (option_to_list (option_and_then definition_by (calculation_on c.spec)))
-    (each_append HasGoodForm tables fields (extension_kept (extension_on c.spec)) (field_kept (input_field_on c.spec)))
+    each_append HasValidForm (definitions_on c.spec) (definitions cs)
+    (each_append HasValidForm (tables ++ fields) (option_to_list (option_and_then definition_by (calculation_on c.spec)))
+    (each_append HasValidForm tables fields (extension_kept (extension_on c.spec)) (field_kept (input_field_on c.spec)))
     (calculation_kept (calculation_on c.spec)))
     (definitions_kept cs)
 
 -- ---- names
 
-abbrev IsGoodField : List ℕ × FieldForm → Type 0
-IsGoodField f = IsFieldRow f.1
+abbrev IsValidField : List ℕ × FieldForm → Type 0
+IsValidField f = IsFieldRow f.1
 
-name_kept : (known : Bool) (fields : NamedForms) (name : List ℕ) (form : FieldForm) → Each IsGoodField fields → IsFieldRow form → Each IsGoodField (cond known fields (fields ++ (name, form) ∷ []))
+name_kept : (known : Bool) (fields : NamedForms) (name : List ℕ) (form : FieldForm) → Each IsValidField fields → IsFieldRow form → Each IsValidField (cond known fields (fields ++ (name, form) ∷ []))
 name_kept true fields name form h k = h
-name_kept false fields name form h k = each_append IsGoodField fields ((name, form) ∷ []) h (k, tt)
+name_kept false fields name form h k = each_append IsValidField fields ((name, form) ∷ []) h (k, tt)
 
-form_kept : (fields : NamedForms) (name : List ℕ) (o : Option FieldForm) → ForSome o IsFieldRow → Each IsGoodField fields → Each IsGoodField (with_form fields name o)
-form_kept fields name None good h = h
-form_kept fields name (Some form) good h = name_kept (is_some (defined_form fields name)) fields name form h (good form refl)
+form_kept : (fields : NamedForms) (name : List ℕ) (o : Option FieldForm) → ForSome o IsFieldRow → Each IsValidField fields → Each IsValidField (with_form fields name o)
+form_kept fields name None valid h = h
+form_kept fields name (Some form) valid h = name_kept (is_some (defined_form fields name)) fields name form h (valid form refl)
 
-names_kept : (fields : NamedForms) (ds : List Definition) → Each HasGoodForm ds → Each IsGoodField fields → Each IsGoodField (with_definitions fields ds)
-names_kept fields [] good h = h
-names_kept fields (d ∷ ds) good h = names_kept (with_definition fields d) ds good.1 (form_kept fields d.name d.form good.0 h)
+names_kept : (fields : NamedForms) (ds : List Definition) → Each HasValidForm ds → Each IsValidField fields → Each IsValidField (with_definitions fields ds)
+names_kept fields [] valid h = h
+names_kept fields (d ∷ ds) valid h = names_kept (with_definition fields d) ds valid.1 (form_kept fields d.name d.form valid.0 h)
 
-given_kept : Each IsGoodField given
+given_kept : Each IsValidField given
 given_kept = (
   record { shortest = omega arith; longest = omega arith; decimals = (omega arith, omega arith); date = λ is. record { kind = refl; digits = refl; decimals = refl }; fewest = omega arith; most = omega arith; single = λ is. refl; unordered = λ is. refl },
   (record { shortest = omega arith; longest = omega arith; decimals = (omega arith, omega arith); date = λ is. absurd cc; fewest = omega arith; most = omega arith; single = λ is. refl; unordered = λ is. refl }, tt),
 )
 
-all_names : (cards : List SpecCard) → Each IsGoodField (defined_fields cards)
+all_names : (cards : List SpecCard) → Each IsValidField (defined_fields cards)
 all_names cards = names_kept given (definitions cards) (definitions_kept cards) given_kept
 
 -- a name's form is that of a field
-looked_up : (test : List ℕ → Bool) (fields : NamedForms) → Each IsGoodField fields → ForSome (lookup test fields) IsFieldRow
+looked_up : (test : List ℕ → Bool) (fields : NamedForms) → Each IsValidField fields → ForSome (lookup test fields) IsFieldRow
 looked_up test [] h f e = absurd cc
 looked_up test (x ∷ xs) h f e = by (test x.0) e (looked_up test xs h.1 f)
   where
@@ -171,5 +171,5 @@ constant_form_kept (constant.Text text) h =
 pub fields_kept : (cards : List SpecCard) → AreCards cards → All IsFieldRow (forms (table_of cards))
 fields_kept cards ranges =
     all_of IsFieldRow (forms (table_of cards)) (each_append IsFieldRow (name_forms (defined_fields cards)) (map constant_form (constants cards))
-    (each_row IsGoodField IsFieldRow (λ (f : List ℕ × FieldForm). f.1) (defined_fields cards) (λ f h. h) (all_names cards))
+    (each_row IsValidField IsFieldRow (λ (f : List ℕ × FieldForm). f.1) (defined_fields cards) (λ f h. h) (all_names cards))
     (each_row IsConstant IsFieldRow constant_form (constants cards) constant_form_kept (all_constants cards ranges)))

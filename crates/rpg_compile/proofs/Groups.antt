@@ -3,7 +3,7 @@ use Rattle.std.proofs.Common.{◌≡◌, ◌+◌, Bool, true, false, cond, List,
 use Rattle.std.specs.List.{cons_option}
 use Rattle.std.specs.Option.{option_map_or}
 use Rattle.rpg_cards.specs.Calculations.{alternatives, awaited_level, calculation_of, is_or, last_card, tests_on}
-use Rattle.rpg_cards.specs.Deeds.{deed_of, has_instruction, tests}
+use Rattle.rpg_cards.specs.Statements.{statement_of, has_instruction, tests}
 use Rattle.rpg_cards.specs.Cards.{calculation_on, calculation_specs_in}
 use Rattle.rpg_cards.specs.declared.spec_card.SpecCard.{SpecCard}
 use Rattle.rpg_compile_program.specs.Code.{size, waits}
@@ -61,13 +61,13 @@ group_tests first (c ∷ cs) is =
 
 -- ---- sizes
 
-pub size_of_instruction : (first : CalculationSpec) (cards : List SpecCard) → first_calculation cards ≡ Some first → has_instruction (deed_of (last_card (group_of first cards))) ≡ true
+pub size_of_instruction : (first : CalculationSpec) (cards : List SpecCard) → first_calculation cards ≡ Some first → has_instruction (statement_of (last_card (group_of first cards))) ≡ true
     → size (calculation_of (group_of first cards)) ≡ size_with first cards
 unfolding size
 size_of_instruction first cards is has =
     ap (λ b. cond b (waits (awaited_level first.control_level) + tests (calculation_of (group_of first cards)).alternatives + 1) 0) has
     ∙ ap (λ n. waits (awaited_level first.control_level) + n + 1) (group_tests first cards is)
 
-pub size_of_nothing : (first : CalculationSpec) (cards : List SpecCard) → has_instruction (deed_of (last_card (group_of first cards))) ≡ false → size (calculation_of (group_of first cards)) ≡ 0
+pub size_of_nothing : (first : CalculationSpec) (cards : List SpecCard) → has_instruction (statement_of (last_card (group_of first cards))) ≡ false → size (calculation_of (group_of first cards)) ≡ 0
 unfolding size
 size_of_nothing first cards has = ap (λ b. cond b (waits (awaited_level first.control_level) + tests (calculation_of (group_of first cards)).alternatives + 1) 0) has

@@ -30,20 +30,20 @@ use Rattle.rpg_sheet_specs.specs.declared.output.OutputSpec.TheVariants as outpu
 use Rattle.rpg_sheet_specs.specs.declared.spec.Spec.{Spec}
 use Rattle.rpg_sheet_specs.specs.declared.spec.Spec.TheVariants as spec
 use Rattle.rpg_text.specs.Texts.{is_between}
-use Rattle.rpg_compile_program.proofs.Known.{name_good, name_known}
+use Rattle.rpg_compile_program.proofs.Known.{name_valid, name_known}
 use Rattle.rpg_compile_program.proofs.Lists.{Seen, each_card, none_in_option, none_second, or_first, or_second}
-use Rattle.rpg_compile_program.proofs.OpenGroups.{HasGood}
+use Rattle.rpg_compile_program.proofs.OpenGroups.{HasValid}
 use Rattle.rpg_compile_program.specs.Lines.{text_key}
 use Rattle.rpg_compile_program.specs.Rules.{KeepsCardRules}
 use Rattle.rpg_compile_program.specs.Table.{key_number, table_of}
 
 -- ---- cards of lines
 
-abbrev pub HasGoodIndex : List SpecCard → OutputSpec → Type 0
-HasGoodIndex cards (output.Record r) = Unit {0}
-HasGoodIndex cards (output.And t) = Unit {0}
-HasGoodIndex cards (output.Or t) = Unit {0}
-HasGoodIndex cards (output.Field f) = HasIndexRow (field_row (table_of cards) f)
+abbrev pub HasValidIndex : List SpecCard → OutputSpec → Type 0
+HasValidIndex cards (output.Record r) = Unit {0}
+HasValidIndex cards (output.And t) = Unit {0}
+HasValidIndex cards (output.Or t) = Unit {0}
+HasValidIndex cards (output.Field f) = HasIndexRow (field_row (table_of cards) f)
 
 field_on : (s : Spec) (o : OutputSpec) → output_role s ≡ Follower o → output_field_on s ≡ output_field_in o
 field_on (spec.Header x) o e = absurd cc
@@ -81,10 +81,10 @@ module _ (cards : List SpecCard) (rules : KeepsCardRules cards) where
   entry_kept : (e : Entry) → bad_index_of cards (operand_with Value e) ≡ false → names_nothing cards (operand_with Value e) ≡ false → IsIndexRow (renamed_index number (key_index e.index))
   entry_kept e fit there =
       let named = or_first (is_undefined cards e.name) (option_map_or (is_undefined cards) (index_name e) false) there in
-      let form = some_form (card_entry_form cards e) (name_good cards rules e.name named) in
+      let form = some_form (card_entry_form cards e) (name_valid cards rules e.name named) in
       let row = named_kept cards e.name form.0 (name_known cards rules e.name ∙ form.1) in
-      let misfit = or_first (option_map_or (misindexed Value e.index (index_form cards e)) (card_entry_form cards e) false) (bad_index_field (index_form cards e)) fit in
-      index_kept e.index (index_form cards e) form.0 row.most (subst (λ (o : Option FieldForm). option_map_or (misindexed Value e.index (index_form cards e)) o false ≡ false) form.1 misfit)
+      let mismatch = or_first (option_map_or (misindexed Value e.index (index_form cards e)) (card_entry_form cards e) false) (bad_index_field (index_form cards e)) fit in
+      index_kept e.index (index_form cards e) form.0 row.most (subst (λ (o : Option FieldForm). option_map_or (misindexed Value e.index (index_form cards e)) o false ≡ false) form.1 mismatch)
 
   operand_kept : (o : Option Entry) (k : Key) → option_map_or (bad_index_of cards) (option_map (operand_with Value) o) false ≡ false → option_map_or (names_nothing cards) (option_map (operand_with Value) o) false ≡ false
       → IsIndexRow (renamed_index number (unwrap_or (option_map entry_operand o) (record { field = k; index = index.Blank })).index)
@@ -93,7 +93,7 @@ module _ (cards : List SpecCard) (rules : KeepsCardRules cards) where
 
   -- what F5 and F1 say of an output field
   by_card : (o : OutputSpec) (p : Option OutputField) → p ≡ output_field_in o → option_map_or (bad_index_of cards) (option_and_then output_operand p) false ≡ false
-      → option_map_or (names_nothing cards) (option_and_then output_operand p) false ≡ false → HasGoodIndex cards o
+      → option_map_or (names_nothing cards) (option_and_then output_operand p) false ≡ false → HasValidIndex cards o
   by_card (output.Record r) p is fit there = tt
   by_card (output.And t) p is fit there = tt
   by_card (output.Or t) p is fit there = tt
@@ -101,7 +101,7 @@ module _ (cards : List SpecCard) (rules : KeepsCardRules cards) where
       operand_kept f.operand (text_key f.text) (subst (λ (q : Option OutputField). option_map_or (bad_index_of cards) (option_and_then output_operand q) false ≡ false) is fit)
       (subst (λ (q : Option OutputField). option_map_or (names_nothing cards) (option_and_then output_operand q) false ≡ false) is there)
 
-  seen : Seen cards (λ before c after. HasGood output_role (HasGoodIndex cards) c)
+  seen : Seen cards (λ before c after. HasValid output_role (HasValidIndex cards) c)
   seen before c after split o is =
       let others = operands_listed (operands_ending c after) in
       let own = option_to_list (output_operand_on c) in
@@ -109,5 +109,5 @@ module _ (cards : List SpecCard) (rules : KeepsCardRules cards) where
       (none_in_option (bad_index_of cards) (output_operand_on c) (none_second (bad_index_of cards) others own (rules.f5 before c after split)))
       (none_in_option (names_nothing cards) (output_operand_on c) (none_second (names_nothing cards) others own (rules.f1 before c after split)))
 
-  pub good_on_cards : Each (HasGood output_role (HasGoodIndex cards)) cards
-  good_on_cards = each_card cards (HasGood output_role (HasGoodIndex cards)) seen
+  pub valid_on_cards : Each (HasValid output_role (HasValidIndex cards)) cards
+  valid_on_cards = each_card cards (HasValid output_role (HasValidIndex cards)) seen

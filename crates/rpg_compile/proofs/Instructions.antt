@@ -1,11 +1,11 @@
--- The instructions of an accepted program keep what the object format asks, once their indicators and targets do.
+-- The instructions of an accepted program keep what the object format requires, once their indicators and targets do.
 use Rattle.std.proofs.Common.{◌≡◌, ℕ, zero, suc, ◌+◌, ◌-◌, ◌≤◌, Bool, true, false, not, ◌||◌, ◌&&◌, List, length, get_or, Option, None, Some, slice_get, refl, sym, ap, subst, arith}
 use Rattle.std.proofs.lemmas.Bool.{and_parts, leb-true, not-false}
 use Rattle.std.proofs.lemmas.Option.{slice_get-get_or, slice_get_within, get_or_from_slice_get}
 use Rattle.std.specs.Prelude.{All, nat_le}
 use Rattle.rpg_program.specs.Forms.{form_at, has_field, is_array}
 use Rattle.rpg_program.specs.Instructions.{instruction_columns}
-use Rattle.rpg_program.specs.Rows.{all_of, all_used, form_of, has_entry, has_index, has_operand, has_shape, is_good_operand, is_shaped, row_of, table_use}
+use Rattle.rpg_program.specs.Rows.{all_of, all_used, form_of, has_entry, has_index, has_operand, has_shape, is_valid_operand, is_shaped, row_of, table_use}
 use Rattle.rpg_program.specs.declared.form.FieldForm.{FieldForm}
 use Rattle.rpg_program.specs.declared.operation.Action.{Action}
 use Rattle.rpg_program.specs.declared.operation.Action.TheVariants.{Assign, Compare, Compute, CrossFoot, Divide, LookUp, Move, SetIndicators, TakeRemainder}
@@ -83,13 +83,13 @@ module _ (fields : List FieldForm) (few : length fields ≤ 4000) (rows : All Is
 
   -- ---- instructions
 
-  optional_row : (r : Option (Operand ℕ)) → all_used (is_good_operand at) (table_use (form_of at) r) ≡ true → IsOptionalRow r
+  optional_row : (r : Option (Operand ℕ)) → all_used (is_valid_operand at) (table_use (form_of at) r) ≡ true → IsOptionalRow r
   optional_row None e = record { row = λ o is. cc; there = λ o is. cc }
   optional_row (Some r) e =
-      let good = operand_row shape.One r e in
-      record { row = λ o is. let same : r ≡ o = cc in subst IsOperandRow same good.row; there = λ o is. let same : r ≡ o = cc in subst IsAnOperand same good.there }
+      let valid = operand_row shape.One r e in
+      record { row = λ o is. let same : r ≡ o = cc in subst IsOperandRow same valid.row; there = λ o is. let same : r ≡ o = cc in subst IsAnOperand same valid.there }
 
-  action_row : (x : Action (Operand ℕ)) → all_of (is_good_operand at) (row_of (form_of at) x) ≡ true → IsMarkedAction x → IsActionRow x
+  action_row : (x : Action (Operand ℕ)) → all_of (is_valid_operand at) (row_of (form_of at) x) ≡ true → IsMarkedAction x → IsActionRow x
   unfolding row_of
   action_row (Compute f half a b r s) e marked =
       let p = and_parts _ _ e in
@@ -113,7 +113,7 @@ module _ (fields : List FieldForm) (few : length fields ≤ 4000) (rows : All Is
   action_row (Move side b r) e marked = let p = and_parts _ _ e in ((operand_row shape.One b p.0).row, (operand_row shape.One r p.1).row)
   action_row (SetIndicators is_on s) e marked = marked
 
-  instruction_row : (i : Instruction ℕ) → all_of (is_good_operand at) (instruction_columns at i) ≡ true → IsMarked i → IsInstructionRow i
+  instruction_row : (i : Instruction ℕ) → all_of (is_valid_operand at) (instruction_columns at i) ≡ true → IsMarked i → IsInstructionRow i
   instruction_row (Act x) e marked = action_row x e marked
   instruction_row Except e marked = tt
   instruction_row (Branch is_taken_where cs target) e marked = marked
@@ -123,14 +123,14 @@ module _ (fields : List FieldForm) (few : length fields ≤ 4000) (rows : All Is
 -- ---- a program
 
 module _ (p : Object) (accepted : IsAccepted p) (few : length p.fields ≤ 4000) (rows : All IsFieldRow p.fields) where
-  good_at : (s : Section) (k : ℕ) (i : Instruction ℕ) → slice_get (section_instructions p s) k ≡ Some i → all_of (is_good_operand (form_at p.fields)) (instruction_columns (form_at p.fields) i) ≡ true
+  valid_at : (s : Section) (k : ℕ) (i : Instruction ℕ) → slice_get (section_instructions p s) k ≡ Some i → all_of (is_valid_operand (form_at p.fields)) (instruction_columns (form_at p.fields) i) ≡ true
   unfolding place_breaks instruction_at
-  good_at s k i is =
+  valid_at s k i is =
       let here : slice_get (section_instructions p s) (first_place p s + k - first_place p s) ≡ Some i = subst (λ n. slice_get (section_instructions p s) n ≡ Some i) (omega arith) is in
       not-false _ (place_kept p accepted V16 (record { section = s; number = first_place p s + k }) i (omega arith, here))
 
   pub section_rows : (s : Section) → All IsMarked (section_instructions p s) → All IsInstructionRow (section_instructions p s)
-  section_rows s marked = λ k d lt. instruction_row p.fields few rows (get_or (section_instructions p s) k d) (good_at s k (get_or (section_instructions p s) k d) (slice_get-get_or (section_instructions p s) k d lt)) (marked k d lt)
+  section_rows s marked = λ k d lt. instruction_row p.fields few rows (get_or (section_instructions p s) k d) (valid_at s k (get_or (section_instructions p s) k d) (slice_get-get_or (section_instructions p s) k d lt)) (marked k d lt)
 
   subroutine_row : (n : ℕ) (s : SubroutineRow) → slice_get p.subroutines n ≡ Some s → IsMarkedRow s → IsSubroutineRow s
   subroutine_row n s is marked =

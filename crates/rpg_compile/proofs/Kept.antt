@@ -8,7 +8,7 @@ use Rattle.rpg_faults.specs.Rules.{rule, source_rule}
 use Rattle.rpg_faults.specs.declared.code.FaultCode.{FaultCode}
 use Rattle.rpg_faults.specs.declared.code.FaultCode.TheVariants.{F1, F2, F3, F4, F5, F6, F7, F8, F9, F10, F12, F13, F14, F16, F17, F18}
 use Rattle.rpg_faults_flow.specs.Columns as calculations
-use Rattle.rpg_faults_flow.specs.Flow.{calls_itself, goes_apart, goes_nowhere}
+use Rattle.rpg_faults_flow.specs.Flow.{calls_itself, leaves_its_section, lacks_target}
 use Rattle.rpg_faults_flow.specs.Kept.{KeepsRule, Rule}
 use Rattle.rpg_faults_flow.specs.Order.{breaks_order}
 use Rattle.rpg_faults_limits.specs.Files.{breaks_files, moves_disk}
@@ -52,10 +52,10 @@ keeps_rules cards none = record {
       (λ before c after t. or_right (calculations.bad_calculation_columns before c after) _ (or_left (operands.bad_operand_columns (before ++ c ∷ after) c after) _ t));
   f9_lines = of_source cards none F9 (λ cs before c after. moves_disk cs before c)
       (λ before c after t. or_right (calculations.bad_calculation_columns before c after) _ (or_right (operands.bad_operand_columns (before ++ c ∷ after) c after) _ t));
-  f10 = of_source cards none F10 goes_nowhere (λ before c after t. t);
+  f10 = of_source cards none F10 lacks_target (λ before c after t. t);
   f12 = kept cards none F12 breaks_order (λ before c after split t. or_left (breaks_order before c after) _ t);
   f12_lines = kept cards none F12 (λ before c after. is_stray before c) (λ before c after split t. or_right (breaks_order before c after) _ t);
-  f13 = of_source cards none F13 goes_apart (λ before c after t. t);
+  f13 = of_source cards none F13 leaves_its_section (λ before c after t. t);
   f14 = of_source cards none F14 calls_itself (λ before c after t. t);
   f16 = of_source cards none F16 misplaces (λ before c after t. t);
   f17 = of_source cards none F17 (λ cs before c after. bad_editing cs c) (λ before c after t. t);

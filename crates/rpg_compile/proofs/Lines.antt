@@ -4,6 +4,7 @@ use Rattle.std.proofs.lemmas.Bool.{leb-true}
 use Rattle.std.proofs.lemmas.List.{length-map, take-append-le, take_all}
 use Rattle.std.specs.Prelude.{All, count_by, nat_le}
 use Rattle.rpg_cards.specs.Calculations.{condition_of, standing}
+use Rattle.rpg_cards.specs.Cards.{is_output_field}
 use Rattle.rpg_cards.specs.Keys.{Key}
 use Rattle.rpg_cards.specs.Plain.{Each}
 use Rattle.rpg_cards.proofs.GroupLemmas.{open_group-push}
@@ -14,9 +15,9 @@ use Rattle.rpg_program.specs.Lines.{Line}
 use Rattle.rpg_program.specs.declared.condition.Condition.{Condition}
 use Rattle.rpg_compile_layouts.specs.Rows.{row_in_table, rows_of}
 use Rattle.rpg_compile_layouts.specs.Within.{AreFew, HasIndexRow, IsLineWithin}
-use Rattle.rpg_faults_limits.specs.Limits.{alternative_count, condition_count, conditions_with, is_or_line, is_output_field, of_line, output_field_count}
+use Rattle.rpg_faults_limits.specs.Limits.{alternative_count, condition_count, conditions_with, is_or_line, of_line, output_field_count}
 use Rattle.rpg_sheet_specs.specs.Three.{filled_count}
-use Rattle.rpg_compile.proofs.Indices.{HasGoodIndex, good_on_cards}
+use Rattle.rpg_compile.proofs.Indices.{HasValidIndex, valid_on_cards}
 use Rattle.rpg_compile.proofs.Walks.{all_of, at_open, one_more, three_count, unpassed}
 use Rattle.rpg_effect_renaming.specs.Naming.{renamed_field}
 use Rattle.rpg_sheet_specs.specs.declared.indicator.ConditionSpec as sheet
@@ -25,7 +26,7 @@ use Rattle.rpg_sheet_specs.specs.declared.output.OutputRecord.{OutputRecord}
 use Rattle.rpg_sheet_specs.specs.declared.output.OutputSpec.{OutputSpec}
 use Rattle.rpg_sheet_specs.specs.declared.output.OutputSpec.TheVariants as output
 use Rattle.rpg_compile_program.proofs.Lists.{Seen, all_within, each_both, front_keeps, front_within}
-use Rattle.rpg_compile_program.proofs.OpenGroups.{InGroup, each_good, each_open}
+use Rattle.rpg_compile_program.proofs.OpenGroups.{InGroup, each_valid, each_open}
 use Rattle.rpg_compile_program.specs.Lines.{card_line, line_alternatives, line_field_of, lines_on, output_fields_in}
 use Rattle.rpg_compile_program.specs.Rules.{KeepsCardRules}
 use Rattle.rpg_compile_program.specs.Table.{key_number, table_of}
@@ -127,7 +128,7 @@ module _ (cards : List SpecCard) (rules : KeepsCardRules cards) where
 
   -- ---- rows
 
-  indices : (os : List OutputSpec) → Each (HasGoodIndex cards) os → Each HasIndexRow (map (renamed_field (key_number (table_of cards))) (map line_field_of (output_fields_in os)))
+  indices : (os : List OutputSpec) → Each (HasValidIndex cards) os → Each HasIndexRow (map (renamed_field (key_number (table_of cards))) (map line_field_of (output_fields_in os)))
   indices [] h = tt
   indices (output.Record r ∷ os) h = indices os h.1
   indices (output.And t ∷ os) h = indices os h.1
@@ -137,8 +138,8 @@ module _ (cards : List SpecCard) (rules : KeepsCardRules cards) where
   abbrev IsRowWithin : Line Key → Type 0
   IsRowWithin l = IsLineWithin (row_in_table (table_of cards) l)
 
-  line_within : (g : Group OutputRecord OutputSpec) → IsWithin g → InGroup output_role (HasGoodIndex cards) g → IsRowWithin (card_line cards g)
-  line_within g h good =
+  line_within : (g : Group OutputRecord OutputSpec) → IsWithin g → InGroup output_role (HasValidIndex cards) g → IsRowWithin (card_line cards g)
+  line_within g h valid =
       let number = key_number (table_of cards) in
       let start = standing g.heading.conditions in
       let count = all_alternatives start g.followers in
@@ -152,12 +153,12 @@ module _ (cards : List SpecCard) (rules : KeepsCardRules cards) where
         few_alternatives = omega arith;
         alternatives = all_of AreFew (line_alternatives start g.followers) (each_few start g.followers (λ k. subst (λ n. fold conditions_with n (take k g.followers) ≤ 60) (sym first) (h.2 k)));
         few_fields = omega arith;
-        indices = all_of HasIndexRow (map (renamed_field number) (map line_field_of (output_fields_in g.followers))) (indices g.followers good);
+        indices = all_of HasIndexRow (map (renamed_field number) (map line_field_of (output_fields_in g.followers))) (indices g.followers valid);
       }
 
   pub lines_within : All IsLineWithin (rows_of (table_of cards) cards)
   lines_within =
       let t = table_of cards in
       let gs = groups output_role cards in
-      let each = each_both IsWithin (InGroup output_role (HasGoodIndex cards)) (λ g. IsRowWithin (card_line cards g)) gs line_within (each_open output_role cards IsWithin opened) (each_good output_role (HasGoodIndex cards) cards (good_on_cards cards rules)) in
+      let each = each_both IsWithin (InGroup output_role (HasValidIndex cards)) (λ g. IsRowWithin (card_line cards g)) gs line_within (each_open output_role cards IsWithin opened) (each_valid output_role (HasValidIndex cards) cards (valid_on_cards cards rules)) in
       all_of IsLineWithin (rows_of t cards) (each_row IsRowWithin IsLineWithin (row_in_table t) (lines_on cards) (λ l h. h) (each_row (λ g. IsRowWithin (card_line cards g)) IsRowWithin (card_line cards) gs (λ g h. h) each))

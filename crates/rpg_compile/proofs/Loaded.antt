@@ -11,13 +11,13 @@ use Rattle.rpg_cards.specs.Plain.{Each}
 use Rattle.rpg_cards.specs.Cards.{data_on, extension_on}
 use Rattle.rpg_cards.specs.Groups.{Group, data_card_role, data_role, followers, followers_with, groups, groups_from, opening, role_on}
 use Rattle.rpg_cards.specs.Names.{definition_in, definitions_on, form_of_name, table_form, tables_on}
-use Rattle.rpg_cards.specs.declared.names.Defined.TheVariants.{Good}
+use Rattle.rpg_cards.specs.declared.names.Defined.TheVariants.{Valid}
 use Rattle.rpg_cards.specs.declared.names.Definition.{Definition}
 use Rattle.rpg_cards.specs.declared.spec_card.SpecCard.{SpecCard}
 use Rattle.rpg_compile_program.proofs.Each.{each_append}
 use Rattle.rpg_program.specs.declared.form.FieldForm.{FieldForm}
 use Rattle.rpg_faults_data.proofs.DeckLemmas.{no_more, one_more}
-use Rattle.rpg_faults_data.specs.Data.{bad_data, bad_deck, bad_tables, breaks_data, cards_for, data_columns, data_entries, deck_at, has_forms, wanted, wants_data}
+use Rattle.rpg_faults_data.specs.Data.{bad_data, bad_deck, bad_tables, breaks_data, cards_for, data_columns, data_entries, deck_at, has_forms, wanted, expects_data}
 use Rattle.rpg_program.specs.Kept.{AreEntriesOf}
 use Rattle.rpg_sheet_specs.specs.declared.data.DataSpec.{DataSpec}
 use Rattle.rpg_sheet_specs.specs.declared.data.DataSpec.TheVariants as deck
@@ -35,7 +35,7 @@ use Rattle.rpg_compile.proofs.Entries.{FitsText, table_fits}
 -- a name with values that fit its form
 pub record IsLoaded (cards : List SpecCard) (l : Loaded) : Type 0 where
   pub form : FieldForm
-  pub named : form_of_name l.0 cards ≡ Good form
+  pub named : form_of_name l.0 cards ≡ Valid form
   pub fits : AreEntriesOf form l.1
 
 -- ---- the cards of data hold characters
@@ -80,9 +80,9 @@ record IsDeck (e : ExtensionSpec) (per_card : ℕ) (texts : List (List ℕ)) : T
   enough : e.entries ≤ length texts * per_card
   fit : Each IsDataText texts
 
-good_deck : (e : ExtensionSpec) (per_card : ℕ) (texts : List (List ℕ)) → bad_deck e per_card texts ≡ false → Each IsDataText texts → IsDeck e per_card texts
-good_deck e per_card texts good fit =
-    let some = or_parts (per_card == 0) (nat_lt 80 (per_card * data_columns e) || (not (length texts == cards_for e.entries per_card) || bad_tables e per_card texts 0 (tables_on e))) good in
+valid_deck : (e : ExtensionSpec) (per_card : ℕ) (texts : List (List ℕ)) → bad_deck e per_card texts ≡ false → Each IsDataText texts → IsDeck e per_card texts
+valid_deck e per_card texts valid fit =
+    let some = or_parts (per_card == 0) (nat_lt 80 (per_card * data_columns e) || (not (length texts == cards_for e.entries per_card) || bad_tables e per_card texts 0 (tables_on e))) valid in
     let fits = or_parts (nat_lt 80 (per_card * data_columns e)) (not (length texts == cards_for e.entries per_card) || bad_tables e per_card texts 0 (tables_on e)) some.1 in
     let count = or_parts (not (length texts == cards_for e.entries per_card)) (bad_tables e per_card texts 0 (tables_on e)) fits.1 in
     let as_many : length texts ≡ cards_for e.entries per_card = eqb-true (length texts) (cards_for e.entries per_card) (not-false _ count.0) in
@@ -103,24 +103,24 @@ record IsOfName (cards : List SpecCard) (e : ExtensionSpec) (t : TableSpec) : Ty
 
 table_loaded : (cards : List SpecCard) → FitsText → (e : ExtensionSpec) (per_card : ℕ) (texts : List (List ℕ)) (from : ℕ) (t : TableSpec) → IsDeck e per_card texts → IsOfName cards e t
     → from + t.length ≤ data_columns e → IsLoaded cards (t.name, map (entry_value t) (data_entries e.entries per_card (data_columns e) from t.length texts))
-table_loaded cards spelled e per_card texts from t good of_name inside = by (table_form e.entries t) refl of_name.form
+table_loaded cards spelled e per_card texts from t valid of_name inside = by (table_form e.entries t) refl of_name.form
   where
     by : (o : Option FieldForm) → table_form e.entries t ≡ o → IsForm o → IsLoaded cards (t.name, map (entry_value t) (data_entries e.entries per_card (data_columns e) from t.length texts))
     by None is h = absurd h
     by (Some form) is h = record {
       form = form;
       named = of_name.name form is;
-      fits = table_fits spelled e.entries per_card (data_columns e) from t form texts is good.room inside good.enough good.fit;
+      fits = table_fits spelled e.entries per_card (data_columns e) from t form texts is valid.room inside valid.enough valid.fit;
     }
 
 tables_fit : (cards : List SpecCard) → FitsText → (e : ExtensionSpec) (per_card : ℕ) (texts : List (List ℕ)) (from : ℕ) (ts : List TableSpec) → IsDeck e per_card texts → Each (IsOfName cards e) ts
     → from + sum_by (λ (t : TableSpec). t.length) ts ≤ data_columns e → Each (IsLoaded cards) (tables_loaded e per_card texts from ts)
-tables_fit cards spelled e per_card texts from [] good named inside = tt
-tables_fit cards spelled e per_card texts from (t ∷ ts) good named inside =
+tables_fit cards spelled e per_card texts from [] valid named inside = tt
+tables_fit cards spelled e per_card texts from (t ∷ ts) valid named inside =
     let split = sum_by-cons (λ (t : TableSpec). t.length) t ts in
     let here : from + t.length ≤ data_columns e = omega arith in
     let later : from + t.length + sum_by (λ (t : TableSpec). t.length) ts ≤ data_columns e = omega arith in
-    (table_loaded cards spelled e per_card texts from t good named.0 here, tables_fit cards spelled e per_card texts (from + t.length) ts good named.1 later)
+    (table_loaded cards spelled e per_card texts from t valid named.0 here, tables_fit cards spelled e per_card texts (from + t.length) ts valid named.1 later)
 
 -- ---- what a card defines
 
@@ -182,17 +182,17 @@ module _ (cards : List SpecCard) (spelled : FitsText) (ranges : AreCards cards)
   record TakesDeck (n : ℕ) (e : ExtensionSpec) (per_card : ℕ) : Type 0 where
     texts : List (List ℕ)
     is : slice_get (decks cards) n ≡ Some texts
-    good : IsDeck e per_card texts
+    valid : IsDeck e per_card texts
 
   takes_deck : (before : List SpecCard) (e : ExtensionSpec) (per_card : ℕ) → Each (IsOfName cards e) (tables_on e) → bad_data cards before e (Some per_card) ≡ false → TakesDeck (wanted before) e per_card
-  takes_deck before e per_card of_name good = by (deck_at (wanted before) cards) (slice_get-map (λ (g : Group (Unit {0}) (List ℕ)). g.followers) (groups data_role cards) (wanted before)) good
+  takes_deck before e per_card of_name valid = by (deck_at (wanted before) cards) (slice_get-map (λ (g : Group (Unit {0}) (List ℕ)). g.followers) (groups data_role cards) (wanted before)) valid
     where
       by : (o : Option (List (List ℕ))) → slice_get (decks cards) (wanted before) ≡ o → option_map_or (λ texts. has_forms e && bad_deck e per_card texts) o true ≡ false → TakesDeck (wanted before) e per_card
       by None is h = absurd cc
       by (Some texts) is h = record {
         texts = texts;
         is = is;
-        good = good_deck e per_card texts (and_second (has_forms e) (bad_deck e per_card texts) (have_forms cards e (tables_on e) of_name) h) (each_got (Each IsDataText) (wanted before) (decks cards) texts is (decks_fit None cards ranges));
+        valid = valid_deck e per_card texts (and_second (has_forms e) (bad_deck e per_card texts) (have_forms cards e (tables_on e) of_name) h) (each_got (Each IsDataText) (wanted before) (decks cards) texts is (decks_fit None cards ranges));
       }
 
   -- what is loaded for cards after others
@@ -202,18 +202,18 @@ module _ (cards : List SpecCard) (spelled : FitsText) (ranges : AreCards cards)
   with_card : (before : List SpecCard) (c : SpecCard) (after : List SpecCard) → cards ≡ before ++ c ∷ after → Later (before ++ c ∷ []) after → Later before (c ∷ after)
   with_card before c after split later = by_card (extension_on c.spec) refl
     where
-      passed : wants_data c ≡ false → Later before after
+      passed : expects_data c ≡ false → Later before after
       passed wants = subst (λ n. Each (IsLoaded cards) (all_loaded (extensions after) (drop n (decks cards)))) (no_more before c wants) later
 
       by_count : (e : ExtensionSpec) → extension_on c.spec ≡ Some e → (o : Option ℕ) → e.entries_per_card ≡ o → bad_data cards before e o ≡ false
           → Each (IsLoaded cards) (with_deck e o (drop (wanted before) (decks cards)) (λ rest. all_loaded (extensions after) rest))
-      by_count e is None none good = passed (ap (λ o. option_map_or (λ (e : ExtensionSpec). is_some e.entries_per_card) o false) is ∙ ap (λ (o : Option ℕ). is_some o) none)
-      by_count e is (Some per_card) some good =
+      by_count e is None none valid = passed (ap (λ o. option_map_or (λ (e : ExtensionSpec). is_some e.entries_per_card) o false) is ∙ ap (λ (o : Option ℕ). is_some o) none)
+      by_count e is (Some per_card) some valid =
           let of_name = tables_named cards c.spec e is (named before c after split) (formed before c after split) in
-          let takes = takes_deck before e per_card of_name good in
-          let wants : wants_data c ≡ true = ap (λ o. option_map_or (λ (e : ExtensionSpec). is_some e.entries_per_card) o false) is ∙ ap (λ (o : Option ℕ). is_some o) some in
+          let takes = takes_deck before e per_card of_name valid in
+          let wants : expects_data c ≡ true = ap (λ o. option_map_or (λ (e : ExtensionSpec). is_some e.entries_per_card) o false) is ∙ ap (λ (o : Option ℕ). is_some o) some in
           let next : wanted (before ++ c ∷ []) ≡ suc (wanted before) = one_more before c wants ∙ add-one (wanted before) in
-          let here : Each (IsLoaded cards) (tables_loaded e per_card takes.texts 0 (tables_on e)) = tables_fit cards spelled e per_card takes.texts 0 (tables_on e) takes.good of_name (omega arith) in
+          let here : Each (IsLoaded cards) (tables_loaded e per_card takes.texts 0 (tables_on e)) = tables_fit cards spelled e per_card takes.texts 0 (tables_on e) takes.valid of_name (omega arith) in
           let following = subst (λ n. Each (IsLoaded cards) (all_loaded (extensions after) (drop n (decks cards)))) next later in
           subst (λ ds. Each (IsLoaded cards) (with_deck e (Some per_card) ds (λ rest. all_loaded (extensions after) rest))) (sym (drop_got (wanted before) (decks cards) takes.texts takes.is))
           (each_append (IsLoaded cards) (tables_loaded e per_card takes.texts 0 (tables_on e)) (all_loaded (extensions after) (drop (suc (wanted before)) (decks cards))) here following)

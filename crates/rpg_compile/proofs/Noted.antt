@@ -3,7 +3,7 @@ use Rattle.std.proofs.Common.{◌≡◌, ℕ, suc, ◌+◌, Bool, true, false, c
 use Rattle.std.specs.Cmp.Lexicographic.{pointwise}
 use Rattle.std.specs.Map.{lookup}
 use Rattle.std.specs.Prelude.{nat_eq}
-use Rattle.rpg_cards.specs.Deeds.{Calculation}
+use Rattle.rpg_cards.specs.Statements.{Calculation}
 use Rattle.rpg_cards.specs.Keys.{Key, Name}
 use Rattle.rpg_cards.specs.Sections.{Subroutine, callee, is_same_name, label_on}
 use Rattle.rpg_compile_program.specs.Code.{label_place, size, sizes}
@@ -30,14 +30,14 @@ no_label : (gs : List (Calculation Key)) (place : ℕ) → label_place None gs p
 no_label [] place = omega arith
 no_label (g ∷ gs) place =
     let ends : place + size g + sizes gs ≡ place + (size g + sizes gs) = omega arith in
-    ap (λ b. cond b place (label_place None gs (place + size g))) (unnamed (label_on g.deed)) ∙ no_label gs (place + size g) ∙ ends
+    ap (λ b. cond b place (label_place None gs (place + size g))) (unnamed (label_on g.statement)) ∙ no_label gs (place + size g) ∙ ends
 
 label_found : (n : Name) (gs : List (Calculation Key)) (place : ℕ) → unwrap_or (lookup (pointwise nat_eq n) (labels_from place gs)) (place + sizes gs) ≡ label_place (Some n) gs place
 label_found n [] place = omega arith
 label_found n (g ∷ gs) place =
     let ends : place + (size g + sizes gs) ≡ place + size g + sizes gs = omega arith in
-    first_or_later n place (labels_from (place + size g) gs) (label_on g.deed) (place + (size g + sizes gs))
-    ∙ ap (λ p. cond (is_same_name (Some n) (label_on g.deed)) place p) (ap (unwrap_or (lookup (pointwise nat_eq n) (labels_from (place + size g) gs))) ends ∙ label_found n gs (place + size g))
+    first_or_later n place (labels_from (place + size g) gs) (label_on g.statement) (place + (size g + sizes gs))
+    ∙ ap (λ p. cond (is_same_name (Some n) (label_on g.statement)) place p) (ap (unwrap_or (lookup (pointwise nat_eq n) (labels_from (place + size g) gs))) ends ∙ label_found n gs (place + size g))
 
 pub labels_noted : (entries : NumberedNames) (gs : List (Calculation Key)) (place : ℕ) → ((n : Name) → lookup (pointwise nat_eq n) entries ≡ lookup (pointwise nat_eq n) (labels_from place gs))
     → (l : Option Name) → unwrap_or (number_named entries l) (place + sizes gs) ≡ label_place l gs place

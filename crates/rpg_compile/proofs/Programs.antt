@@ -1,4 +1,4 @@
--- The program of cards that keep its limits keeps all that the object format asks.
+-- The program of cards that keep its limits keeps all that the object format requires.
 use Rattle.std.proofs.Common.{◌≡◌, ℕ, suc, ◌+◌, ◌<◌, ◌≤◌, List, [], ◌∷◌, length, Option, refl, ap, arith}
 use Rattle.std.proofs.lemmas.List.{length-map}
 use Rattle.std.specs.Option.{option_and_then}

@@ -3,8 +3,8 @@ use Rattle.std.proofs.Common.{◌≡◌, ℕ, suc, ◌+◌, ◌*◌, ◌≤◌, 
 use Rattle.std.proofs.lemmas.Grind.{flat_map-append}
 use Rattle.std.specs.List.{flat_map}
 use Rattle.std.specs.Option.{option_map, option_map_or, option_to_list}
-use Rattle.rpg_cards.specs.Calculations.{CalculationGroup, alone, alternatives, awaited_level, calculation_of, calculations, calculations_from, conditions_on, goes_on, group_with, is_or, joined_group, last_card, tests_on}
-use Rattle.rpg_cards.specs.Deeds.{Calculation, deed_of, has_instruction, tests}
+use Rattle.rpg_cards.specs.Calculations.{CalculationGroup, alone, alternatives, awaited_level, calculation_of, calculations, calculations_from, conditions_on, continues, group_with, is_or, joined_group, last_card, tests_on}
+use Rattle.rpg_cards.specs.Statements.{Calculation, statement_of, has_instruction, tests}
 use Rattle.rpg_cards.specs.Keys.{Key, Name}
 use Rattle.rpg_cards.specs.Sections.{Subroutine, begun_by, is_detail, is_subroutine, is_total, of_control, subroutines_of, unless_begun, up_to_begin, with_begun}
 use Rattle.rpg_cards.specs.Cards.{calculation_on}
@@ -57,7 +57,7 @@ one_joined g k =
 
 small : (g : CalculationGroup) → size (calculation_of g) ≤ tests_of g + 2
 unfolding size
-small g = by (has_instruction (deed_of (last_card g))) (one_wait (awaited_level g.first.control_level))
+small g = by (has_instruction (statement_of (last_card g))) (one_wait (awaited_level g.first.control_level))
   where
     one_wait : (o : Option ℕ) → waits o ≤ 1
     one_wait None = omega arith
@@ -69,7 +69,7 @@ small g = by (has_instruction (deed_of (last_card g))) (one_wait (awaited_level 
 
 -- ---- all calculations
 
--- the tests of the open group, where it goes on
+-- the tests of the open group, where it continues
 abbrev pub pending : Option CalculationGroup → Bool → ℕ
 pending None b = 0
 pending (Some g) b = cond b (tests_of g) 0
@@ -86,7 +86,7 @@ one_card (Some g) k = by (joins k.control_level)
 abbrev emitted : CalculationGroup → List SpecCard → Bool → List (Calculation Key)
 emitted h cs b = option_to_list (option_map calculation_of (cond b None (Some h))) ++ calculations_from (Some h) cs []
 
-by_group : (h : CalculationGroup) (cs : List SpecCard) (b : Bool) (pend : ℕ) → goes_on cs ≡ b → tests_of h ≤ pend + 1 → sizes (calculations_from (Some h) cs []) ≤ 3 * length cs + cond b (tests_of h) 0
+by_group : (h : CalculationGroup) (cs : List SpecCard) (b : Bool) (pend : ℕ) → continues cs ≡ b → tests_of h ≤ pend + 1 → sizes (calculations_from (Some h) cs []) ≤ 3 * length cs + cond b (tests_of h) 0
     → sizes (after_group h cs) ≤ 3 * suc (length cs) + pend
 by_group h cs true pend goes few rest =
     let same : sizes (after_group h cs) ≡ sizes (calculations_from (Some h) cs []) = ap (λ b. sizes (emitted h cs b)) goes in
@@ -96,20 +96,20 @@ by_group h cs false pend goes few rest =
     let here = small h in
     omega (arith, same, few, rest, here)
 
-all_small : (o : Option CalculationGroup) (cs : List SpecCard) → sizes (calculations_from o cs []) ≤ 3 * length cs + pending o (goes_on cs)
+all_small : (o : Option CalculationGroup) (cs : List SpecCard) → sizes (calculations_from o cs []) ≤ 3 * length cs + pending o (continues cs)
 all_small o [] = omega arith
 all_small o (c ∷ cs) = by_card (calculation_on c.spec) refl (λ p. all_small p cs)
   where
-    by_card : (p : Option CalculationSpec) → calculation_on c.spec ≡ p → ((q : Option CalculationGroup) → sizes (calculations_from q cs []) ≤ 3 * length cs + pending q (goes_on cs))
-        → sizes (calculations_from o (c ∷ cs) []) ≤ 3 * length (c ∷ cs) + pending o (goes_on (c ∷ cs))
+    by_card : (p : Option CalculationSpec) → calculation_on c.spec ≡ p → ((q : Option CalculationGroup) → sizes (calculations_from q cs []) ≤ 3 * length cs + pending q (continues cs))
+        → sizes (calculations_from o (c ∷ cs) []) ≤ 3 * length (c ∷ cs) + pending o (continues (c ∷ cs))
     by_card None is rest =
         let same = ap sizes (closed o c cs (ap (option_map (group_with o)) is)) in
         let all = rest None in
         omega (arith, same, all)
     by_card (Some k) is rest =
         let same = ap sizes (opened o c cs (group_with o k) (ap (option_map (group_with o)) is)) in
-        let joined_so : pending o (goes_on (c ∷ cs)) ≡ pending o (joins k.control_level) = ap (pending o) (ap (λ p. option_map_or (λ k. joins k.control_level) p false) is) in
-        let all = by_group (group_with o k) cs (goes_on cs) (pending o (joins k.control_level)) refl (one_card o k) (rest (Some (group_with o k))) in
+        let joined_so : pending o (continues (c ∷ cs)) ≡ pending o (joins k.control_level) = ap (pending o) (ap (λ p. option_map_or (λ k. joins k.control_level) p false) is) in
+        let all = by_group (group_with o k) cs (continues cs) (pending o (joins k.control_level)) refl (one_card o k) (rest (Some (group_with o k))) in
         omega (arith, same, joined_so, all)
 
 -- ---- sections
@@ -131,7 +131,7 @@ apart (g ∷ gs) = by_control g.control (apart gs)
 -- and in one subroutine at most
 bodies : (gs : List (Calculation Key)) → sizes (up_to_begin gs) + body_sizes (subroutines_of gs) ≤ sizes gs
 bodies [] = omega arith
-bodies (g ∷ gs) = by_begin (begun_by g.deed) (bodies gs)
+bodies (g ∷ gs) = by_begin (begun_by g.statement) (bodies gs)
   where
     by_begin : (o : Option (Option Name)) → sizes (up_to_begin gs) + body_sizes (subroutines_of gs) ≤ sizes gs
         → sizes (unless_begun o (g ∷ up_to_begin gs)) + body_sizes (with_begun o (up_to_begin gs) (subroutines_of gs)) ≤ size g + sizes gs

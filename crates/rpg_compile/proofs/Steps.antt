@@ -2,7 +2,7 @@
 use Rattle.std.proofs.Common.{◌≡◌, ℕ, ◌+◌, true, false, cond, List, [], ◌∷◌, ◌++◌, length, Option, Some, refl, sym, ap, ◌∙◌, append-nil, append_assoc}
 use Rattle.std.specs.Option.{option_map}
 use Rattle.rpg_cards.specs.Calculations.{CalculationGroup, awaited_level, calculation_of, last_card}
-use Rattle.rpg_cards.specs.Deeds.{Acts, Begins, Calculation, Deed, Ends, Executes, GoesTo, Marks, Nothing, PutsOut, deed_of, has_instruction, tests}
+use Rattle.rpg_cards.specs.Statements.{Acts, Begins, Calculation, Statement, Ends, Executes, GoesTo, Marks, Nothing, WritesExceptions, statement_of, has_instruction, tests}
 use Rattle.rpg_cards.specs.Keys.{Key, Name}
 use Rattle.rpg_cards.specs.declared.spec_card.SpecCard.{SpecCard}
 use Rattle.rpg_compile_program.specs.Code.{code_from, group_code, level_code, size, step_code, tests_code, waits}
@@ -18,11 +18,11 @@ use Rattle.rpg_compile.specs.Walk.{first_calculation, group_of, size_with}
 use Rattle.rpg_effect_renaming.specs.Naming.{renamed_action}
 use Rattle.rpg_sheet_specs.specs.declared.calculation.CalculationSpec.{CalculationSpec}
 
-pub acted : (number : Key → ℕ) (place_of callee_of : Option Name → ℕ) (own : ℕ) (d : Deed Key) (a : Action (Operand ℕ)) → Some a ≡ option_map (renamed_action number) (action_in d)
+pub acted : (number : Key → ℕ) (place_of callee_of : Option Name → ℕ) (own : ℕ) (d : Statement Key) (a : Action (Operand ℕ)) → Some a ≡ option_map (renamed_action number) (action_in d)
     → made.Act a ∷ [] ≡ step_code number place_of callee_of own d
 unfolding step_code
 acted number place_of callee_of own (Acts b) a is = let same : a ≡ renamed_action number b = cc in ap (λ x. made.Act x ∷ []) same
-acted number place_of callee_of own PutsOut a is = absurd cc
+acted number place_of callee_of own WritesExceptions a is = absurd cc
 acted number place_of callee_of own (GoesTo l) a is = absurd cc
 acted number place_of callee_of own (Executes n) a is = absurd cc
 acted number place_of callee_of own (Marks l) a is = absurd cc
@@ -31,13 +31,13 @@ acted number place_of callee_of own (Ends l) a is = absurd cc
 acted number place_of callee_of own Nothing a is = absurd cc
 
 module _ (number : Key → ℕ) (place_of callee_of : Option Name → ℕ) (own : ℕ) where
-  abbrev pub steps : Deed Key → List (Instruction ℕ)
+  abbrev pub steps : Statement Key → List (Instruction ℕ)
   steps d = step_code number place_of callee_of own d
 
-  has_none : (d : Deed Key) → [] ≡ steps d → has_instruction d ≡ false
+  has_none : (d : Statement Key) → [] ≡ steps d → has_instruction d ≡ false
   unfolding step_code
   has_none (Acts a) is = absurd cc
-  has_none PutsOut is = absurd cc
+  has_none WritesExceptions is = absurd cc
   has_none (GoesTo l) is = absurd cc
   has_none (Executes n) is = absurd cc
   has_none (Marks l) is = refl
@@ -45,10 +45,10 @@ module _ (number : Key → ℕ) (place_of callee_of : Option Name → ℕ) (own 
   has_none (Ends l) is = absurd cc
   has_none Nothing is = refl
 
-  pub has_one : (d : Deed Key) (i : Instruction ℕ) → i ∷ [] ≡ steps d → has_instruction d ≡ true
+  pub has_one : (d : Statement Key) (i : Instruction ℕ) → i ∷ [] ≡ steps d → has_instruction d ≡ true
   unfolding step_code
   has_one (Acts a) i is = refl
-  has_one PutsOut i is = refl
+  has_one WritesExceptions i is = refl
   has_one (GoesTo l) i is = refl
   has_one (Executes n) i is = refl
   has_one (Marks l) i is = absurd cc
@@ -66,26 +66,26 @@ module _ (number : Key → ℕ) (place_of callee_of : Option Name → ℕ) (own 
     level = awaited_level g.first.control_level
 
     whole : ℕ → List (Instruction ℕ)
-    whole s = level_code (place + s) level ++ (tests_code (place + waits level) (place + waits level + tests alternatives) (place + s) alternatives ++ steps (deed_of (last_card g)))
+    whole s = level_code (place + s) level ++ (tests_code (place + waits level) (place + waits level + tests alternatives) (place + s) alternatives ++ steps (statement_of (last_card g)))
 
-    pub group_of_nothing : [] ≡ steps (deed_of (last_card g)) → group_code number place_of callee_of own place (calculation_of g) ≡ []
+    pub group_of_nothing : [] ≡ steps (statement_of (last_card g)) → group_code number place_of callee_of own place (calculation_of g) ≡ []
     unfolding group_code alternatives level whole
-    group_of_nothing none = ap (λ b. cond b (whole (size (calculation_of g))) []) (has_none (deed_of (last_card g)) none)
+    group_of_nothing none = ap (λ b. cond b (whole (size (calculation_of g))) []) (has_none (statement_of (last_card g)) none)
 
-    has_whole : (i : Instruction ℕ) → i ∷ [] ≡ steps (deed_of (last_card g)) → group_code number place_of callee_of own place (calculation_of g) ≡ whole (size (calculation_of g))
+    has_whole : (i : Instruction ℕ) → i ∷ [] ≡ steps (statement_of (last_card g)) → group_code number place_of callee_of own place (calculation_of g) ≡ whole (size (calculation_of g))
     unfolding group_code alternatives level whole
-    has_whole i one = ap (λ b. cond b (whole (size (calculation_of g))) []) (has_one (deed_of (last_card g)) i one)
+    has_whole i one = ap (λ b. cond b (whole (size (calculation_of g))) []) (has_one (statement_of (last_card g)) i one)
 
-  pub group_of_one : (place : ℕ) (first : CalculationSpec) (cards : List SpecCard) (i : Instruction ℕ) → first_calculation cards ≡ Some first → i ∷ [] ≡ steps (deed_of (last_card (group_of first cards)))
+  pub group_of_one : (place : ℕ) (first : CalculationSpec) (cards : List SpecCard) (i : Instruction ℕ) → first_calculation cards ≡ Some first → i ∷ [] ≡ steps (statement_of (last_card (group_of first cards)))
       → group_code number place_of callee_of own place (calculation_of (group_of first cards)) ≡ code_of_group place first cards i
   unfolding alternatives level whole
   group_of_one place first cards i is one =
       let g = group_of first cards in
       let waited = waits (awaited_level first.control_level) in
       has_whole place g i one
-      ∙ ap (whole place g) (size_of_instruction first cards is (has_one (deed_of (last_card g)) i one))
-      ∙ ap (λ n. level_code (place + size_with first cards) (awaited_level first.control_level) ++ (tests_code (place + waited) (place + waited + n) (place + size_with first cards) (calculation_of g).alternatives ++ steps (deed_of (last_card g)))) (group_tests first cards is)
-      ∙ ap (λ alts. level_code (place + size_with first cards) (awaited_level first.control_level) ++ (tests_code (place + waited) (place + waited + length (tests_in cards)) (place + size_with first cards) alts ++ steps (deed_of (last_card g)))) (sym (group_alternatives first cards is))
+      ∙ ap (whole place g) (size_of_instruction first cards is (has_one (statement_of (last_card g)) i one))
+      ∙ ap (λ n. level_code (place + size_with first cards) (awaited_level first.control_level) ++ (tests_code (place + waited) (place + waited + n) (place + size_with first cards) (calculation_of g).alternatives ++ steps (statement_of (last_card g)))) (group_tests first cards is)
+      ∙ ap (λ alts. level_code (place + size_with first cards) (awaited_level first.control_level) ++ (tests_code (place + waited) (place + waited + length (tests_in cards)) (place + size_with first cards) alts ++ steps (statement_of (last_card g)))) (sym (group_alternatives first cards is))
       ∙ ap (λ is. level_code (place + size_with first cards) (awaited_level first.control_level) ++ (tests_code (place + waited) (place + waited + length (tests_in cards)) (place + size_with first cards) (alternatives_in cards) ++ is)) (sym one)
 
   -- ---- sections

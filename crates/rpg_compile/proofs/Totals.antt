@@ -35,21 +35,21 @@ abbrev with_its_form : List ℕ → Option FieldForm → Definition
 with_its_form name o = record { name = name; form = o }
 
 one_name : (fs : NamedForms) (d : Definition) → HasForm d → insert_key same_name (map defined_field fs) d ≡ map defined_field (with_definition fs d)
-one_name fs d good = by_form d.form refl good
+one_name fs d valid = by_form d.form refl valid
   where
     by_cases : (b : Bool) (form : FieldForm) → cond b (map defined_field fs) (map defined_field fs ++ defined_field (d.name, form) ∷ []) ≡ map defined_field (cond b fs (fs ++ (d.name, form) ∷ []))
     by_cases true form = refl
     by_cases false form = sym (map-append defined_field fs ((d.name, form) ∷ []))
 
     by_form : (o : Option FieldForm) → d.form ≡ o → IsForm o → insert_key same_name (map defined_field fs) d ≡ map defined_field (with_form fs d.name o)
-    by_form None e good = absurd good
-    by_form (Some form) e good =
+    by_form None e valid = absurd valid
+    by_form (Some form) e valid =
         ap (λ b. cond b (map defined_field fs) (map defined_field fs ++ d ∷ [])) (known_fields fs d.name)
         ∙ ap (λ (o : Option FieldForm). cond (is_some (defined_form fs d.name)) (map defined_field fs) (map defined_field fs ++ with_its_form d.name o ∷ [])) e ∙ by_cases (is_some (defined_form fs d.name)) form
 
 names_with : (fs : NamedForms) (ds : List Definition) → Each HasForm ds → insert_all same_name (map defined_field fs) ds ≡ map defined_field (with_definitions fs ds)
-names_with fs [] good = refl
-names_with fs (d ∷ ds) good = ap (λ (known : List Definition). insert_all same_name known ds) (one_name fs d good.0) ∙ names_with (with_definition fs d) ds good.1
+names_with fs [] valid = refl
+names_with fs (d ∷ ds) valid = ap (λ (known : List Definition). insert_all same_name known ds) (one_name fs d valid.0) ∙ names_with (with_definition fs d) ds valid.1
 
 bytes_by_name : (fs : NamedForms) → sum_by definition_bytes (map defined_field fs) ≡ storage fs
 bytes_by_name [] = refl

@@ -16,7 +16,7 @@ use Rattle.rpg_cards.specs.declared.files.FileUse.TheVariants.{Disk, Primary, Pr
 use Rattle.rpg_cards.specs.declared.spec_card.SpecCard.{SpecCard}
 use Rattle.rpg_compile_program.proofs.InputTypes.{follower_on}
 use Rattle.rpg_compile_program.proofs.Matched.{Rows}
-use Rattle.rpg_compile_program.proofs.OpenGroups.{HasGood, InGroup, each_good}
+use Rattle.rpg_compile_program.proofs.OpenGroups.{HasValid, InGroup, each_valid}
 use Rattle.rpg_compile_program.specs.Lines.{record_length_of}
 use Rattle.rpg_compile_program.specs.Program.{key_numbers, program_of, types_of, version_for, version_with}
 use Rattle.rpg_compile_program.specs.Types.{card_type, control_field, file_read, input_fields_in, input_file}
@@ -74,7 +74,7 @@ no_rows (input.Field f ∷ is) h = by f.match_level (h.0 f refl) (no_rows is h.1
     by None e r = r
     by (Some l) e r = absurd cc
 
-each_none : (cards : List SpecCard) → has_match_field cards ≡ false → Each (HasGood input_role HasNone) cards
+each_none : (cards : List SpecCard) → has_match_field cards ≡ false → Each (HasValid input_role HasNone) cards
 each_none [] e = tt
 each_none (c ∷ cs) e =
     let both = or_parts (is_match_card c) (list_any is_match_card cs) e in
@@ -103,5 +103,5 @@ module _ (cards : List SpecCard) (first : version_for cards ≡ versions.One) wh
   unfolding program_of
   plain allowance = record {
     secondary = no_length (file_for Secondary cards) both.0;
-    types = all_of IsPlainType (types_of cards) (each_plain (key_numbers cards) (groups input_role cards) (each_good input_role HasNone cards (each_none cards both.1)));
+    types = all_of IsPlainType (types_of cards) (each_plain (key_numbers cards) (groups input_role cards) (each_valid input_role HasNone cards (each_none cards both.1)));
   }

@@ -4,8 +4,8 @@ use Rattle.std.proofs.lemmas.List.{take_more}
 use Rattle.std.proofs.lemmas.List.Elements.{filter_map-append}
 use Rattle.std.specs.List.{cons_option, last_or}
 use Rattle.std.specs.Option.{option_map, option_map_or, option_to_list}
-use Rattle.rpg_cards.specs.Calculations.{CalculationGroup, alone, calculation_of, calculations, calculations_from, completed, goes_on, group_at, group_with, joined_group, open_with}
-use Rattle.rpg_cards.specs.Deeds.{Calculation}
+use Rattle.rpg_cards.specs.Calculations.{CalculationGroup, alone, calculation_of, calculations, calculations_from, completed, continues, group_at, group_with, joined_group, open_with}
+use Rattle.rpg_cards.specs.Statements.{Calculation}
 use Rattle.rpg_cards.specs.Keys.{Key}
 use Rattle.rpg_cards.specs.Cards.{calculation_on, calculation_specs_in}
 use Rattle.rpg_cards.specs.Groups.{joins}
@@ -17,12 +17,12 @@ use Rattle.rpg_sheet_specs.specs.declared.calculation.CalculationSpec.{Calculati
 
 -- the calculations after a card that leaves a group open
 abbrev pub after_group : CalculationGroup → List SpecCard → List (Calculation Key)
-after_group g cs = option_to_list (option_map calculation_of (cond (goes_on cs) None (Some g))) ++ calculations_from (Some g) cs []
+after_group g cs = option_to_list (option_map calculation_of (cond (continues cs) None (Some g))) ++ calculations_from (Some g) cs []
 
 pub opened : (o : Option CalculationGroup) (c : SpecCard) (cs : List SpecCard) (g : CalculationGroup) → open_with o c.spec ≡ Some g → calculations_from o (c ∷ cs) [] ≡ after_group g cs
 opened o c cs g is =
     ap (λ after. option_to_list (option_map calculation_of (group_at o c after)) ++ calculations_from (open_with o c.spec) cs []) (append-nil cs)
-    ∙ ap (λ p. option_to_list (option_map calculation_of (cond (goes_on cs) None p)) ++ calculations_from p cs []) is
+    ∙ ap (λ p. option_to_list (option_map calculation_of (cond (continues cs) None p)) ++ calculations_from p cs []) is
 
 no_group : (b : Bool) → option_to_list (option_map calculation_of (cond b None None)) ≡ []
 no_group true = refl
@@ -31,22 +31,22 @@ no_group false = refl
 pub closed : (o : Option CalculationGroup) (c : SpecCard) (cs : List SpecCard) → open_with o c.spec ≡ None → calculations_from o (c ∷ cs) [] ≡ calculations cs
 closed o c cs is =
     ap (λ after. option_to_list (option_map calculation_of (group_at o c after)) ++ calculations_from (open_with o c.spec) cs []) (append-nil cs)
-    ∙ ap (λ p. option_to_list (option_map calculation_of (cond (goes_on cs) None p)) ++ calculations_from p cs []) is
-    ∙ ap (λ (gs : List (Calculation Key)). gs ++ calculations cs) (no_group (goes_on cs))
+    ∙ ap (λ p. option_to_list (option_map calculation_of (cond (continues cs) None p)) ++ calculations_from p cs []) is
+    ∙ ap (λ (gs : List (Calculation Key)). gs ++ calculations cs) (no_group (continues cs))
 
 -- ---- a group
 
-joining_none : (c : SpecCard) (cs : List SpecCard) → goes_on (c ∷ cs) ≡ false → joining (c ∷ cs) ≡ 0
+joining_none : (c : SpecCard) (cs : List SpecCard) → continues (c ∷ cs) ≡ false → joining (c ∷ cs) ≡ 0
 joining_none c cs no_more = ap (λ b. cond b (suc (joining cs)) 0) no_more
 
-joining_one : (c : SpecCard) (cs : List SpecCard) → goes_on (c ∷ cs) ≡ true → joining (c ∷ cs) ≡ suc (joining cs)
+joining_one : (c : SpecCard) (cs : List SpecCard) → continues (c ∷ cs) ≡ true → joining (c ∷ cs) ≡ suc (joining cs)
 joining_one c cs goes = ap (λ b. cond b (suc (joining cs)) 0) goes
 
-goes_by : (c : SpecCard) (cs : List SpecCard) (o : Option CalculationSpec) → calculation_on c.spec ≡ o → goes_on (c ∷ cs) ≡ option_map_or (λ k. joins k.control_level) o false
+goes_by : (c : SpecCard) (cs : List SpecCard) (o : Option CalculationSpec) → calculation_on c.spec ≡ o → continues (c ∷ cs) ≡ option_map_or (λ k. joins k.control_level) o false
 goes_by c cs o is = ap (λ p. option_map_or (λ k. joins k.control_level) p false) is
 
 -- no AN or OR card stands after the group
-ends_here : (g : CalculationGroup) (c : SpecCard) (cs : List SpecCard) → goes_on (c ∷ cs) ≡ false → calculations_from (Some g) (c ∷ cs) [] ≡ calculations (c ∷ cs) → completed g (c ∷ cs) ≡ g
+ends_here : (g : CalculationGroup) (c : SpecCard) (cs : List SpecCard) → continues (c ∷ cs) ≡ false → calculations_from (Some g) (c ∷ cs) [] ≡ calculations (c ∷ cs) → completed g (c ∷ cs) ≡ g
     → after_group g (c ∷ cs) ≡ calculation_of (completed g (c ∷ cs)) ∷ calculations (drop (joining (c ∷ cs)) (c ∷ cs))
 ends_here g c cs no_more same whole =
     ap (λ b. option_to_list (option_map calculation_of (cond b None (Some g))) ++ calculations_from (Some g) (c ∷ cs) []) no_more
@@ -55,7 +55,7 @@ ends_here g c cs no_more same whole =
     ∙ ap (λ h. calculation_of h ∷ calculations (drop (joining (c ∷ cs)) (c ∷ cs))) (sym whole)
 
 -- one does
-goes_further : (g h : CalculationGroup) (c : SpecCard) (cs : List SpecCard) → goes_on (c ∷ cs) ≡ true → open_with (Some g) c.spec ≡ Some h → completed g (c ∷ cs) ≡ completed h cs
+goes_further : (g h : CalculationGroup) (c : SpecCard) (cs : List SpecCard) → continues (c ∷ cs) ≡ true → open_with (Some g) c.spec ≡ Some h → completed g (c ∷ cs) ≡ completed h cs
     → after_group h cs ≡ calculation_of (completed h cs) ∷ calculations (drop (joining cs) cs)
     → after_group g (c ∷ cs) ≡ calculation_of (completed g (c ∷ cs)) ∷ calculations (drop (joining (c ∷ cs)) (c ∷ cs))
 goes_further g h c cs goes is whole rest =
@@ -100,7 +100,7 @@ pub whole : (g : CalculationGroup) (cs : List SpecCard) → completed g cs ≡ g
 whole g [] = ap (λ ks. record { first = g.first; followers = ks }) (sym (append-nil g.followers))
 whole g (c ∷ cs) = by_card (calculation_on c.spec) refl (λ h. whole h cs)
   where
-    ends : goes_on (c ∷ cs) ≡ false → completed g (c ∷ cs) ≡ g → completed g (c ∷ cs) ≡ grown g (calculation_specs_in (take (joining (c ∷ cs)) (c ∷ cs)))
+    ends : continues (c ∷ cs) ≡ false → completed g (c ∷ cs) ≡ g → completed g (c ∷ cs) ≡ grown g (calculation_specs_in (take (joining (c ∷ cs)) (c ∷ cs)))
     ends no_more same =
         same ∙ ap (λ ks. record { first = g.first; followers = ks }) (sym (append-nil g.followers))
         ∙ ap (λ n. grown g (calculation_specs_in (take n (c ∷ cs)))) (sym (joining_none c cs no_more))

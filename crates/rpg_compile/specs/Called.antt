@@ -1,7 +1,7 @@
 -- Calls of subroutines by subroutines, with names by number, and levels by subroutine number.
 use Rattle.std.specs.Prelude.{◌≡◌, ◌<◌, ℕ, suc, length, List, [], ◌∷◌, ◌++◌, slice_index, Option, None, Some}
 use Rattle.std.specs.Option.{option_map}
-use Rattle.rpg_cards.specs.Deeds.{Calculation, Deed}
+use Rattle.rpg_cards.specs.Statements.{Calculation, Statement}
 use Rattle.rpg_cards.specs.Keys.{Key, Name}
 use Rattle.rpg_cards.specs.Plain.{Pair, call_in}
 use Rattle.rpg_cards.specs.Sections.{Subroutine}
@@ -9,7 +9,7 @@ use Rattle.rpg_compile_program.specs.Levels.{subroutine_level}
 
 module _ (number : Option Name → ℕ) where
   -- the subroutine that an EXSR calls
-  abbrev pub callee_in : Deed Key → Option ℕ
+  abbrev pub callee_in : Statement Key → Option ℕ
   callee_in d = option_map number (call_in d)
 
 -- a call, if there is one, before the others
@@ -21,7 +21,7 @@ module _ (number : Option Name → ℕ) where
   -- the calls of a subroutine's groups, by numbers
   abbrev pub numbered_calls_in : ℕ → List (Calculation Key) → List Pair
   numbered_calls_in caller [] = []
-  numbered_calls_in caller (g ∷ gs) = with_callee caller (callee_in number g.deed) (numbered_calls_in caller gs)
+  numbered_calls_in caller (g ∷ gs) = with_callee caller (callee_in number g.statement) (numbered_calls_in caller gs)
 
   -- those of subroutines from a number on
   abbrev pub numbered_calls_from : ℕ → List (Subroutine Key) → List Pair
@@ -35,5 +35,5 @@ abbrev pub level_at : List ℕ → ℕ → ℕ
 level_at levels s = slice_index levels s
 
 -- each subroutine has its level there
-abbrev pub AreLevels : List (Subroutine Key) → List ℕ → Type 0
-AreLevels subs levels = (s : ℕ) → s < length subs → level_at levels s ≡ subroutine_level subs s
+abbrev pub AreSubroutineLevels : List (Subroutine Key) → List ℕ → Type 0
+AreSubroutineLevels subs levels = (s : ℕ) → s < length subs → level_at levels s ≡ subroutine_level subs s

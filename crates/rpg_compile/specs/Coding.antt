@@ -1,7 +1,7 @@
 -- The code of calculations, with a section's numbers for fields, labels and subroutines.
 use Rattle.std.specs.Prelude.{ℕ, List}
 use Rattle.rpg_cards.specs.Calculations.{calculations}
-use Rattle.rpg_cards.specs.Deeds.{Calculation, Deed}
+use Rattle.rpg_cards.specs.Statements.{Calculation, Statement}
 use Rattle.rpg_cards.specs.Keys.{Key}
 use Rattle.rpg_cards.specs.Sections.{sections_of}
 use Rattle.rpg_cards.specs.declared.spec_card.SpecCard.{SpecCard}
@@ -26,9 +26,9 @@ code_in s place gs = code_from (key_number s.table.now) (number_by s.labels.now)
 abbrev pub calculation_code : Section → ℕ → Calculation Key → List (Instruction ℕ)
 calculation_code s place g = group_code (key_number s.table.now) (number_by s.labels.now) (number_by s.subroutines.now) s.own place g
 
--- what a deed compiles to: nothing, or one instruction
-abbrev pub deed_code : Section → Deed Key → List (Instruction ℕ)
-deed_code s d = step_code (key_number s.table.now) (number_by s.labels.now) (number_by s.subroutines.now) s.own d
+-- what a statement compiles to: nothing, or one instruction
+abbrev pub statement_code : Section → Statement Key → List (Instruction ℕ)
+statement_code s d = step_code (key_number s.table.now) (number_by s.labels.now) (number_by s.subroutines.now) s.own d
 
 -- the code of a section of these cards, which begins at a place; `own` is the number of the subroutine
 abbrev pub rows_of_section : Table → NameNumbers → ℕ → ℕ → Part → List SpecCard → List (Instruction ℕ)

@@ -3,7 +3,7 @@ use Rattle.std.specs.Prelude.{◌≡◌, ℕ, suc, ◌+◌, List, [], ◌∷◌,
 use Rattle.std.specs.Cmp.Lexicographic.{pointwise}
 use Rattle.std.specs.Map.{lookup}
 use Rattle.std.specs.Option.{option_or}
-use Rattle.rpg_cards.specs.Deeds.{Calculation}
+use Rattle.rpg_cards.specs.Statements.{Calculation}
 use Rattle.rpg_cards.specs.Keys.{Key, Name}
 use Rattle.rpg_cards.specs.Sections.{Subroutine, label_on}
 use Rattle.rpg_compile_program.specs.Code.{size, sizes}
@@ -34,7 +34,7 @@ with_numbered_name (Some n) number rest = (n, number) ∷ rest
 -- the labels of calculations from a place on, each with its place
 abbrev pub labels_from : ℕ → List (Calculation Key) → NumberedNames
 labels_from place [] = []
-labels_from place (g ∷ gs) = with_numbered_name (label_on g.deed) place (labels_from (place + size g) gs)
+labels_from place (g ∷ gs) = with_numbered_name (label_on g.statement) place (labels_from (place + size g) gs)
 
 -- the names of subroutines from a number on
 abbrev pub names_from : ℕ → List (Subroutine Key) → NumberedNames

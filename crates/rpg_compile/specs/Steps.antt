@@ -1,7 +1,7 @@
--- What a deed compiles to.
+-- What a statement compiles to.
 use Rattle.std.specs.Prelude.{ℕ, Bool, ◌+◌, ◌++◌, List, [], ◌∷◌, length, Option, None, Some}
 use Rattle.rpg_cards.specs.Calculations.{awaited_level}
-use Rattle.rpg_cards.specs.Deeds.{Acts, Begins, Deed, Ends, Executes, GoesTo, Marks, Nothing, PutsOut, factor_2_operand, first_or_result, result_operand, resulting_shows}
+use Rattle.rpg_cards.specs.Statements.{Acts, Begins, Statement, Ends, Executes, GoesTo, Marks, Nothing, WritesExceptions, factor_2_operand, first_or_result, result_operand, resulting_shows}
 use Rattle.rpg_cards.specs.Keys.{Key}
 use Rattle.rpg_cards.specs.declared.spec_card.SpecCard.{SpecCard}
 use Rattle.rpg_compile_program.specs.Code.{level_code, tests_code, waits}
@@ -16,9 +16,9 @@ use Rattle.rpg_compile.specs.Walk.{size_with}
 use Rattle.rpg_sheet_specs.specs.declared.calculation.CalculationSpec.{CalculationSpec}
 
 -- what it does to fields
-abbrev pub action_in : Deed Key → Option (Action (Operand Key))
+abbrev pub action_in : Statement Key → Option (Action (Operand Key))
 action_in (Acts a) = Some a
-action_in PutsOut = None
+action_in WritesExceptions = None
 action_in (GoesTo l) = None
 action_in (Executes n) = None
 action_in (Marks l) = None

@@ -1,7 +1,7 @@
 -- Groups of C cards, one after another.
 use Rattle.std.specs.Prelude.{◌≡◌, ℕ, suc, ◌+◌, ◌<◌, length, Bool, false, List, [], ◌∷◌, Option, None, Some, drop, if◌then◌else◌}
-use Rattle.rpg_cards.specs.Calculations.{CalculationGroup, awaited_level, calculation_of, calculations, goes_on, last_card}
-use Rattle.rpg_cards.specs.Deeds.{Calculation, Deed}
+use Rattle.rpg_cards.specs.Calculations.{CalculationGroup, awaited_level, calculation_of, calculations, continues, last_card}
+use Rattle.rpg_cards.specs.Statements.{Calculation, Statement}
 use Rattle.rpg_cards.specs.Keys.{Key, Name}
 use Rattle.rpg_cards.specs.Labels.{is_begsr}
 use Rattle.rpg_cards.specs.Sections.{Subroutine, is_detail, is_subroutine, is_total, of_control, subroutines_of, up_to_begin}
@@ -24,7 +24,7 @@ first_calculation (c ∷ cs) = calculation_on c.spec
 -- how many AN and OR cards come first
 abbrev pub joining : List SpecCard → ℕ
 joining [] = 0
-joining (c ∷ cs) = if goes_on (c ∷ cs) then suc (joining cs) else 0
+joining (c ∷ cs) = if continues (c ∷ cs) then suc (joining cs) else 0
 
 -- the group of these cards, with its first card
 abbrev pub group_of : CalculationSpec → List SpecCard → CalculationGroup
@@ -44,7 +44,7 @@ belongs Total level = is_total level
 belongs Body level = is_subroutine level
 
 -- a subroutine's section ends before the next BEGSR
-abbrev pub ends_before : Part → Deed Key → Bool
+abbrev pub ends_before : Part → Statement Key → Bool
 ends_before Detail d = false
 ends_before Total d = false
 ends_before Body d = is_begsr d

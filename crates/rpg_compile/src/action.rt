@@ -2,7 +2,7 @@
 
 ghost use Rattle.std.specs.Prelude.{◌≡◌, IfSome, unwrap_or};
 ghost use Rattle.std.specs.Option.{option_map};
-ghost use Rattle.rpg_cards.specs.Deeds as deeds;
+ghost use Rattle.rpg_cards.specs.Statements as statements;
 ghost use Rattle.rpg_cards.specs.Keys as keys;
 ghost use Rattle.rpg_compile.specs.Marked.{IsMarkedAction};
 ghost use Rattle.rpg_compile.specs.Steps as steps;
@@ -20,7 +20,7 @@ pub(crate) fn action_of(
     calculation: &CalculationSpec,
     operation: Operation,
 ) -> Option<Action<Operand<u16>>>
-    ensures value { result ≡ option_map (renamed_action (key_number table.now)) (steps.action_in (deeds.deed_by calculation.now operation)) }
+    ensures value { result ≡ option_map (renamed_action (key_number table.now)) (steps.action_in (statements.statement_by calculation.now operation)) }
     ensures kept { IfSome result IsMarkedAction }
 {
     let half = calculation.half_adjust;
@@ -157,7 +157,7 @@ fn given_result(table: &FieldTable, entry: &Option<Entry>) -> Option<Operand<u16
 
 /// Returns factor 1, or the result field if it is blank.
 fn first_or_result(table: &FieldTable, calculation: &CalculationSpec) -> Operand<u16>
-    ensures { result ≡ renamed_operand (key_number table.now) (deeds.first_or_result calculation.now) }
+    ensures { result ≡ renamed_operand (key_number table.now) (statements.first_or_result calculation.now) }
 {
     match &calculation.factor_1 {
         None => result_of(table, &calculation.result_field),

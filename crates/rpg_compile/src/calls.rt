@@ -2,7 +2,7 @@
 
 ghost use Rattle.std.specs.Prelude.{◌≡◌, ◌++◌, ◌+◌, ◌<◌, ◌≤◌, ℕ, List, Option, length, IfOk, OnOk};
 ghost use Rattle.rpg_cards.specs.Calculations.{calculations};
-ghost use Rattle.rpg_cards.specs.Deeds.{deed_of};
+ghost use Rattle.rpg_cards.specs.Statements.{statement_of};
 ghost use Rattle.rpg_cards.specs.Plain.{ArePlain, calls_of};
 ghost use Rattle.rpg_cards.specs.Sections.{callee, sections_of};
 ghost use Rattle.rpg_compile.specs.Called as called;
@@ -14,7 +14,7 @@ use crate::numbers::NameNumbers;
 use crate::part::{Part, next_in, next_subroutine, wanted_name};
 use rpg_cards::SpecCard;
 use rpg_sheet_specs::{CalculationSpec, Operation};
-use rpg_symbols::{LevelFault, level_of_subs};
+use rpg_symbols::{LevelFault, subroutine_levels};
 use std::alloc::{AllocError, Global};
 
 /// Returns the level of each subroutine, which is above those of all subroutines that call it.
@@ -26,11 +26,11 @@ pub(crate) fn levels_of(
     requires numbers { (n : Option (List ℕ)) → number_by subroutines.now n ≡ callee n (subroutines_in cards.now) }
     requires few { body_sizes (subroutines_in cards.now) < 65536 }
     requires plain { ArePlain (sections_of (calculations cards.now)) }
-    ensures levels { IfOk result (λ levels. called.AreLevels (subroutines_in cards.now) levels.items) }
+    ensures levels { IfOk result (λ levels. called.AreSubroutineLevels (subroutines_in cards.now) levels.items) }
     ensures each_has { IfOk result (λ levels. length levels.items ≡ length (subroutines_in cards.now)) }
 {
     let (count, calls) = calls_of(alloc, subroutines, cards)?;
-    match level_of_subs(alloc, count, &calls) {
+    match subroutine_levels(alloc, count, &calls) {
         Ok(levels) => Ok(levels),
         Err(LevelFault::Cycle { .. }) => unreachable!(),
         Err(LevelFault::NoMemory) => Err(AllocError),
@@ -79,7 +79,7 @@ fn push_calls(
 
 /// Returns the subroutine that an EXSR calls.
 fn callee_of(subroutines: &NameNumbers, calculation: &CalculationSpec) -> Option<u16>
-    ensures { result ≡ called.callee_in (number_by subroutines.now) (deed_of calculation.now) }
+    ensures { result ≡ called.callee_in (number_by subroutines.now) (statement_of calculation.now) }
 {
     match calculation.operation? {
         Operation::Call => Some(subroutines.number_of(wanted_name(calculation))),

@@ -2,8 +2,8 @@
 
 ghost use Rattle.std.specs.Prelude.{◌≡◌, IfSome};
 ghost use Rattle.std.specs.Option.{option_to_list};
-ghost use Rattle.rpg_cards.specs.Deeds as deeds;
-ghost use Rattle.rpg_compile.specs.Coding.{deed_code};
+ghost use Rattle.rpg_cards.specs.Statements as statements;
+ghost use Rattle.rpg_compile.specs.Coding.{statement_code};
 ghost use Rattle.rpg_compile.specs.Marked.{IsMarked};
 
 use crate::action::action_of;
@@ -28,7 +28,7 @@ impl Section<'_> {
     /// Returns the instruction of a calculation, or None for TAG and BEGSR.
     #[tactic(auto, using(crate::proofs::Steps::acted), unfolding(rpg_compile_program::specs::Code::step_code))]
     pub(crate) fn instruction_of(&self, calculation: &CalculationSpec) -> Option<Instruction<u16>>
-        ensures value { option_to_list result ≡ deed_code self.now (deeds.deed_of calculation.now) }
+        ensures value { option_to_list result ≡ statement_code self.now (statements.statement_of calculation.now) }
         ensures kept { IfSome result IsMarked }
     {
         let own = self.own;

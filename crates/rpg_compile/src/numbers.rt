@@ -1,7 +1,7 @@
 //! Numbers of names.
 
 ghost use Rattle.std.specs.Prelude.{◌≡◌, ◌+◌, ◌<◌, ℕ, List, [], ◌∷◌, Option, length, option_copied, IfOk, OnOk};
-ghost use Rattle.rpg_cards.specs.Deeds.{deed_of};
+ghost use Rattle.rpg_cards.specs.Statements.{statement_of};
 ghost use Rattle.rpg_cards.specs.Sections.{callee, label_on};
 ghost use Rattle.rpg_compile_program.specs.Code.{label_place, sizes};
 ghost use Rattle.rpg_compile.specs.Numbers as numbers_of;
@@ -137,7 +137,7 @@ fn note_name(numbers: &mut IndexMap<Name, u16>, name: Name, number: u16) -> Resu
 
 /// Returns the label of a TAG or ENDSR.
 fn label_on(calculation: &CalculationSpec) -> Option<&Name>
-    ensures { option_copied result ≡ label_on (deed_of calculation.now) }
+    ensures { option_copied result ≡ label_on (statement_of calculation.now) }
 {
     match calculation.operation? {
         Operation::Label | Operation::EndSubroutine => given_name(calculation),

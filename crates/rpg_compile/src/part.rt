@@ -1,7 +1,7 @@
 //! The sections of calculations.
 
 ghost use Rattle.std.specs.Prelude.{◌≡◌, [], option_copied, MatchOption};
-ghost use Rattle.rpg_cards.specs.Deeds as deeds;
+ghost use Rattle.rpg_cards.specs.Statements as statements;
 ghost use Rattle.rpg_compile.specs.Walk as walk;
 
 use crate::group::{CardGroup, next_group};
@@ -33,7 +33,7 @@ impl Part {
 
     /// Whether the section ends before a group with this operation.
     fn ends_before(self, calculation: &CalculationSpec) -> bool
-        ensures { result ≡ walk.ends_before self (deeds.deed_of calculation.now) }
+        ensures { result ≡ walk.ends_before self (statements.statement_of calculation.now) }
     {
         match self {
             Part::Detail | Part::Total => false,
@@ -78,14 +78,14 @@ pub(crate) fn next_subroutine(cards: &[SpecCard]) -> Option<(Option<&Name>, &[Sp
 
 /// Returns the name in factor 1.
 pub(crate) fn given_name(calculation: &CalculationSpec) -> Option<&Name>
-    ensures { option_copied result ≡ deeds.given_name calculation.now }
+    ensures { option_copied result ≡ statements.given_name calculation.now }
 {
     plain_name(calculation.factor_1.as_ref()?)
 }
 
 /// Returns the name in factor 2.
 pub(crate) fn wanted_name(calculation: &CalculationSpec) -> Option<&Name>
-    ensures { option_copied result ≡ deeds.wanted_name calculation.now }
+    ensures { option_copied result ≡ statements.wanted_name calculation.now }
 {
     plain_name(calculation.factor_2.as_ref()?)
 }

@@ -87,7 +87,7 @@ fn begins(card: &SpecCard) -> bool
 }
 
 /// Returns where the next alternative begins, if there is one.
-#[tactic(auto, using(crate::proofs::Alternatives::begins_here, crate::proofs::Alternatives::goes_on))]
+#[tactic(auto, using(crate::proofs::Alternatives::begins_here, crate::proofs::Alternatives::continues))]
 fn next_alternative(cards: &[SpecCard]) -> Option<usize>
     requires { 0 < length cards.now }
     ensures { MatchOption result (tests.alternatives_in cards.now ≡ tests.tests_in cards.now ∷ [])

@@ -54,7 +54,7 @@ impl<'a> Loaded<'a> {
         Ok(loaded)
     }
 
-    /// Adds the tables of an E card, which takes the first of these decks if it wants one. Returns the cards with the remaining
+    /// Adds the tables of an E card, which takes the first of these decks if it expects one. Returns the cards with the remaining
     /// decks.
     fn take_deck(
         &mut self,

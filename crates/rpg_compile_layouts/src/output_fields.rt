@@ -48,7 +48,7 @@ fn field_of(table: &FieldTable, field: &OutputField) -> LineField<u16>
     ensures value { result ≡ field_row table.now field.now }
     ensures kept { IsLineFieldRow result }
 {
-    let operand = put_out(table, field);
+    let operand = operand_to_output(table, field);
     let mut row = unedited(
         operand.field,
         operand.index,
@@ -81,8 +81,8 @@ fn unedited(field: u16, index: Index<u16>, end: u16, conditions: Conditions) -> 
 }
 
 /// Returns the entry, else the constant.
-fn put_out(table: &FieldTable, field: &OutputField) -> Operand<u16>
-    ensures { result ≡ renamed_operand (key_number table.now) (lines.operand_put_out field.now) }
+fn operand_to_output(table: &FieldTable, field: &OutputField) -> Operand<u16>
+    ensures { result ≡ renamed_operand (key_number table.now) (lines.output_operand_of field.now) }
 {
     match &field.operand {
         Some(entry) => table.entry_of(entry),

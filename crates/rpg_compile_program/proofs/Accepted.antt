@@ -16,7 +16,7 @@ use Rattle.rpg_verify_rules.specs.declared.rule.SubroutineRule.{SubroutineRule}
 use Rattle.rpg_verify_rules.specs.declared.rule.SubroutineRule.TheVariants.{V23, V24}
 use Rattle.rpg_compile_program.proofs.Calculations as calculations
 use Rattle.rpg_compile_program.proofs.Flow.{calls_kept, levels_kept, returns_kept, targets_kept}
-use Rattle.rpg_compile_program.proofs.Known.{name_good, name_known}
+use Rattle.rpg_compile_program.proofs.Known.{name_valid, name_known}
 use Rattle.rpg_compile_program.proofs.Lists.{Seen, or_second}
 use Rattle.rpg_compile_program.proofs.OutputLines as lines
 use Rattle.rpg_compile_program.proofs.Settings.{overflow_kept}
@@ -35,7 +35,7 @@ module _ (cards : List SpecCard) (allowance : ℕ) (rules : KeepsCardRules cards
   lines_fit = record {
     in_range = ranges;
     named = name_known cards rules;
-    good = name_good cards rules;
+    valid = name_valid cards rules;
     files = rules.f7;
     indicators = rules.f8;
     spaces = rules.f9_lines;
@@ -51,7 +51,7 @@ module _ (cards : List SpecCard) (allowance : ℕ) (rules : KeepsCardRules cards
   calculations_fit = record {
     in_range = ranges;
     named = name_known cards rules;
-    good = name_good cards rules;
+    valid = name_valid cards rules;
     names = rules.f1;
     kinds = rules.f4;
     indexes = rules.f5;

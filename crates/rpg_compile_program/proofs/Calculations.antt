@@ -3,8 +3,8 @@ use Rattle.std.proofs.Common.{◌≡◌, ℕ, Bool, true, false, cond, List, [],
 use Rattle.std.proofs.lemmas.Bool.{or_parts}
 use Rattle.std.specs.List.{list_any}
 use Rattle.std.specs.Option.{ForSome, option_and_then, option_map_or, option_to_list}
-use Rattle.rpg_cards.specs.Calculations.{CalculationGroup, alone, calculations, card_ending, goes_on, last_card, open_calculation_group}
-use Rattle.rpg_cards.specs.Deeds.{Calculation, deed_of}
+use Rattle.rpg_cards.specs.Calculations.{CalculationGroup, alone, calculations, card_ending, continues, last_card, open_calculation_group}
+use Rattle.rpg_cards.specs.Statements.{Calculation, statement_of}
 use Rattle.rpg_cards.specs.Keys.{Key, Named}
 use Rattle.rpg_cards.specs.Plain.{Each}
 use Rattle.rpg_cards.specs.Sections.{is_detail, is_subroutine, is_total, of_control}
@@ -39,13 +39,13 @@ use Rattle.rpg_sheet_specs.specs.declared.literal.Factor.{Factor}
 use Rattle.rpg_sheet_specs.specs.declared.literal.Factor.TheVariants as factor
 use Rattle.rpg_sheet_specs.specs.declared.spec.Spec.{Spec}
 use Rattle.rpg_sheet_specs.specs.declared.spec.Spec.TheVariants as spec
-use Rattle.rpg_compile_program.proofs.Conditions.{MayAsk, all_settable, group_tested, level_within, may_be_asked}
+use Rattle.rpg_compile_program.proofs.Conditions.{IsTestableIfAny, all_settable, group_tested, level_within, is_testable}
 use Rattle.rpg_compile_program.proofs.Entries as entries
 use Rattle.rpg_compile_program.proofs.Instructions as instructions
 use Rattle.rpg_compile_program.proofs.Instructions.{IsOfColumns, IsRightCalculation}
 use Rattle.rpg_compile_program.proofs.Numbers.{numbers_rename}
 use Rattle.rpg_compile_program.proofs.Operations.{IsCardFit, card_right}
-use Rattle.rpg_compile_program.proofs.RightRows.{IsRightDeed}
+use Rattle.rpg_compile_program.proofs.RightRows.{IsRightStatement}
 use Rattle.rpg_compile_program.specs.Program.{key_numbers, program_of, sections, version_for}
 use Rattle.rpg_compile_program.specs.Ranges.{AreCards, IsCalculation, IsCard, IsControl, IsInRange}
 use Rattle.rpg_compile_program.specs.Table.{key_form, table_of}
@@ -77,7 +77,7 @@ module _ (cards : List SpecCard) (allowance : ℕ) where
   pub record AreFit : Type 0 where
     pub in_range : AreCards cards
     pub named : (name : List ℕ) → key_form (table_of cards) (Named name) ≡ form_in (form_of_name name cards)
-    pub good : (name : List ℕ) → is_undefined cards name ≡ false → has_field (form_in (form_of_name name cards)) ≡ true
+    pub valid : (name : List ℕ) → is_undefined cards name ≡ false → has_field (form_in (form_of_name name cards)) ≡ true
     pub names : KeepsRule (λ before c after. lacks_name cards c after) cards
     pub kinds : KeepsRule (λ before c after. wrong_operand cards c after) cards
     pub indexes : KeepsRule (λ before c after. bad_index cards c after) cards
@@ -90,7 +90,7 @@ module _ (cards : List SpecCard) (allowance : ℕ) where
     forms = key_form (table_of cards)
 
     abbrev HasForm : Factor → Type 0
-    HasForm x = entries.HasForm cards forms h.named h.good x
+    HasForm x = entries.HasForm cards forms h.named h.valid x
 
     -- ---- a card
 
@@ -101,8 +101,8 @@ module _ (cards : List SpecCard) (allowance : ℕ) where
       indicators_right : bad_on_calculation cards k ≡ false
       indicators_right = indicators_on cards c.spec k is (h.indicators before c after split)
 
-      asked : MayAsk (version_for cards) k
-      asked = may_be_asked cards k (or_parts _ _ indicators_right).0 range.conditions
+      testable : IsTestableIfAny (version_for cards) k
+      testable = is_testable cards k (or_parts _ _ indicators_right).0 range.conditions
 
       -- the constant of a factor has its form
       has_form : (x : Factor) → ((l : Constant) → factor_constant x ≡ Some l → list_any (is_same l) (constants_on c.spec) ≡ true) → HasForm x
@@ -130,7 +130,7 @@ module _ (cards : List SpecCard) (allowance : ℕ) where
           in_front l (firsts ++ seconds) texts (following l firsts seconds
           (stands_in l _ (ap (option_and_then (λ (k : CalculationSpec). option_and_then factor_constant k.factor_2)) is ∙ ap (option_and_then factor_constant) e ∙ constant))))
 
-      module _ (ends : goes_on after ≡ false) where
+      module _ (ends : continues after ≡ false) where
         ending_is : card_ending c after ≡ Some k
         ending_is = ap (λ b. cond b None (calculation_on c.spec)) ends ∙ is
 
@@ -145,7 +145,7 @@ module _ (cards : List SpecCard) (allowance : ℕ) where
             subst (λ (o : Option CalculationSpec). list_any test (operands_listed (option_map_or operands_of o no_operands)) ≡ false) ending_is
             (none_first test (operands_listed (operands_ending c after)) (option_to_list (output_operand_on c)) e)
 
-        card_fit : IsCardFit cards forms h.named h.good k
+        card_fit : IsCardFit cards forms h.named h.valid k
         card_fit = record {
           filled = filled;
           defined = none_of_operands (names_nothing cards) (h.names before c after split);
@@ -160,13 +160,13 @@ module _ (cards : List SpecCard) (allowance : ℕ) where
     -- ---- calculations
 
     record IsOpen (before : List (Calculation Key)) (g full : CalculationGroup) : Type 0 where
-      first : MayAsk (version_for cards) g.first
-      followers : Each (MayAsk (version_for cards)) g.followers
+      first : IsTestableIfAny (version_for cards) g.first
+      followers : Each (IsTestableIfAny (version_for cards)) g.followers
       control : IsControl g.first.control_level
 
     begun : (before : List SpecCard) (c : SpecCard) (after : List SpecCard) (k : CalculationSpec) (front : List (Calculation Key)) (full : CalculationGroup) → cards ≡ before ++ c ∷ after → calculation_on c.spec ≡ Some k
         → IsOpen front (alone k) full
-    begun before c after k front full split is = record { first = asked before c after k split is; followers = tt; control = (range before c after k split is).control }
+    begun before c after k front full split is = record { first = testable before c after k split is; followers = tt; control = (range before c after k split is).control }
 
     abbrev IsRight : List (Calculation Key) → Calculation Key → List (Calculation Key) → Type 0
     IsRight front g rest = IsRightCalculation (version_for cards) forms g
@@ -177,7 +177,7 @@ module _ (cards : List SpecCard) (allowance : ℕ) where
       stray = λ before c after k split is joins none. begun before c after k _ _ split is;
       more = λ before c after k g split is joins open_is q. record {
         first = q.first;
-        followers = each_append (MayAsk (version_for cards)) g.followers (k ∷ []) q.followers (asked before c after k split is, tt);
+        followers = each_append (IsTestableIfAny (version_for cards)) g.followers (k ∷ []) q.followers (testable before c after k split is, tt);
         control = q.control;
       };
       last = λ before c after g split ends_here q.
@@ -186,7 +186,7 @@ module _ (cards : List SpecCard) (allowance : ℕ) where
           record {
             tested = group_tested (version_for cards) g.first g.followers q.first q.followers;
             level = level_within g.first.control_level q.control;
-            deed = subst (λ k. IsRightDeed forms (deed_of k)) (sym is_last) (card_right cards forms h.named h.good e.card (card_fit before c after e.card split e.is e.ends));
+            statement = subst (λ k. IsRightStatement forms (statement_of k)) (sym is_last) (card_right cards forms h.named h.valid e.card (card_fit before c after e.card split e.is e.ends));
           };
     }
 

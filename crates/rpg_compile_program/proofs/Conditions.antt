@@ -5,7 +5,7 @@ use Rattle.std.specs.List.{filter_map}
 use Rattle.std.specs.Option.{ForSome, option_map_or}
 use Rattle.std.specs.Prelude.{is_some, nat_le, ◌==◌}
 use Rattle.rpg_cards.specs.Calculations.{alternatives, awaited_level, condition_of, conditions_on, depends, in_places, is_or, tests_on}
-use Rattle.rpg_cards.specs.Deeds.{shows_of}
+use Rattle.rpg_cards.specs.Statements.{shows_of}
 use Rattle.rpg_cards.specs.Files.{file_for}
 use Rattle.rpg_cards.specs.Levels.{has_match_field}
 use Rattle.rpg_cards.specs.Plain.{Each}
@@ -19,7 +19,7 @@ use Rattle.rpg_program.specs.Kept.{IsIndicator}
 use Rattle.rpg_program.specs.declared.rows.Version.{Version}
 use Rattle.rpg_program.specs.declared.rows.Version.TheVariants as versions
 use Rattle.rpg_text.specs.Texts.{is_between}
-use Rattle.rpg_verify_rules.specs.Indicators.{all_asked, are_settable, if_any, is_settable, most_asked}
+use Rattle.rpg_verify_rules.specs.Indicators.{all_testable, are_settable, if_any, is_settable, highest_testable}
 use Rattle.rpg_sheet_specs.specs.declared.calculation.CalculationSpec.{CalculationSpec}
 use Rattle.rpg_sheet_specs.specs.declared.calculation.ControlLevel.{ControlLevel}
 use Rattle.rpg_sheet_specs.specs.declared.calculation.ControlLevel.TheVariants as control
@@ -59,81 +59,81 @@ all_settable t right range =
 -- ---- conditions
 
 -- what every version may ask
-pub may_ask_low : (v : Version) (n : ℕ) → n ≤ 128 → nat_le n (most_asked v) ≡ true
-may_ask_low versions.One n low = le-leb n 128 low
-may_ask_low versions.Two n low = le-leb n 129 (omega arith)
+pub low_is_testable : (v : Version) (n : ℕ) → n ≤ 128 → nat_le n (highest_testable v) ≡ true
+low_is_testable versions.One n low = le-leb n 128 low
+low_is_testable versions.Two n low = le-leb n 129 (omega arith)
 
--- what F8 doesn't bar may be asked in the program's version
-pub asked_number : (cards : List SpecCard) (n : ℕ) → is_barred_mr cards n ≡ false → n ≤ 129 → nat_le n (most_asked (version_for cards)) ≡ true
-asked_number cards n right within = by (is_some (file_for Secondary cards)) (has_match_field cards) right
+-- what F8 doesn't bar may be tested in the program's version
+pub testable_number : (cards : List SpecCard) (n : ℕ) → is_barred_mr cards n ≡ false → n ≤ 129 → nat_le n (highest_testable (version_for cards)) ≡ true
+testable_number cards n right within = by (is_some (file_for Secondary cards)) (has_match_field cards) right
   where
     not_mr : (b : Bool) → (b && true) ≡ false → b ≡ false
     not_mr true h = h
     not_mr false h = refl
 
-    by : (a b : Bool) → ((n == 129) && not b) ≡ false → nat_le n (most_asked (cond (a || b) versions.Two versions.One)) ≡ true
+    by : (a b : Bool) → ((n == 129) && not b) ≡ false → nat_le n (highest_testable (cond (a || b) versions.Two versions.One)) ≡ true
     by true b h = le-leb n 129 within
     by false true h = le-leb n 129 within
     by false false h = let other : n ≢ 129 = eqb-false n 129 (not_mr (n == 129) h) in le-leb n 128 (omega arith)
 
 module _ (v : Version) where
-  abbrev may_ask : Option sheet.ConditionSpec → Bool
-  may_ask o = option_map_or (λ (c : sheet.ConditionSpec). nat_le c.indicator (most_asked v)) o true
+  abbrev is_testable_if_any : Option sheet.ConditionSpec → Bool
+  is_testable_if_any o = option_map_or (λ (c : sheet.ConditionSpec). nat_le c.indicator (highest_testable v)) o true
 
-  places_asked : (a b c : Option sheet.ConditionSpec) → may_ask a ≡ true → may_ask b ≡ true → may_ask c ≡ true → all_asked v (in_places (map condition_of (filter_map (λ x. x) (a ∷ b ∷ c ∷ [])))) ≡ true
-  places_asked None None None p q r = refl
-  places_asked None None (Some z) p q r = and_from _ _ r refl
-  places_asked None (Some y) None p q r = and_from _ _ q refl
-  places_asked None (Some y) (Some z) p q r = and_from _ _ q (and_from _ _ r refl)
-  places_asked (Some x) None None p q r = and_from _ _ p refl
-  places_asked (Some x) None (Some z) p q r = and_from _ _ p (and_from _ _ r refl)
-  places_asked (Some x) (Some y) None p q r = and_from _ _ p (and_from _ _ q refl)
-  places_asked (Some x) (Some y) (Some z) p q r = and_from _ _ p (and_from _ _ q r)
+  places_testable : (a b c : Option sheet.ConditionSpec) → is_testable_if_any a ≡ true → is_testable_if_any b ≡ true → is_testable_if_any c ≡ true → all_testable v (in_places (map condition_of (filter_map (λ x. x) (a ∷ b ∷ c ∷ [])))) ≡ true
+  places_testable None None None p q r = refl
+  places_testable None None (Some z) p q r = and_from _ _ r refl
+  places_testable None (Some y) None p q r = and_from _ _ q refl
+  places_testable None (Some y) (Some z) p q r = and_from _ _ q (and_from _ _ r refl)
+  places_testable (Some x) None None p q r = and_from _ _ p refl
+  places_testable (Some x) None (Some z) p q r = and_from _ _ p (and_from _ _ r refl)
+  places_testable (Some x) (Some y) None p q r = and_from _ _ p (and_from _ _ q refl)
+  places_testable (Some x) (Some y) (Some z) p q r = and_from _ _ p (and_from _ _ q r)
 
-  -- a card's conditions may be asked in that version
-  abbrev pub MayAsk : CalculationSpec → Type 0
-  MayAsk k = all_asked v (conditions_on k) ≡ true
+  -- a card's conditions may be tested in that version
+  abbrev pub IsTestableIfAny : CalculationSpec → Type 0
+  IsTestableIfAny k = all_testable v (conditions_on k) ≡ true
 
-  -- a test has conditions, and they may be asked
+  -- a test has conditions, and they may be tested
   pub record IsTested (cs : Conditions) : Type 0 where
     pub some : has_conditions cs ≡ true
-    pub asked : all_asked v cs ≡ true
+    pub testable : all_testable v cs ≡ true
 
-asked_if_any : (cards : List SpecCard) (o : Option sheet.ConditionSpec) → option_map_or (bad_in_calculation cards) o false ≡ false → ForSome o IsCondition → may_ask (version_for cards) o ≡ true
-asked_if_any cards None right range = refl
-asked_if_any cards (Some c) right range = asked_number cards c.indicator (or_parts (c.indicator == 111) (is_barred_mr cards c.indicator) right).1 (range c refl).highest
+testable_if_any : (cards : List SpecCard) (o : Option sheet.ConditionSpec) → option_map_or (bad_in_calculation cards) o false ≡ false → ForSome o IsCondition → is_testable_if_any (version_for cards) o ≡ true
+testable_if_any cards None right range = refl
+testable_if_any cards (Some c) right range = testable_number cards c.indicator (or_parts (c.indicator == 111) (is_barred_mr cards c.indicator) right).1 (range c refl).highest
 
-pub may_be_asked : (cards : List SpecCard) (k : CalculationSpec) → any_of (bad_in_calculation cards) k.conditions ≡ false → InThree IsCondition k.conditions → MayAsk (version_for cards) k
-may_be_asked cards k right range =
+pub is_testable : (cards : List SpecCard) (k : CalculationSpec) → any_of (bad_in_calculation cards) k.conditions ≡ false → InThree IsCondition k.conditions → IsTestableIfAny (version_for cards) k
+is_testable cards k right range =
     let t = k.conditions in
     let two = or_parts _ _ right in
     let one = or_parts _ _ two.0 in
-    places_asked (version_for cards) t.first t.second t.third
-    (asked_if_any cards t.first one.0 range.first) (asked_if_any cards t.second one.1 range.second) (asked_if_any cards t.third two.1 range.third)
+    places_testable (version_for cards) t.first t.second t.third
+    (testable_if_any cards t.first one.0 range.first) (testable_if_any cards t.second one.1 range.second) (testable_if_any cards t.third two.1 range.third)
 
 -- ---- the tests of a group
 
 module _ (v : Version) where
-  tests_right : (k : CalculationSpec) → MayAsk v k → Each (IsTested v) (tests_on k)
-  tests_right k asked = by (depends k) refl
+  tests_right : (k : CalculationSpec) → IsTestableIfAny v k → Each (IsTested v) (tests_on k)
+  tests_right k testable = by (depends k) refl
     where
       by : (b : Bool) → depends k ≡ b → Each (IsTested v) (cond b (conditions_on k ∷ []) [])
-      by true some = (record { some = some; asked = asked }, tt)
+      by true some = (record { some = some; testable = testable }, tt)
       by false some = tt
 
-  alternatives_tested : (so_far : List Conditions) (ks : List CalculationSpec) → Each (IsTested v) so_far → Each (MayAsk v) ks → Each (Each (IsTested v)) (alternatives so_far ks)
-  alternatives_tested so_far [] h asked = (h, tt)
-  alternatives_tested so_far (k ∷ ks) h asked =
-      by (is_or k.control_level) (alternatives_tested (tests_on k) ks (tests_right k asked.0) asked.1)
-      (alternatives_tested (so_far ++ tests_on k) ks (each_append (IsTested v) so_far (tests_on k) h (tests_right k asked.0)) asked.1)
+  alternatives_tested : (so_far : List Conditions) (ks : List CalculationSpec) → Each (IsTested v) so_far → Each (IsTestableIfAny v) ks → Each (Each (IsTested v)) (alternatives so_far ks)
+  alternatives_tested so_far [] h testable = (h, tt)
+  alternatives_tested so_far (k ∷ ks) h testable =
+      by (is_or k.control_level) (alternatives_tested (tests_on k) ks (tests_right k testable.0) testable.1)
+      (alternatives_tested (so_far ++ tests_on k) ks (each_append (IsTested v) so_far (tests_on k) h (tests_right k testable.0)) testable.1)
     where
       by : (b : Bool) → Each (Each (IsTested v)) (alternatives (tests_on k) ks) → Each (Each (IsTested v)) (alternatives (so_far ++ tests_on k) ks)
           → Each (Each (IsTested v)) (cond b (so_far ∷ alternatives (tests_on k) ks) (alternatives (so_far ++ tests_on k) ks))
       by true begun more = (h, begun)
       by false begun more = more
 
-  pub group_tested : (first : CalculationSpec) (followers : List CalculationSpec) → MayAsk v first → Each (MayAsk v) followers → Each (Each (IsTested v)) (alternatives (tests_on first) followers)
-  group_tested first followers asked more = alternatives_tested (tests_on first) followers (tests_right first asked) more
+  pub group_tested : (first : CalculationSpec) (followers : List CalculationSpec) → IsTestableIfAny v first → Each (IsTestableIfAny v) followers → Each (Each (IsTested v)) (alternatives (tests_on first) followers)
+  group_tested first followers testable more = alternatives_tested (tests_on first) followers (tests_right first testable) more
 
 -- the level indicator that it waits for
 pub level_within : (c : ControlLevel) → IsControl c → ForSome (awaited_level c) (λ n. n ≤ 110)

@@ -11,7 +11,7 @@ use Rattle.rpg_program.specs.declared.section.Section.{Section}
 use Rattle.rpg_verify_rules.specs.PlaceRules.{calls_higher, is_own, is_return, stays_inside}
 use Rattle.rpg_compile_program.proofs.Counts.{Within}
 use Rattle.rpg_compile_program.proofs.Each.{each_always, each_append, each_map}
-use Rattle.rpg_cards.specs.Deeds.{Acts, Begins, Calculation, Deed, Ends, Executes, GoesTo, Marks, Nothing, PutsOut, has_instruction, tests}
+use Rattle.rpg_cards.specs.Statements.{Acts, Begins, Calculation, Statement, Ends, Executes, GoesTo, Marks, Nothing, WritesExceptions, has_instruction, tests}
 use Rattle.rpg_cards.specs.Keys.{Key, Name}
 use Rattle.rpg_cards.specs.Plain.{Each, IsNoReturn}
 use Rattle.rpg_compile_program.specs.Code.{alternative_code, code_from, group_code, level_code, size, skip_code, step_code, tests_code, waits}
@@ -53,29 +53,29 @@ all_tests place operation following (cs ∷ ds ∷ rest) = each_append IsTest (a
 
 module _ (number : Key → ℕ) (place_of callee_of : Option Name → ℕ) (own : ℕ) (P : Instruction ℕ → Type 0) (of_test : (i : Instruction ℕ) → IsTest i → P i) where
   -- what holds of all tests and of the instruction of each step holds of the code
-  group_each : (place : ℕ) (g : Calculation Key) → Each P (step_code number place_of callee_of own g.deed) → Each P (group_code number place_of callee_of own place g)
+  group_each : (place : ℕ) (g : Calculation Key) → Each P (step_code number place_of callee_of own g.statement) → Each P (group_code number place_of callee_of own place g)
   unfolding group_code
-  group_each place g h = by_step (has_instruction g.deed)
+  group_each place g h = by_step (has_instruction g.statement)
     where
-      by_step : (b : Bool) → Each P (cond b (level_code (place + size g) g.level ++ (tests_code (place + waits g.level) (place + waits g.level + tests g.alternatives) (place + size g) g.alternatives ++ step_code number place_of callee_of own g.deed)) [])
+      by_step : (b : Bool) → Each P (cond b (level_code (place + size g) g.level ++ (tests_code (place + waits g.level) (place + waits g.level + tests g.alternatives) (place + size g) g.alternatives ++ step_code number place_of callee_of own g.statement)) [])
       by_step false = tt
       by_step true =
-          each_append P (level_code (place + size g) g.level) (tests_code (place + waits g.level) (place + waits g.level + tests g.alternatives) (place + size g) g.alternatives ++ step_code number place_of callee_of own g.deed)
+          each_append P (level_code (place + size g) g.level) (tests_code (place + waits g.level) (place + waits g.level + tests g.alternatives) (place + size g) g.alternatives ++ step_code number place_of callee_of own g.statement)
           (each_map IsTest P (level_code (place + size g) g.level) of_test (level_tests (place + size g) g.level))
-          (each_append P (tests_code (place + waits g.level) (place + waits g.level + tests g.alternatives) (place + size g) g.alternatives) (step_code number place_of callee_of own g.deed)
+          (each_append P (tests_code (place + waits g.level) (place + waits g.level + tests g.alternatives) (place + size g) g.alternatives) (step_code number place_of callee_of own g.statement)
           (each_map IsTest P (tests_code (place + waits g.level) (place + waits g.level + tests g.alternatives) (place + size g) g.alternatives) of_test (all_tests (place + waits g.level) (place + waits g.level + tests g.alternatives) (place + size g) g.alternatives)) h)
 
-  pub code_each : (place : ℕ) (gs : List (Calculation Key)) → Each (λ g. Each P (step_code number place_of callee_of own g.deed)) gs → Each P (code_from number place_of callee_of own place gs)
+  pub code_each : (place : ℕ) (gs : List (Calculation Key)) → Each (λ g. Each P (step_code number place_of callee_of own g.statement)) gs → Each P (code_from number place_of callee_of own place gs)
   unfolding code_from
   code_each place [] h = tt
   code_each place (g ∷ gs) h = each_append P (group_code number place_of callee_of own place g) (code_from number place_of callee_of own (place + size g) gs) (group_each place g h.0) (code_each (place + size g) gs h.1)
 
 module _ (number : Key → ℕ) (place_of callee_of : Option Name → ℕ) (own : ℕ) where
   -- all returns are the section's own
-  step_own : (s : Deed Key) → Each (IsOwn own) (step_code number place_of callee_of own s)
+  step_own : (s : Statement Key) → Each (IsOwn own) (step_code number place_of callee_of own s)
   unfolding step_code
   step_own (Acts a) = (refl, tt)
-  step_own PutsOut = (refl, tt)
+  step_own WritesExceptions = (refl, tt)
   step_own (GoesTo l) = (refl, tt)
   step_own (Executes s) = (refl, tt)
   step_own (Marks l) = tt
@@ -84,15 +84,15 @@ module _ (number : Key → ℕ) (place_of callee_of : Option Name → ℕ) (own 
   step_own Nothing = tt
 
   pub code_own : (place : ℕ) (gs : List (Calculation Key)) → Each (IsOwn own) (code_from number place_of callee_of own place gs)
-  code_own place gs = code_each number place_of callee_of own (IsOwn own) (λ i t. t.own own) place gs (each_always (λ g. Each (IsOwn own) (step_code number place_of callee_of own g.deed)) gs (λ g. step_own g.deed))
+  code_own place gs = code_each number place_of callee_of own (IsOwn own) (λ i t. t.own own) place gs (each_always (λ g. Each (IsOwn own) (step_code number place_of callee_of own g.statement)) gs (λ g. step_own g.statement))
 
   abbrev IsNone : Instruction ℕ → Type 0
   IsNone i = is_return i ≡ false
 
-  step_none : (s : Deed Key) → IsNoReturn s → Each IsNone (step_code number place_of callee_of own s)
+  step_none : (s : Statement Key) → IsNoReturn s → Each IsNone (step_code number place_of callee_of own s)
   unfolding step_code
   step_none (Acts a) h = (refl, tt)
-  step_none PutsOut h = (refl, tt)
+  step_none WritesExceptions h = (refl, tt)
   step_none (GoesTo l) h = (refl, tt)
   step_none (Executes s) h = (refl, tt)
   step_none (Marks l) h = tt
@@ -100,16 +100,16 @@ module _ (number : Key → ℕ) (place_of callee_of : Option Name → ℕ) (own 
   step_none (Ends l) h = absurd h
   step_none Nothing h = tt
 
-  pub code_none : (place : ℕ) (gs : List (Calculation Key)) → Each (λ g. IsNoReturn g.deed) gs → Each IsNone (code_from number place_of callee_of own place gs)
-  code_none place gs h = code_each number place_of callee_of own IsNone (λ i t. t.returns) place gs (each_map (λ g. IsNoReturn g.deed) (λ g. Each IsNone (step_code number place_of callee_of own g.deed)) gs (λ g n. step_none g.deed n) h)
+  pub code_none : (place : ℕ) (gs : List (Calculation Key)) → Each (λ g. IsNoReturn g.statement) gs → Each IsNone (code_from number place_of callee_of own place gs)
+  code_none place gs h = code_each number place_of callee_of own IsNone (λ i t. t.returns) place gs (each_map (λ g. IsNoReturn g.statement) (λ g. Each IsNone (step_code number place_of callee_of own g.statement)) gs (λ g n. step_none g.statement n) h)
 
   -- the code of the last group, an ENDSR that is always done
-  pub last_return : (place : ℕ) (g : Calculation Key) (l : Option Name) → g.deed ≡ Ends l → g.level ≡ None → tests g.alternatives ≡ 0 → group_code number place_of callee_of own place g ≡ made.Return own ∷ []
+  pub last_return : (place : ℕ) (g : Calculation Key) (l : Option Name) → g.statement ≡ Ends l → g.level ≡ None → tests g.alternatives ≡ 0 → group_code number place_of callee_of own place g ≡ made.Return own ∷ []
   unfolding group_code step_code
   last_return place g l s w f =
       let a : tests_code (place + waits g.level) (place + waits g.level + tests g.alternatives) (place + size g) g.alternatives ≡ [] = no_tests (place + waits g.level) (place + waits g.level + tests g.alternatives) (place + size g) g.alternatives f in
       let b : level_code (place + size g) g.level ≡ [] = ap (level_code (place + size g)) w in
-      ap (λ (x : Deed Key). cond (has_instruction x) (level_code (place + size g) g.level ++ (tests_code (place + waits g.level) (place + waits g.level + tests g.alternatives) (place + size g) g.alternatives ++ step_code number place_of callee_of own x)) []) s
+      ap (λ (x : Statement Key). cond (has_instruction x) (level_code (place + size g) g.level ++ (tests_code (place + waits g.level) (place + waits g.level + tests g.alternatives) (place + size g) g.alternatives ++ step_code number place_of callee_of own x)) []) s
       ∙ ap (λ xs. xs ++ (tests_code (place + waits g.level) (place + waits g.level + tests g.alternatives) (place + size g) g.alternatives ++ made.Return own ∷ [])) b
       ∙ ap (λ xs. xs ++ made.Return own ∷ []) a
     where

@@ -5,7 +5,7 @@ use Rattle.rpg_program.specs.declared.condition.Conditions.{Conditions}
 use Rattle.rpg_program.specs.declared.operation.Instruction.{Instruction}
 use Rattle.rpg_program.specs.declared.operation.Instruction.TheVariants as made
 use Rattle.rpg_compile_program.proofs.Each.{each_append}
-use Rattle.rpg_cards.specs.Deeds.{Acts, Begins, Calculation, Deed, Ends, Executes, GoesTo, Marks, Nothing, PutsOut, has_instruction, tests}
+use Rattle.rpg_cards.specs.Statements.{Acts, Begins, Calculation, Statement, Ends, Executes, GoesTo, Marks, Nothing, WritesExceptions, has_instruction, tests}
 use Rattle.rpg_cards.specs.Keys.{Key, Name}
 use Rattle.rpg_cards.specs.Plain.{Each, has_label}
 use Rattle.rpg_cards.specs.Sections.{is_same_name, label_on}
@@ -64,10 +64,10 @@ tests_within low high place operation following (cs ∷ ds ∷ rest) a b c d e f
     (tests_within low high (place + length cs) operation following (ds ∷ rest) (omega arith) (omega arith) c d e f)
 
 module _ (number : Key → ℕ) (place_of callee_of : Option Name → ℕ) (own : ℕ) where
-  step_length : (s : Deed Key) → has_instruction s ≡ true → length (step_code number place_of callee_of own s) ≡ 1
+  step_length : (s : Statement Key) → has_instruction s ≡ true → length (step_code number place_of callee_of own s) ≡ 1
   unfolding step_code
   step_length (Acts a) e = refl
-  step_length PutsOut e = refl
+  step_length WritesExceptions e = refl
   step_length (GoesTo l) e = refl
   step_length (Executes s) e = refl
   step_length (Marks l) e = cc
@@ -78,22 +78,22 @@ module _ (number : Key → ℕ) (place_of callee_of : Option Name → ℕ) (own 
   -- a group becomes as many instructions as its size says
   pub group_length : (place : ℕ) (g : Calculation Key) → length (group_code number place_of callee_of own place g) ≡ size g
   unfolding group_code size
-  group_length place g = by_step (has_instruction g.deed) refl
+  group_length place g = by_step (has_instruction g.statement) refl
     where
       n : ℕ
       n = waits g.level + tests g.alternatives + 1
 
       whole : ℕ → List (Instruction ℕ)
-      whole s = level_code (place + s) g.level ++ (tests_code (place + waits g.level) (place + waits g.level + tests g.alternatives) (place + s) g.alternatives ++ step_code number place_of callee_of own g.deed)
+      whole s = level_code (place + s) g.level ++ (tests_code (place + waits g.level) (place + waits g.level + tests g.alternatives) (place + s) g.alternatives ++ step_code number place_of callee_of own g.statement)
 
-      by_step : (b : Bool) → has_instruction g.deed ≡ b → length (cond b (whole (cond b n 0)) []) ≡ cond b n 0
+      by_step : (b : Bool) → has_instruction g.statement ≡ b → length (cond b (whole (cond b n 0)) []) ≡ cond b n 0
       by_step false e = refl
       by_step true e =
           let a = level_length (place + n) g.level in
           let b = tests_length (place + waits g.level) (place + waits g.level + tests g.alternatives) (place + n) g.alternatives in
-          let c = step_length g.deed e in
-          let d = length-append (level_code (place + n) g.level) (tests_code (place + waits g.level) (place + waits g.level + tests g.alternatives) (place + n) g.alternatives ++ step_code number place_of callee_of own g.deed) in
-          let f = length-append (tests_code (place + waits g.level) (place + waits g.level + tests g.alternatives) (place + n) g.alternatives) (step_code number place_of callee_of own g.deed) in
+          let c = step_length g.statement e in
+          let d = length-append (level_code (place + n) g.level) (tests_code (place + waits g.level) (place + waits g.level + tests g.alternatives) (place + n) g.alternatives ++ step_code number place_of callee_of own g.statement) in
+          let f = length-append (tests_code (place + waits g.level) (place + waits g.level + tests g.alternatives) (place + n) g.alternatives) (step_code number place_of callee_of own g.statement) in
           let all : length (whole n) ≡ n = omega arith in
           all
 
@@ -107,14 +107,14 @@ module _ (number : Key → ℕ) (place_of callee_of : Option Name → ℕ) (own 
       omega arith
 
   -- the labels of GOTOs stand from low to high
-  abbrev pub LeadsWithin : ℕ → ℕ → Deed Key → Type 0
+  abbrev pub LeadsWithin : ℕ → ℕ → Statement Key → Type 0
   LeadsWithin low high (GoesTo l) = (low ≤ place_of l) × (place_of l ≤ high)
   LeadsWithin low high _ = Unit {0}
 
-  step_within : (low high : ℕ) (s : Deed Key) → LeadsWithin low high s → Each (Within low high) (step_code number place_of callee_of own s)
+  step_within : (low high : ℕ) (s : Statement Key) → LeadsWithin low high s → Each (Within low high) (step_code number place_of callee_of own s)
   unfolding step_code
   step_within low high (Acts a) h = (tt, tt)
-  step_within low high PutsOut h = (tt, tt)
+  step_within low high WritesExceptions h = (tt, tt)
   step_within low high (GoesTo l) h = (h, tt)
   step_within low high (Executes s) h = (tt, tt)
   step_within low high (Marks l) h = tt
@@ -122,25 +122,25 @@ module _ (number : Key → ℕ) (place_of callee_of : Option Name → ℕ) (own 
   step_within low high (Ends l) h = (tt, tt)
   step_within low high Nothing h = tt
 
-  pub group_within : (low high place : ℕ) (g : Calculation Key) → low ≤ place → place + size g ≤ high → LeadsWithin low high g.deed → Each (Within low high) (group_code number place_of callee_of own place g)
+  pub group_within : (low high place : ℕ) (g : Calculation Key) → low ≤ place → place + size g ≤ high → LeadsWithin low high g.statement → Each (Within low high) (group_code number place_of callee_of own place g)
   unfolding group_code size
-  group_within low high place g a b h = by_step (has_instruction g.deed) b
+  group_within low high place g a b h = by_step (has_instruction g.statement) b
     where
       n : ℕ
       n = waits g.level + tests g.alternatives + 1
 
       whole : ℕ → List (Instruction ℕ)
-      whole s = level_code (place + s) g.level ++ (tests_code (place + waits g.level) (place + waits g.level + tests g.alternatives) (place + s) g.alternatives ++ step_code number place_of callee_of own g.deed)
+      whole s = level_code (place + s) g.level ++ (tests_code (place + waits g.level) (place + waits g.level + tests g.alternatives) (place + s) g.alternatives ++ step_code number place_of callee_of own g.statement)
 
       by_step : (b : Bool) → place + cond b n 0 ≤ high → Each (Within low high) (cond b (whole (cond b n 0)) [])
       by_step false e = tt
       by_step true e =
-          each_append (Within low high) (level_code (place + n) g.level) (tests_code (place + waits g.level) (place + waits g.level + tests g.alternatives) (place + n) g.alternatives ++ step_code number place_of callee_of own g.deed) (level_within low high (place + n) g.level (omega arith) (omega arith))
-          (each_append (Within low high) (tests_code (place + waits g.level) (place + waits g.level + tests g.alternatives) (place + n) g.alternatives) (step_code number place_of callee_of own g.deed)
+          each_append (Within low high) (level_code (place + n) g.level) (tests_code (place + waits g.level) (place + waits g.level + tests g.alternatives) (place + n) g.alternatives ++ step_code number place_of callee_of own g.statement) (level_within low high (place + n) g.level (omega arith) (omega arith))
+          (each_append (Within low high) (tests_code (place + waits g.level) (place + waits g.level + tests g.alternatives) (place + n) g.alternatives) (step_code number place_of callee_of own g.statement)
           (tests_within low high (place + waits g.level) (place + waits g.level + tests g.alternatives) (place + n) g.alternatives (omega arith) (omega arith) (omega arith) (omega arith) (omega arith) (omega arith))
-          (step_within low high g.deed h))
+          (step_within low high g.statement h))
 
-  pub code_within : (low high place : ℕ) (gs : List (Calculation Key)) → low ≤ place → place + sizes gs ≤ high → Each (λ g. LeadsWithin low high g.deed) gs → Each (Within low high) (code_from number place_of callee_of own place gs)
+  pub code_within : (low high place : ℕ) (gs : List (Calculation Key)) → low ≤ place → place + sizes gs ≤ high → Each (λ g. LeadsWithin low high g.statement) gs → Each (Within low high) (code_from number place_of callee_of own place gs)
   unfolding code_from
   code_within low high place [] a b h = tt
   code_within low high place (g ∷ gs) a b h =
@@ -160,7 +160,7 @@ module _ (number : Key → ℕ) (place_of callee_of : Option Name → ℕ) (own 
 -- a label is a place of its section or its end
 pub label_inside : (l : Option Name) (gs : List (Calculation Key)) (place : ℕ) → (place ≤ label_place l gs place) × (label_place l gs place ≤ place + sizes gs)
 label_inside l [] place = (omega arith, omega arith)
-label_inside l (g ∷ gs) place = by_label (is_same_name l (label_on g.deed)) (label_inside l gs (place + size g))
+label_inside l (g ∷ gs) place = by_label (is_same_name l (label_on g.statement)) (label_inside l gs (place + size g))
   where
     by_label : (b : Bool) → (place + size g ≤ label_place l gs (place + size g)) × (label_place l gs (place + size g) ≤ place + size g + sizes gs)
         → (place ≤ cond b place (label_place l gs (place + size g))) × (cond b place (label_place l gs (place + size g)) ≤ place + (size g + sizes gs))
@@ -169,12 +169,12 @@ label_inside l (g ∷ gs) place = by_label (is_same_name l (label_on g.deed)) (l
 
 -- a label of groups of which g is the last stands before g at the latest
 pub label_before : (l : Option Name) (front : List (Calculation Key)) (g : Calculation Key) (place : ℕ) → has_label l (front ++ g ∷ []) ≡ true → label_place l (front ++ g ∷ []) place ≤ place + sizes front
-label_before l [] g place h = by_label (is_same_name l (label_on g.deed)) h
+label_before l [] g place h = by_label (is_same_name l (label_on g.statement)) h
   where
     by_label : (b : Bool) → (b || false) ≡ true → cond b place (place + size g) ≤ place + 0
     by_label true h = omega arith
     by_label false h = absurd cc
-label_before l (x ∷ xs) g place h = by_label (is_same_name l (label_on x.deed)) h (label_before l xs g (place + size x))
+label_before l (x ∷ xs) g place h = by_label (is_same_name l (label_on x.statement)) h (label_before l xs g (place + size x))
   where
     by_label : (b : Bool) → (b || has_label l (xs ++ g ∷ [])) ≡ true → (has_label l (xs ++ g ∷ []) ≡ true → label_place l (xs ++ g ∷ []) (place + size x) ≤ place + size x + sizes xs)
         → cond b place (label_place l (xs ++ g ∷ []) (place + size x)) ≤ place + (size x + sizes xs)

@@ -79,7 +79,7 @@ constant_class (constant.Text text) = refl
 
 module _ (cards : List SpecCard) (forms : Key → Option FieldForm)
     (named : (name : List ℕ) → forms (Named name) ≡ form_in (form_of_name name cards))
-    (good : (name : List ℕ) → is_undefined cards name ≡ false → has_field (form_in (form_of_name name cards)) ≡ true) where
+    (valid : (name : List ℕ) → is_undefined cards name ≡ false → has_field (form_in (form_of_name name cards)) ≡ true) where
   -- ---- indexes
 
   -- the form that the cards give to the field of an index
@@ -120,7 +120,7 @@ module _ (cards : List SpecCard) (forms : Key → Option FieldForm)
 
   index_field : (x : List ℕ) → is_undefined cards x ≡ false → bad_index_field (form_in (form_of_name x cards)) ≡ false → IsIndexField x
   index_field x there right =
-      let form = some_form (form_in (form_of_name x cards)) (good x there) in
+      let form = some_form (form_in (form_of_name x cards)) (valid x there) in
       record {
         form = form.0;
         known = form.1;
@@ -194,7 +194,7 @@ module _ (cards : List SpecCard) (forms : Key → Option FieldForm)
   entry_fit c e h =
       let names = or_parts (is_undefined cards e.name) _ h.defined in
       let index = or_parts _ _ h.index in
-      let form = some_form (card_entry_form cards e) (good e.name names.0) in
+      let form = some_form (card_entry_form cards e) (valid e.name names.0) in
       record {
         form = form.0;
         is = form.1;

@@ -6,7 +6,7 @@ use Rattle.std.specs.List.{list_any}
 use Rattle.std.proofs.lemmas.Map.Steps.{length-le_from_distinct_below}
 use Rattle.rpg_compile_program.proofs.Each.{each_map}
 use Rattle.rpg_compile_program.proofs.Whole.{callee_there}
-use Rattle.rpg_cards.specs.Deeds.{Acts, Begins, Calculation, Deed, Ends, Executes, GoesTo, Marks, Nothing, PutsOut}
+use Rattle.rpg_cards.specs.Statements.{Acts, Begins, Calculation, Statement, Ends, Executes, GoesTo, Marks, Nothing, WritesExceptions}
 use Rattle.rpg_cards.specs.Keys.{Key, Name}
 use Rattle.rpg_cards.specs.Plain.{Each, IsCallAmong, IsChainAmong, IsFound, NoneComesBack, Pair, call_in, calls_from, calls_in, calls_of, with_call}
 use Rattle.rpg_cards.specs.Sections.{Subroutine, callee}
@@ -162,24 +162,24 @@ is_call_either a b (p ∷ ps) qs (inr h) = by_rest (is_call_either a b ps qs h)
 
 module _ (all : List (Subroutine Key)) where
   -- what a step calls is among the calls
-  abbrev pub IsAmong : List Pair → ℕ → Deed Key → Type 0
+  abbrev pub IsAmong : List Pair → ℕ → Statement Key → Type 0
   IsAmong ps own (Executes n) = IsCallAmong own (callee n all) ps
   IsAmong ps own _ = Unit {0}
 
-  among_more : (own : ℕ) (ps qs : List Pair) (x : Deed Key) → ((a b : ℕ) → IsCallAmong a b ps → IsCallAmong a b qs) → IsAmong ps own x → IsAmong qs own x
+  among_more : (own : ℕ) (ps qs : List Pair) (x : Statement Key) → ((a b : ℕ) → IsCallAmong a b ps → IsCallAmong a b qs) → IsAmong ps own x → IsAmong qs own x
   among_more own ps qs (Executes n) f h = f own (callee n all) h
   among_more own ps qs (Acts a) f h = tt
-  among_more own ps qs PutsOut f h = tt
+  among_more own ps qs WritesExceptions f h = tt
   among_more own ps qs (GoesTo l) f h = tt
   among_more own ps qs (Marks l) f h = tt
   among_more own ps qs (Begins l) f h = tt
   among_more own ps qs (Ends l) f h = tt
   among_more own ps qs Nothing f h = tt
 
-  step_among : (own : ℕ) (rest : List Pair) (x : Deed Key) → IsAmong (with_call all own (call_in x) rest) own x
+  step_among : (own : ℕ) (rest : List Pair) (x : Statement Key) → IsAmong (with_call all own (call_in x) rest) own x
   step_among own rest (Executes n) = inl (refl, refl)
   step_among own rest (Acts a) = tt
-  step_among own rest PutsOut = tt
+  step_among own rest WritesExceptions = tt
   step_among own rest (GoesTo l) = tt
   step_among own rest (Marks l) = tt
   step_among own rest (Begins l) = tt
@@ -190,17 +190,17 @@ module _ (all : List (Subroutine Key)) where
   with_more own None rest a b h = h
   with_more own (Some n) rest a b h = inr h
 
-  body_among : (own : ℕ) (gs : List (Calculation Key)) → Each (λ g. IsAmong (calls_in all own gs) own g.deed) gs
+  body_among : (own : ℕ) (gs : List (Calculation Key)) → Each (λ g. IsAmong (calls_in all own gs) own g.statement) gs
   body_among own [] = tt
   body_among own (g ∷ gs) = (
-    step_among own (calls_in all own gs) g.deed,
-    each_map (λ (x : Calculation Key). IsAmong (calls_in all own gs) own x.deed) (λ x. IsAmong (calls_in all own (g ∷ gs)) own x.deed) gs
-        (λ x h. among_more own (calls_in all own gs) (calls_in all own (g ∷ gs)) x.deed (with_more own (call_in g.deed) (calls_in all own gs)) h) (body_among own gs),
+    step_among own (calls_in all own gs) g.statement,
+    each_map (λ (x : Calculation Key). IsAmong (calls_in all own gs) own x.statement) (λ x. IsAmong (calls_in all own (g ∷ gs)) own x.statement) gs
+        (λ x h. among_more own (calls_in all own gs) (calls_in all own (g ∷ gs)) x.statement (with_more own (call_in g.statement) (calls_in all own gs)) h) (body_among own gs),
   )
 
   callers_in : (own a b : ℕ) (gs : List (Calculation Key)) → IsCallAmong a b (calls_in all own gs) → a ≡ own
   callers_in own a b [] h = absurd h
-  callers_in own a b (g ∷ gs) h = by_call (call_in g.deed) h (callers_in own a b gs)
+  callers_in own a b (g ∷ gs) h = by_call (call_in g.statement) h (callers_in own a b gs)
     where
       by_call : (o : Option (Option Name)) → IsCallAmong a b (with_call all own o (calls_in all own gs)) → (IsCallAmong a b (calls_in all own gs) → a ≡ own) → a ≡ own
       by_call None h r = r h
@@ -219,32 +219,32 @@ module _ (all : List (Subroutine Key)) where
   callers_below a b h = let l = callers_from 0 a b all h in omega arith
 
   -- F10 and F14: each call leads up
-  call_up : NoneComesBack (length all) (calls_of all) → (own : ℕ) (x : Deed Key) → IsFound all x → IsAmong (calls_of all) own x → CallsUp all (subroutine_level all) (subroutine_level all own) x
+  call_up : NoneComesBack (length all) (calls_of all) → (own : ℕ) (x : Statement Key) → IsFound all x → IsAmong (calls_of all) own x → CallsUp all (subroutine_level all) (subroutine_level all own) x
   call_up none own (Executes n) f h = (f, rises (calls_of all) (length all) none callers_below own (callee n all) (callee_there n all f) h)
   call_up none own (Acts a) f h = tt
-  call_up none own PutsOut f h = tt
+  call_up none own WritesExceptions f h = tt
   call_up none own (GoesTo l) f h = tt
   call_up none own (Marks l) f h = tt
   call_up none own (Begins l) f h = tt
   call_up none own (Ends l) f h = tt
   call_up none own Nothing f h = tt
 
-  pub body_up : NoneComesBack (length all) (calls_of all) → (own : ℕ) (gs : List (Calculation Key)) → ((a b : ℕ) → IsCallAmong a b (calls_in all own gs) → IsCallAmong a b (calls_of all)) → Each (λ g. IsFound all g.deed) gs → Each (λ g. CallsUp all (subroutine_level all) (subroutine_level all own) g.deed) gs
-  body_up none own gs more found = both gs found (each_map (λ (g : Calculation Key). IsAmong (calls_in all own gs) own g.deed) (λ g. IsAmong (calls_of all) own g.deed) gs (λ g h. among_more own (calls_in all own gs) (calls_of all) g.deed more h) (body_among own gs))
+  pub body_up : NoneComesBack (length all) (calls_of all) → (own : ℕ) (gs : List (Calculation Key)) → ((a b : ℕ) → IsCallAmong a b (calls_in all own gs) → IsCallAmong a b (calls_of all)) → Each (λ g. IsFound all g.statement) gs → Each (λ g. CallsUp all (subroutine_level all) (subroutine_level all own) g.statement) gs
+  body_up none own gs more found = both gs found (each_map (λ (g : Calculation Key). IsAmong (calls_in all own gs) own g.statement) (λ g. IsAmong (calls_of all) own g.statement) gs (λ g h. among_more own (calls_in all own gs) (calls_of all) g.statement more h) (body_among own gs))
     where
-      both : (hs : List (Calculation Key)) → Each (λ g. IsFound all g.deed) hs → Each (λ g. IsAmong (calls_of all) own g.deed) hs → Each (λ g. CallsUp all (subroutine_level all) (subroutine_level all own) g.deed) hs
+      both : (hs : List (Calculation Key)) → Each (λ g. IsFound all g.statement) hs → Each (λ g. IsAmong (calls_of all) own g.statement) hs → Each (λ g. CallsUp all (subroutine_level all) (subroutine_level all own) g.statement) hs
       both [] f h = tt
-      both (g ∷ gs) f h = (call_up none own g.deed f.0 h.0, both gs f.1 h.1)
+      both (g ∷ gs) f h = (call_up none own g.statement f.0 h.0, both gs f.1 h.1)
 
   -- outside subroutines every level is above
-  pub outside_up : (gs : List (Calculation Key)) → Each (λ g. IsFound all g.deed) gs → Each (λ g. CallsUp all (subroutine_level all) 0 g.deed) gs
+  pub outside_up : (gs : List (Calculation Key)) → Each (λ g. IsFound all g.statement) gs → Each (λ g. CallsUp all (subroutine_level all) 0 g.statement) gs
   outside_up [] f = tt
-  outside_up (g ∷ gs) f = (up g.deed f.0, outside_up gs f.1)
+  outside_up (g ∷ gs) f = (up g.statement f.0, outside_up gs f.1)
     where
-      up : (x : Deed Key) → IsFound all x → CallsUp all (subroutine_level all) 0 x
+      up : (x : Statement Key) → IsFound all x → CallsUp all (subroutine_level all) 0 x
       up (Executes n) f = (f, level_least (calls_of all) (length all - 1) (callee n all))
       up (Acts a) f = tt
-      up PutsOut f = tt
+      up WritesExceptions f = tt
       up (GoesTo l) f = tt
       up (Marks l) f = tt
       up (Begins l) f = tt

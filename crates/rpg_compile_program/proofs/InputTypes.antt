@@ -4,7 +4,7 @@ use Rattle.std.proofs.lemmas.Bool.{and_from, eqb-false, le-leb, ltb-false}
 use Rattle.std.proofs.lemmas.Option.{same_Some}
 use Rattle.std.specs.Option.{ForSome, option_map_or, option_or, option_to_list}
 use Rattle.std.specs.Prelude.{is_none, is_some, nat_le, nat_lt, ◌==◌}
-use Rattle.rpg_cards.specs.Deeds.{shows_of}
+use Rattle.rpg_cards.specs.Statements.{shows_of}
 use Rattle.rpg_cards.specs.Keys.{Named}
 use Rattle.rpg_cards.specs.Plain.{Each}
 use Rattle.rpg_cards.specs.Cards.{input_on, output_record_on, type_on, file_on}
@@ -41,7 +41,7 @@ use Rattle.rpg_compile_program.proofs.Known.{input_kept}
 use Rattle.rpg_compile_program.proofs.Lists.{or_first, or_second}
 use Rattle.rpg_compile_program.proofs.OutputFiles as named_files
 use Rattle.rpg_compile_program.proofs.Redefined.{HasName, card_defines, card_has_forms, key_defined}
-use Rattle.rpg_compile_program.proofs.Settings.{good_files}
+use Rattle.rpg_compile_program.proofs.Settings.{valid_files}
 use Rattle.rpg_compile_program.specs.Data.{kind_by}
 use Rattle.rpg_compile_program.specs.Ranges.{AreCards, InThree, IsCard, IsCode, IsInRange, IsInput, IsInputField, IsType}
 use Rattle.rpg_compile_program.specs.Rules.{KeepsCardRules}
@@ -164,16 +164,16 @@ shown_so (Some d) t e = refl
 
 module _ (cards : List SpecCard) (rules : KeepsCardRules cards) (ranges : AreCards cards) where
   abbrev HasFile : Option (List ℕ) → Type 0
-  HasFile name = named_files.HasFile cards (good_files cards rules) is_input name
+  HasFile name = named_files.HasFile cards (valid_files cards rules) is_input name
 
   -- ---- what stands on I cards, with the file of their type
 
-  pub record IsTypeGood (name : Option (List ℕ)) (t : RecordType) : Type 0 where
+  pub record IsTypeValid (name : Option (List ℕ)) (t : RecordType) : Type 0 where
     pub codes : bad_codes (file_by name cards) t.codes ≡ false
     pub indicator : option_map_or cannot_mark_type t.indicator false ≡ false
     pub range : IsType t
 
-  pub record IsFieldGood (name : Option (List ℕ)) (f : InputFieldSpec) : Type 0 where
+  pub record IsFieldValid (name : Option (List ℕ)) (f : InputFieldSpec) : Type 0 where
     pub outside : outside_record (file_by name cards) f ≡ false
     pub form : FieldForm
     pub is : field_form f ≡ Some form
@@ -181,14 +181,14 @@ module _ (cards : List SpecCard) (rules : KeepsCardRules cards) (ranges : AreCar
     pub shown : bad_on_field f ≡ false
     pub range : IsInputField f
 
-  pub record AreCodesGood (name : Option (List ℕ)) (cs : Three (Option RecordCode)) : Type 0 where
+  pub record AreCodesValid (name : Option (List ℕ)) (cs : Three (Option RecordCode)) : Type 0 where
     pub codes : bad_codes (file_by name cards) cs ≡ false
     pub range : InThree IsCode cs
 
-  abbrev pub IsInputGood : Option (List ℕ) → InputSpec → Type 0
-  IsInputGood name (input.Type t) = Unit {0}
-  IsInputGood name (input.And cs) = AreCodesGood name cs
-  IsInputGood name (input.Field f) = IsFieldGood name f
+  abbrev pub IsInputValid : Option (List ℕ) → InputSpec → Type 0
+  IsInputValid name (input.Type t) = Unit {0}
+  IsInputValid name (input.And cs) = AreCodesValid name cs
+  IsInputValid name (input.Field f) = IsFieldValid name f
 
   pub outside_kept : (before : List SpecCard) (c : SpecCard) (after : List SpecCard) (i : InputSpec) → cards ≡ before ++ c ∷ after → c.spec ≡ spec.Input i → (outside_on_input (file_by (own_file before i) cards) i || joins_badly before after i) ≡ false
   outside_kept before c after i split is =
@@ -200,15 +200,15 @@ module _ (cards : List SpecCard) (rules : KeepsCardRules cards) (ranges : AreCar
   range_kept : (before : List SpecCard) (c : SpecCard) (after : List SpecCard) (i : InputSpec) → cards ≡ before ++ c ∷ after → c.spec ≡ spec.Input i → IsInput i
   range_kept before c after i split is = subst IsInRange is (each_at IsCard before c after (subst AreCards split ranges))
 
-  field_good : (before : List SpecCard) (c : SpecCard) (after : List SpecCard) (f : InputFieldSpec) → cards ≡ before ++ c ∷ after → c.spec ≡ spec.Input (input.Field f) → IsFieldGood (open_file input_role before) f
-  field_good before c after f split is =
+  field_valid : (before : List SpecCard) (c : SpecCard) (after : List SpecCard) (f : InputFieldSpec) → cards ≡ before ++ c ∷ after → c.spec ≡ spec.Input (input.Field f) → IsFieldValid (open_file input_role before) f
+  field_valid before c after f split is =
       let here = (subst (λ s. Each HasForm (definitions_on s)) is (card_has_forms cards rules before c after split)).0 in
       let named = (subst (λ s. Each (HasName cards) (definitions_on s)) is (card_defines cards rules before c after split)).0 in
       by (field_form f) refl here named
     where
-      by : (o : Option FieldForm) → field_form f ≡ o → IsForm o → HasName cards (definition_of f) → IsFieldGood (open_file input_role before) f
-      by None e good named = absurd good
-      by (Some form) e good named = record {
+      by : (o : Option FieldForm) → field_form f ≡ o → IsForm o → HasName cards (definition_of f) → IsFieldValid (open_file input_role before) f
+      by None e valid named = absurd valid
+      by (Some form) e valid named = record {
         outside = or_first (outside_record (file_by (open_file input_role before) cards) f) _ (outside_kept before c after (input.Field f) split is);
         form = form;
         is = e;
@@ -217,16 +217,16 @@ module _ (cards : List SpecCard) (rules : KeepsCardRules cards) (ranges : AreCar
         range = range_kept before c after (input.Field f) split is;
       }
 
-  input_good : (before : List SpecCard) (c : SpecCard) (after : List SpecCard) (i : InputSpec) → cards ≡ before ++ c ∷ after → c.spec ≡ spec.Input i → IsInputGood (open_file input_role before) i
-  input_good before c after (input.Type t) split is = tt
-  input_good before c after (input.And cs) split is = record {
+  input_valid : (before : List SpecCard) (c : SpecCard) (after : List SpecCard) (i : InputSpec) → cards ≡ before ++ c ∷ after → c.spec ≡ spec.Input i → IsInputValid (open_file input_role before) i
+  input_valid before c after (input.Type t) split is = tt
+  input_valid before c after (input.And cs) split is = record {
     codes = or_first (bad_codes (file_by (open_file input_role before) cards) cs) _ (outside_kept before c after (input.And cs) split is);
     range = range_kept before c after (input.And cs) split is;
   }
-  input_good before c after (input.Field f) split is = field_good before c after f split is
+  input_valid before c after (input.Field f) split is = field_valid before c after f split is
 
-  pub follows : filed.Follows cards input_role HasFile IsTypeGood IsInputGood
-  follows before c after i split role = input_good before c after i split (follower_on c.spec i role)
+  pub follows : filed.Follows cards input_role HasFile IsTypeValid IsInputValid
+  follows before c after i split role = input_valid before c after i split (follower_on c.spec i role)
 
   type_named : (before : List SpecCard) (c : SpecCard) (after : List SpecCard) (t : RecordType) → cards ≡ before ++ c ∷ after → c.spec ≡ spec.Input (input.Type t) → lacks_file cards is_input (is_some (open_group input_role before)) t.file ≡ false
   type_named before c after t split is =
@@ -234,13 +234,13 @@ module _ (cards : List SpecCard) (rules : KeepsCardRules cards) (ranges : AreCar
       ∙ or_second (option_map_or (bad_file before) (file_on c.spec) false) (option_map_or (λ (t : RecordType). lacks_file cards is_input (is_some (open_group input_role before)) t.file) (type_on c.spec) false)
       (or_first _ (option_map_or (λ r. lacks_file cards is_output (is_some (open_group output_role before)) r.file) (output_record_on c.spec) false) (rules.f7 before c after split))
 
-  pub heads : filed.Heads cards input_role HasFile IsTypeGood IsInputGood
+  pub heads : filed.Heads cards input_role HasFile IsTypeValid IsInputValid
   heads before c after t name split role known =
       let card = heading_on c.spec t name role in
       let place : option_or t.file (open_file input_role before) ≡ option_or name (open_file input_role before) = ap (λ n. option_or n (open_file input_role before)) (sym card.file) in
       let all = outside_kept before c after (input.Type t) split card.on in (
-        subst HasFile place (named_files.named_or_before cards (good_files cards rules) is_input (is_some (open_group input_role before)) t.file (open_file input_role before) (type_named before c after t split card.on) known),
-        subst (λ n. IsTypeGood n t) place (record {
+        subst HasFile place (named_files.named_or_before cards (valid_files cards rules) is_input (is_some (open_group input_role before)) t.file (open_file input_role before) (type_named before c after t split card.on) known),
+        subst (λ n. IsTypeValid n t) place (record {
           codes = or_first (bad_codes (file_by (option_or t.file (open_file input_role before)) cards) t.codes) _ all;
           indicator = indicators_kept before c after (input.Type t) split card.on;
           range = range_kept before c after (input.Type t) split card.on;
@@ -248,7 +248,7 @@ module _ (cards : List SpecCard) (rules : KeepsCardRules cards) (ranges : AreCar
       )
 
   abbrev pub InFile : Group RecordType InputSpec → Type 0
-  InFile g = filed.InFile cards input_role HasFile IsTypeGood IsInputGood g
+  InFile g = filed.InFile cards input_role HasFile IsTypeValid IsInputValid g
 
   pub each_type : Each InFile (groups input_role cards)
-  each_type = filed.each_in_file cards input_role HasFile IsTypeGood IsInputGood heads follows
+  each_type = filed.each_in_file cards input_role HasFile IsTypeValid IsInputValid heads follows

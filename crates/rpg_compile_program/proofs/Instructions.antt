@@ -3,7 +3,7 @@ use Rattle.std.proofs.Common.{◌≡◌, ℕ, suc, ◌+◌, ◌≤◌, Bool, tru
 use Rattle.std.proofs.lemmas.Bool.{and_from, not_from_false, not_from_true}
 use Rattle.std.specs.Option.{ForSome}
 use Rattle.std.specs.Prelude.{is_some}
-use Rattle.rpg_cards.specs.Deeds.{Acts, Begins, Calculation, Deed, Ends, Executes, GoesTo, Marks, Nothing, PutsOut, has_instruction, tests}
+use Rattle.rpg_cards.specs.Statements.{Acts, Begins, Calculation, Statement, Ends, Executes, GoesTo, Marks, Nothing, WritesExceptions, has_instruction, tests}
 use Rattle.rpg_cards.specs.Keys.{Key, Name, key_cmp}
 use Rattle.rpg_cards.specs.Plain.{Each}
 use Rattle.rpg_cards.specs.Sections.{Sections, Subroutine}
@@ -31,12 +31,12 @@ use Rattle.rpg_effect_renaming.specs.Naming.{IsRenaming, renamed_action}
 use Rattle.rpg_program.specs.declared.rows.Version.{Version}
 use Rattle.rpg_verify_rules.proofs.Columns.{columns_same, kinds_same, written_same}
 use Rattle.rpg_verify_rules.proofs.Kept.{NoneTrue}
-use Rattle.rpg_verify_rules.specs.Indicators.{all_asked}
+use Rattle.rpg_verify_rules.specs.Indicators.{all_testable}
 use Rattle.rpg_verify_rules.specs.PlaceRules.{are_marked, columns_of_kind, holds_found, is_ascending, is_form_ascending, is_ordered, is_searched_well, judged_after_detail, place_breaks, places_judged, section_judged, subroutines_judged}
 use Rattle.rpg_verify_rules.specs.declared.rule.PlaceRule.{PlaceRule}
 use Rattle.rpg_verify_rules.specs.declared.rule.PlaceRule.TheVariants.{V16, V17, V18, V19, V20, V21, V22}
-use Rattle.rpg_compile_program.proofs.Conditions.{IsTested, may_ask_low}
-use Rattle.rpg_compile_program.proofs.RightRows.{IsRightAct, IsRightDeed, ascends, is_sought_well, keeps_rules}
+use Rattle.rpg_compile_program.proofs.Conditions.{IsTested, low_is_testable}
+use Rattle.rpg_compile_program.proofs.RightRows.{IsRightAct, IsRightStatement, ascends, is_sought_well, keeps_rules}
 
 -- a rule on what an instruction has, and not on where it leads
 abbrev pub IsOfColumns : PlaceRule → Type 0
@@ -52,7 +52,7 @@ IsOfColumns V22 = ⊥
 pub record IsRightCalculation (v : Version) (forms : Key → Option FieldForm) (g : Calculation Key) : Type 0 where
   pub tested : Each (Each (IsTested v)) g.alternatives
   pub level : ForSome g.level (λ n. n ≤ 110)
-  pub deed : IsRightDeed forms g.deed
+  pub statement : IsRightStatement forms g.statement
 
 module _ (p : Object) (forms : Key → Option FieldForm) (number : Key → ℕ) (renames : IsRenaming key_cmp nat_cmp forms (form_at p.fields) number) where
   abbrev at : ℕ → Option FieldForm
@@ -107,28 +107,28 @@ module _ (p : Object) (forms : Key → Option FieldForm) (number : Key → ℕ) 
       acted = made.Act (renamed_action number x)
 
       same : columns_of_kind p acted ≡ columns p acted
-      same = columns_same p acted kept.good kept.kinds
+      same = columns_same p acted kept.valid kept.kinds
 
       by : (r : PlaceRule) → IsOfColumns r → place_breaks r p s (made.Act (renamed_action number x)) ≡ false
-      by V16 of = not_from_true _ kept.good
-      by V17 of = not_from_true _ (kinds_same p acted kept.good ∙ kept.kinds)
+      by V16 of = not_from_true _ kept.valid
+      by V17 of = not_from_true _ (kinds_same p acted kept.valid ∙ kept.kinds)
       by V18 of = not_from_true _ (ap (λ r. all_used (is_writable_use at) r.result) same ∙ kept.result)
       by V19 of = not_from_true _ (and_from _ _ (marks_same x ∙ h.marked) (ap (is_searched_well p) same ∙ searched_well x h kept.one_sided))
-      by V20 of = not_from_true _ (ap (holds_found p) (written_same p acted kept.good kept.kinds kept.result) ∙ and_from _ _ kept.tables kept.positions)
+      by V20 of = not_from_true _ (ap (holds_found p) (written_same p acted kept.valid kept.kinds kept.result) ∙ and_from _ _ kept.tables kept.positions)
       by V21 of = absurd of
       by V22 of = absurd of
 
   -- ---- other instructions
 
-  branch_kept : (is_taken_where : Bool) (cs : Conditions) (target : ℕ) → all_asked p.version cs ≡ true → (is_taken_where || has_conditions cs) ≡ true → IsKept (made.Branch is_taken_where cs target)
+  branch_kept : (is_taken_where : Bool) (cs : Conditions) (target : ℕ) → all_testable p.version cs ≡ true → (is_taken_where || has_conditions cs) ≡ true → IsKept (made.Branch is_taken_where cs target)
   unfolding place_breaks holds_positions
-  branch_kept is_taken_where cs target asked some s V16 of = refl
-  branch_kept is_taken_where cs target asked some s V17 of = refl
-  branch_kept is_taken_where cs target asked some s V18 of = refl
-  branch_kept is_taken_where cs target asked some s V19 of = not_from_true _ (and_from _ _ (and_from _ _ asked some) refl)
-  branch_kept is_taken_where cs target asked some s V20 of = refl
-  branch_kept is_taken_where cs target asked some s V21 of = absurd of
-  branch_kept is_taken_where cs target asked some s V22 of = absurd of
+  branch_kept is_taken_where cs target testable some s V16 of = refl
+  branch_kept is_taken_where cs target testable some s V17 of = refl
+  branch_kept is_taken_where cs target testable some s V18 of = refl
+  branch_kept is_taken_where cs target testable some s V19 of = not_from_true _ (and_from _ _ (and_from _ _ testable some) refl)
+  branch_kept is_taken_where cs target testable some s V20 of = refl
+  branch_kept is_taken_where cs target testable some s V21 of = absurd of
+  branch_kept is_taken_where cs target testable some s V22 of = absurd of
 
   except_kept : IsKept made.Except
   unfolding place_breaks holds_positions
@@ -164,12 +164,12 @@ module _ (p : Object) (forms : Key → Option FieldForm) (number : Key → ℕ) 
 
   skips_kept : (target : ℕ) (cs : List Conditions) → Each (IsTested p.version) cs → Each IsKept (map (skip_code target) cs)
   skips_kept target [] h = tt
-  skips_kept target (c ∷ cs) h = (branch_kept false c target h.0.asked h.0.some, skips_kept target cs h.1)
+  skips_kept target (c ∷ cs) h = (branch_kept false c target h.0.testable h.0.some, skips_kept target cs h.1)
 
   alternative_kept : (next operation : ℕ) (cs : List Conditions) → Each (IsTested p.version) cs → Each IsKept (alternative_code next operation cs)
   alternative_kept next operation [] h = tt
-  alternative_kept next operation (c ∷ []) h = (branch_kept true c operation h.0.asked refl, tt)
-  alternative_kept next operation (c ∷ d ∷ rest) h = (branch_kept false c next h.0.asked h.0.some, alternative_kept next operation (d ∷ rest) h.1)
+  alternative_kept next operation (c ∷ []) h = (branch_kept true c operation h.0.testable refl, tt)
+  alternative_kept next operation (c ∷ d ∷ rest) h = (branch_kept false c next h.0.testable h.0.some, alternative_kept next operation (d ∷ rest) h.1)
 
   tests_kept : (place operation following : ℕ) (alts : List (List Conditions)) → Each (Each (IsTested p.version)) alts → Each IsKept (tests_code place operation following alts)
   tests_kept place operation following [] h = tt
@@ -180,17 +180,17 @@ module _ (p : Object) (forms : Key → Option FieldForm) (number : Key → ℕ) 
 
   level_kept : (following : ℕ) (o : Option ℕ) → ForSome o (λ n. n ≤ 110) → Each IsKept (level_code following o)
   level_kept following None h = tt
-  level_kept following (Some n) h = let within = h n refl in (branch_kept false (on_level n) following (and_from _ _ (may_ask_low p.version n (omega arith)) refl) refl, tt)
+  level_kept following (Some n) h = let within = h n refl in (branch_kept false (on_level n) following (and_from _ _ (low_is_testable p.version n (omega arith)) refl) refl, tt)
 
   when_kept : (b : Bool) (code : List (Instruction ℕ)) → Each IsKept code → Each IsKept (cond b code [])
   when_kept true code h = h
   when_kept false code h = tt
 
   module _ (place_of callee_of : Option Name → ℕ) (own : ℕ) where
-    step_kept : (d : Deed Key) → IsRightDeed forms d → Each IsKept (step_code number place_of callee_of own d)
+    step_kept : (d : Statement Key) → IsRightStatement forms d → Each IsKept (step_code number place_of callee_of own d)
     unfolding step_code
     step_kept (Acts x) h = (act_kept x h, tt)
-    step_kept PutsOut h = (except_kept, tt)
+    step_kept WritesExceptions h = (except_kept, tt)
     step_kept (GoesTo l) h = (branch_kept true _ (place_of l) refl refl, tt)
     step_kept (Executes n) h = (call_kept (callee_of n), tt)
     step_kept (Marks l) h = tt
@@ -203,10 +203,10 @@ module _ (p : Object) (forms : Key → Option FieldForm) (number : Key → ℕ) 
     group_kept place g h =
         let waiting = level_code (place + size g) g.level in
         let asking = tests_code (place + waits g.level) (place + waits g.level + tests g.alternatives) (place + size g) g.alternatives in
-        let doing = step_code number place_of callee_of own g.deed in
-        when_kept (has_instruction g.deed) (waiting ++ (asking ++ doing))
+        let doing = step_code number place_of callee_of own g.statement in
+        when_kept (has_instruction g.statement) (waiting ++ (asking ++ doing))
         (each_append IsKept waiting (asking ++ doing) (level_kept (place + size g) g.level h.level)
-        (each_append IsKept asking doing (tests_kept (place + waits g.level) (place + waits g.level + tests g.alternatives) (place + size g) g.alternatives h.tested) (step_kept g.deed h.deed)))
+        (each_append IsKept asking doing (tests_kept (place + waits g.level) (place + waits g.level + tests g.alternatives) (place + size g) g.alternatives h.tested) (step_kept g.statement h.statement)))
 
     code_kept : (place : ℕ) (gs : List (Calculation Key)) → Each (IsRightCalculation p.version forms) gs → Each IsKept (code_from number place_of callee_of own place gs)
     unfolding code_from

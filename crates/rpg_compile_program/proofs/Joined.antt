@@ -1,4 +1,4 @@
--- Control levels: what F16 says of the joined lengths of record types, and what the verifier's rule asks of them.
+-- Control levels: what F16 says of the joined lengths of record types, and what the verifier's rule requires of them.
 use Rattle.std.proofs.Common.{◌≡◌, ℕ, ◌+◌, ◌-◌, ◌≤◌, Bool, true, false, not, cond, ◌||◌, ◌&&◌, List, [], ◌∷◌, ◌++◌, map, filter, Option, None, Some, refl, sym, ap, ◌∙◌, arith}
 use Rattle.std.proofs.lemmas.Bool.{and_from, eq-eqb, eqb-true, le-leb, ne_eqb, not-false}
 use Rattle.std.proofs.lemmas.List.Sums.{sum_by-cons}
@@ -12,7 +12,7 @@ use Rattle.rpg_cards.specs.Levels.{control_level, is_at}
 use Rattle.rpg_cards.specs.declared.spec_card.SpecCard.{SpecCard}
 use Rattle.rpg_program.specs.Input.{TypeRow}
 use Rattle.rpg_program.specs.declared.input.ControlField.{ControlField}
-use Rattle.rpg_faults.specs.Places.{first_length, good_length, has_bad, input_columns, joined_length, lengths_differ, level_length, levels}
+use Rattle.rpg_faults.specs.Places.{first_length, valid_length, has_bad, input_columns, joined_length, lengths_differ, level_length, levels}
 use Rattle.rpg_effect_renaming.specs.Naming.{renamed_type}
 use Rattle.rpg_verify_rules.specs.TypeRules.{all_measured, is_measured, measure, measures}
 use Rattle.rpg_verify_rules.specs.TypeRules as row
@@ -22,7 +22,7 @@ use Rattle.rpg_sheet_specs.specs.declared.input.RecordType.{RecordType}
 use Rattle.rpg_compile_program.proofs.Lists.{or_first, or_second}
 use Rattle.rpg_compile_program.specs.Types.{card_type, control_field, field_at_level, input_fields_in}
 
--- ---- columns that are good
+-- ---- columns that are valid
 
 pub record HasColumns (f : InputFieldSpec) : Type 0 where
   pub first : 1 ≤ f.from
@@ -86,7 +86,7 @@ each_filtered test (f ∷ fs) h = by (test f) (each_filtered test fs h.1)
 abbrev some_if : ℕ → Option ℕ
 some_if n = cond (n == 0) None (Some n)
 
-length_is : (fs : List InputFieldSpec) → Each HasColumns fs → good_length fs ≡ some_if (sum_by input_columns fs)
+length_is : (fs : List InputFieldSpec) → Each HasColumns fs → valid_length fs ≡ some_if (sum_by input_columns fs)
 length_is [] h = refl
 length_is (f ∷ fs) h =
     let sum = sum_by-cons input_columns f fs in
@@ -129,10 +129,10 @@ first_after level (g ∷ gs) following = by (Joined level g == 0) refl (first_af
 -- as long as in the first type with the level, and 256 at most
 pub measured : (level : ℕ) (front : List (Group RecordType InputSpec)) (g : Group RecordType InputSpec) (following : List (Group RecordType InputSpec)) → Each InGroup front → InGroup g → Joined level g ≤ 256
     → lengths_differ (first_length level front) (level_length level g.followers) ≡ false → is_measured (first_joined level (front ++ g ∷ following)) (Joined level g) ≡ true
-measured level front g following h good few same = by (Joined level g == 0) refl
+measured level front g following h valid few same = by (Joined level g == 0) refl
   where
     alike : lengths_differ (some_if (first_joined level front)) (some_if (Joined level g)) ≡ false
-    alike = sym (λ i. lengths_differ (first_is level front h i) (level_is level g good i)) ∙ same
+    alike = sym (λ i. lengths_differ (first_is level front h i) (level_is level g valid i)) ∙ same
 
     own : (b : Bool) → (first_joined level front == 0) ≡ b → (Joined level g == 0) ≡ false → (Joined level g == first_joined level (front ++ g ∷ following)) ≡ true
     own true f e = eq-eqb (Joined level g) _ (sym (first_after level front (g ∷ following) ∙ ap (λ b. cond b (first_joined level (g ∷ following)) (first_joined level front)) f ∙ ap (λ b. cond b (first_joined level following) (Joined level g)) e))

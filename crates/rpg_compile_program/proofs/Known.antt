@@ -46,5 +46,5 @@ module _ (cards : List SpecCard) (rules : KeepsCardRules cards) where
   pub name_known : (name : List ℕ) → key_form (table_of cards) (Named name) ≡ form_in (form_of_name name cards)
   name_known = name_form cards defined
 
-  pub name_good : (name : List ℕ) → is_undefined cards name ≡ false → has_field (form_in (form_of_name name cards)) ≡ true
-  name_good name named = ap (λ d. has_field (form_in d)) (name_there cards defined name named).1
+  pub name_valid : (name : List ℕ) → is_undefined cards name ≡ false → has_field (form_in (form_of_name name cards)) ≡ true
+  name_valid name named = ap (λ d. has_field (form_in d)) (name_there cards defined name named).1

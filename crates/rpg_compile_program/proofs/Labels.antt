@@ -2,7 +2,7 @@
 use Rattle.std.proofs.Common.{◌≡◌, ℕ, ◌+◌, Bool, true, false, cond, List, [], ◌∷◌, Option, None, Some, refl, ap, ◌∙◌, arith}
 use Rattle.std.specs.Prelude.{unwrap_or}
 use Rattle.std.specs.Map.{lookup}
-use Rattle.rpg_cards.specs.Deeds.{Calculation}
+use Rattle.rpg_cards.specs.Statements.{Calculation}
 use Rattle.rpg_cards.specs.Keys.{Key, Name}
 use Rattle.rpg_cards.specs.Sections.{is_same_name, label_on}
 use Rattle.rpg_compile_program.specs.Code.{label_place, size, sizes}
@@ -21,12 +21,12 @@ with_label (Some l) place ls = (l, place) ∷ ls
 -- the labels of groups from a place on, each with its place
 abbrev pub labels_from : ℕ → List (Calculation Key) → List (List ℕ × ℕ)
 labels_from place [] = []
-labels_from place (g ∷ gs) = with_label (label_on g.deed) place (labels_from (place + size g) gs)
+labels_from place (g ∷ gs) = with_label (label_on g.statement) place (labels_from (place + size g) gs)
 
 -- a label's place is what the table of its section has for it, else the section's end
 pub label_by_table : (l : Option Name) (gs : List (Calculation Key)) (place : ℕ) → label_place l gs place ≡ unwrap_or (lookup (so l) (labels_from place gs)) (place + sizes gs)
 label_by_table l [] place = omega arith
-label_by_table l (g ∷ gs) place = by_label (label_on g.deed) (label_by_table l gs (place + size g))
+label_by_table l (g ∷ gs) place = by_label (label_on g.statement) (label_by_table l gs (place + size g))
   where
     ends : place + size g + sizes gs ≡ place + (size g + sizes gs)
     ends = omega arith

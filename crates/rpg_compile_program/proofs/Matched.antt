@@ -1,4 +1,4 @@
--- Match fields: what F16 says of those of record types, and what the verifier's rule asks of them.
+-- Match fields: what F16 says of those of record types, and what the verifier's rule requires of them.
 use Rattle.std.proofs.Common.{◌≡◌, ℕ, ◌+◌, ◌-◌, ◌≤◌, Bool, true, false, not, cond, ◌||◌, ◌&&◌, List, [], ◌∷◌, ◌++◌, append-nil, length, map, filter, Option, None, Some, refl, sym, ap, ◌∙◌, subst, arith}
 use Rattle.std.proofs.lemmas.Bool.{and_from, eq-eqb, eqb-false, le-leb, ltb-false, ne_eqb, not-false, not_from_false, or_from, or_parts}
 use Rattle.std.proofs.lemmas.List.Folds.{list_any-append}
@@ -15,7 +15,7 @@ use Rattle.rpg_cards.specs.Plain.{Each}
 use Rattle.rpg_cards.specs.declared.spec_card.SpecCard.{SpecCard}
 use Rattle.rpg_program.specs.declared.input.ControlField.{ControlField}
 use Rattle.rpg_effect_renaming.specs.Naming.{renamed_type}
-use Rattle.rpg_faults.specs.Places.{first_good_matches, good_matches, has_bad, has_twice, input_columns, levels, matched_fields, match_lengths, matches_differ, passes_matches, repeats}
+use Rattle.rpg_faults.specs.Places.{first_valid_matches, valid_matches, has_bad, has_twice, input_columns, levels, matched_fields, match_lengths, matches_differ, passes_matches, repeats}
 use Rattle.rpg_sheet_specs.specs.declared.input.InputFieldSpec.{InputFieldSpec}
 use Rattle.rpg_sheet_specs.specs.declared.input.InputSpec.{InputSpec}
 use Rattle.rpg_sheet_specs.specs.declared.input.RecordType.{RecordType}
@@ -75,7 +75,7 @@ neither : (p q : ℕ → Bool) (o : Option ℕ) → option_map_or p o false ≡ 
 neither p q None a b = refl
 neither p q (Some l) a b = or_from _ _ a (or_from _ _ b refl)
 
--- two levels are unlike, whichever is asked first
+-- two levels are unlike, whichever is tested first
 unlike : (a b : Option ℕ) → option_map_or (λ k. option_map_or (λ l. l == k) a false) b false ≡ false → option_map_or (λ l. option_map_or (λ k. k == l) b false) a false ≡ false
 unlike None None e = refl
 unlike None (Some k) e = refl
@@ -171,17 +171,17 @@ Matches g = Rows (input_fields_in g.followers)
 abbrev unless_none : List ControlField → Option (List ℕ)
 unless_none cs = cond (length cs == 0) None (Some (joined_widths cs))
 
-good_are : (fs : List InputFieldSpec) → Each HasColumns fs → has_twice (Matching fs) ≡ false → good_matches (Matching fs) ≡ unless_none (Rows fs)
-good_are fs h once = by (Matching fs) refl
+valid_are : (fs : List InputFieldSpec) → Each HasColumns fs → has_twice (Matching fs) ≡ false → valid_matches (Matching fs) ≡ unless_none (Rows fs)
+valid_are fs h once = by (Matching fs) refl
   where
-    by : (ms : List InputFieldSpec) → Matching fs ≡ ms → good_matches ms ≡ unless_none (Rows fs)
+    by : (ms : List InputFieldSpec) → Matching fs ≡ ms → valid_matches ms ≡ unless_none (Rows fs)
     by [] e = sym (ap (λ b. cond b None (Some (joined_widths (Rows fs)))) (eq-eqb (length (Rows fs)) 0 (same_length fs ∙ ap length e)))
     by (m ∷ ms) e =
-        let good : has_bad (m ∷ ms) ≡ false = positive (m ∷ ms) (subst (Each HasColumns) e (each_filtered is_match_field fs h)) in
+        let valid : has_bad (m ∷ ms) ≡ false = positive (m ∷ ms) (subst (Each HasColumns) e (each_filtered is_match_field fs h)) in
         let single : has_twice (m ∷ ms) ≡ false = subst (λ xs. has_twice xs ≡ false) e once in
         let long = ap length e in
         let same = same_length fs in
-        ap (λ b. cond b None (Some (match_lengths (m ∷ ms)))) (or_from _ _ good single)
+        ap (λ b. cond b None (Some (match_lengths (m ∷ ms)))) (or_from _ _ valid single)
         ∙ ap Some (sym (ap match_lengths e) ∙ lengths_same fs h)
         ∙ sym (ap (λ b. cond b None (Some (joined_widths (Rows fs)))) (ne_eqb (length (Rows fs)) 0 (λ z. omega arith)))
 
@@ -190,9 +190,9 @@ abbrev pub firsts : List (Group RecordType InputSpec) → List ControlField
 firsts [] = []
 firsts (g ∷ gs) = cond (length (Matches g) == 0) (firsts gs) (Matches g)
 
-first_are : (gs : List (Group RecordType InputSpec)) → Each InGroup gs → Each IsOnce gs → first_good_matches gs ≡ unless_none (firsts gs)
+first_are : (gs : List (Group RecordType InputSpec)) → Each InGroup gs → Each IsOnce gs → first_valid_matches gs ≡ unless_none (firsts gs)
 first_are [] h once = refl
-first_are (g ∷ gs) h once = (λ i. option_or (good_are (input_fields_in g.followers) h.0 once.0 i) (first_are gs h.1 once.1 i)) ∙ by (length (Matches g) == 0) refl
+first_are (g ∷ gs) h once = (λ i. option_or (valid_are (input_fields_in g.followers) h.0 once.0 i) (first_are gs h.1 once.1 i)) ∙ by (length (Matches g) == 0) refl
   where
     by : (b : Bool) → (length (Matches g) == 0) ≡ b → option_or (cond b None (Some (joined_widths (Matches g)))) (unless_none (firsts gs)) ≡ unless_none (cond b (firsts gs) (Matches g))
     by true e = refl
@@ -215,11 +215,11 @@ firsts_after (g ∷ gs) following = by (length (Matches g) == 0) refl (firsts_af
 
 -- the same lengths as in the first type that has match fields
 pub matched : (front : List (Group RecordType InputSpec)) (g : Group RecordType InputSpec) (following : List (Group RecordType InputSpec)) → Each InGroup front → Each IsOnce front → InGroup g → IsOnce g
-    → matches_differ (first_good_matches front) (good_matches (matched_fields g.followers)) ≡ false → are_joined_as (joined_widths (firsts (front ++ g ∷ following))) (Matches g) ≡ true
-matched front g following h once good single same = by (length (Matches g) == 0) refl
+    → matches_differ (first_valid_matches front) (valid_matches (matched_fields g.followers)) ≡ false → are_joined_as (joined_widths (firsts (front ++ g ∷ following))) (Matches g) ≡ true
+matched front g following h once valid single same = by (length (Matches g) == 0) refl
   where
     alike : matches_differ (unless_none (firsts front)) (unless_none (Matches g)) ≡ false
-    alike = sym (λ i. matches_differ (first_are front h once i) (good_are (input_fields_in g.followers) good single i)) ∙ same
+    alike = sym (λ i. matches_differ (first_are front h once i) (valid_are (input_fields_in g.followers) valid single i)) ∙ same
 
     equal : (xs ys : List ℕ) → xs ≡ ys → pointwise ◌==◌ ys xs ≡ true
     equal xs ys e = (bytes_eq-Decides ys xs).1 (sym e)

@@ -18,7 +18,7 @@ use Rattle.rpg_cards.specs.Names.{defined_as, definitions, first_form, form_in, 
 use Rattle.rpg_cards.specs.SameConstants.{is_same_equiv}
 use Rattle.rpg_cards.specs.declared.constants.Constant.{Constant}
 use Rattle.rpg_cards.specs.declared.names.Defined.{Defined}
-use Rattle.rpg_cards.specs.declared.names.Defined.TheVariants.{Bad, Good, Missing}
+use Rattle.rpg_cards.specs.declared.names.Defined.TheVariants.{Bad, Valid, Missing}
 use Rattle.rpg_cards.specs.declared.names.Definition.{Definition}
 use Rattle.rpg_cards.specs.declared.spec_card.SpecCard.{SpecCard}
 use Rattle.rpg_program.specs.declared.form.FieldForm.{FieldForm}
@@ -37,65 +37,65 @@ with_name-form fields name q form = by_cases (is_some (defined_form fields name)
     by_cases false e = lookup_push (pointwise nat_eq q) fields name form
 
 first_form-in : (name q : List ℕ) (form : FieldForm) (later : Defined) →
-    option_or (cond (pointwise nat_eq q name) (Some form) None) (form_in later) ≡ form_in (cond (pointwise nat_eq q name) (Good form) later)
+    option_or (cond (pointwise nat_eq q name) (Some form) None) (form_in later) ≡ form_in (cond (pointwise nat_eq q name) (Valid form) later)
 first_form-in name q form later = by_cases (pointwise nat_eq q name)
   where
-    by_cases : (b : Bool) → option_or (cond b (Some form) None) (form_in later) ≡ form_in (cond b (Good form) later)
+    by_cases : (b : Bool) → option_or (cond b (Some form) None) (form_in later) ≡ form_in (cond b (Valid form) later)
     by_cases true = refl
     by_cases false = refl
 
 one_definition : (fields : NamedForms) (q name : List ℕ) (o : Option FieldForm) (ds : List Definition) → IsForm o →
     ((more : NamedForms) → defined_form (with_definitions more ds) q ≡ option_or (defined_form more q) (form_in (first_form q ds))) →
     defined_form (with_definitions (with_form fields name o) ds) q ≡ option_or (defined_form fields q) (form_in (cond (pointwise nat_eq q name) (defined_as o) (first_form q ds)))
-one_definition fields q name None ds good rest = absurd good
-one_definition fields q name (Some form) ds good rest =
+one_definition fields q name None ds valid rest = absurd valid
+one_definition fields q name (Some form) ds valid rest =
     let later = first_form q ds in
     rest (with_name fields name form) ∙ ap (λ o. option_or o (form_in later)) (with_name-form fields name q form) ∙ option_or_assoc (defined_form fields q) _ (form_in later)
     ∙ ap (option_or (defined_form fields q)) (first_form-in name q form later)
 
 with_definitions-form : (fields : NamedForms) (ds : List Definition) (q : List ℕ) → Each HasForm ds →
     defined_form (with_definitions fields ds) q ≡ option_or (defined_form fields q) (form_in (first_form q ds))
-with_definitions-form fields [] q good = or_none (defined_form fields q)
+with_definitions-form fields [] q valid = or_none (defined_form fields q)
   where
     or_none : {X : Type 0} (o : Option X) → o ≡ option_or o None
     or_none None = refl
     or_none (Some x) = refl
-with_definitions-form fields (d ∷ ds) q good = one_definition fields q d.name d.form ds good.0 (λ more. with_definitions-form more ds q good.1)
+with_definitions-form fields (d ∷ ds) q valid = one_definition fields q d.name d.form ds valid.0 (λ more. with_definitions-form more ds q valid.1)
 
 given_or : (o : Option FieldForm) (d : Defined) → option_or o (form_in d) ≡ form_in (unless_given o d)
 given_or None d = refl
 given_or (Some form) d = refl
 
 -- no definition is bad, so a name that isn't missing has a form
-abbrev IsGood : Defined → Type 0
-IsGood Missing = Unit {0}
-IsGood Bad = ⊥
-IsGood (Good form) = Unit {0}
+abbrev IsValid : Defined → Type 0
+IsValid Missing = Unit {0}
+IsValid Bad = ⊥
+IsValid (Valid form) = Unit {0}
 
-good_in : (name : List ℕ) (ds : List Definition) → Each HasForm ds → IsGood (first_form name ds)
-good_in name [] good = tt
-good_in name (d ∷ ds) good = by _ d.form good.0 (good_in name ds good.1)
+valid_in : (name : List ℕ) (ds : List Definition) → Each HasForm ds → IsValid (first_form name ds)
+valid_in name [] valid = tt
+valid_in name (d ∷ ds) valid = by _ d.form valid.0 (valid_in name ds valid.1)
   where
-    by : (b : Bool) (o : Option FieldForm) → IsForm o → IsGood (first_form name ds) → IsGood (cond b (defined_as o) (first_form name ds))
+    by : (b : Bool) (o : Option FieldForm) → IsForm o → IsValid (first_form name ds) → IsValid (cond b (defined_as o) (first_form name ds))
     by b None h rest = absurd h
     by true (Some form) h rest = tt
     by false (Some form) h rest = rest
 
-unless_good : (o : Option FieldForm) (d : Defined) → IsGood d → IsGood (unless_given o d)
-unless_good None d h = h
-unless_good (Some form) d h = tt
+unless_valid : (o : Option FieldForm) (d : Defined) → IsValid d → IsValid (unless_given o d)
+unless_valid None d h = h
+unless_valid (Some form) d h = tt
 
-there : (d : Defined) → IsGood d → is_missing d ≡ false → (form : FieldForm) × (d ≡ Good form)
-there Missing good e = absurd cc
-there Bad good e = absurd good
-there (Good form) good e = (form, refl)
+there : (d : Defined) → IsValid d → is_missing d ≡ false → (form : FieldForm) × (d ≡ Valid form)
+there Missing valid e = absurd cc
+there Bad valid e = absurd valid
+there (Valid form) valid e = (form, refl)
 
 module _ (cards : List SpecCard) (defined : AreDefined cards) where
   pub name_form : (name : List ℕ) → key_form (table_of cards) (Named name) ≡ form_in (form_of_name name cards)
   name_form name = with_definitions-form given (definitions cards) name defined ∙ given_or (defined_form given name) (first_form name (definitions cards))
 
-  pub name_there : (name : List ℕ) → is_missing (form_of_name name cards) ≡ false → (form : FieldForm) × (form_of_name name cards ≡ Good form)
-  name_there name e = there (form_of_name name cards) (unless_good (defined_form given name) (first_form name (definitions cards)) (good_in name (definitions cards) defined)) e
+  pub name_there : (name : List ℕ) → is_missing (form_of_name name cards) ≡ false → (form : FieldForm) × (form_of_name name cards ≡ Valid form)
+  name_there name e = there (form_of_name name cards) (unless_valid (defined_form given name) (first_form name (definitions cards)) (valid_in name (definitions cards) defined)) e
 
 -- ---- the constants of cards have forms
 

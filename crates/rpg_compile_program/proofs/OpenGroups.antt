@@ -82,29 +82,29 @@ module _ {H F : Type 0} (role : Spec → Role H F) (cards : List SpecCard) where
 -- ---- what stands on followers
 
 module _ {H F : Type 0} (role : Spec → Role H F) (Q : F → Type 0) where
-  abbrev pub HasGood : SpecCard → Type 0
-  HasGood c = (f : F) → role c.spec ≡ Follower f → Q f
+  abbrev pub HasValid : SpecCard → Type 0
+  HasValid c = (f : F) → role c.spec ≡ Follower f → Q f
 
   abbrev pub InGroup : Group H F → Type 0
   InGroup g = Each Q g.followers
 
-  followers_good : (cs : List SpecCard) → Each HasGood cs → Each Q (followers role cs)
-  followers_good [] h = tt
-  followers_good (c ∷ cs) h = by (role c.spec) (h.0) (followers_good cs h.1)
+  followers_valid : (cs : List SpecCard) → Each HasValid cs → Each Q (followers role cs)
+  followers_valid [] h = tt
+  followers_valid (c ∷ cs) h = by (role c.spec) (h.0) (followers_valid cs h.1)
     where
       by : (r : Role H F) → ((f : F) → r ≡ Follower f → Q f) → Each Q (followers role cs) → Each Q (followers_with r (followers role cs))
       by (Heading x name) here rest = tt
       by (Follower f) here rest = (here f refl, rest)
       by Apart here rest = rest
 
-  groups_good : (file : Option (List ℕ)) (cs : List SpecCard) → Each HasGood cs → Each InGroup (groups_from role file cs)
-  groups_good file [] h = tt
-  groups_good file (c ∷ cs) h = by (role c.spec) (λ own. groups_good own cs h.1)
+  groups_valid : (file : Option (List ℕ)) (cs : List SpecCard) → Each HasValid cs → Each InGroup (groups_from role file cs)
+  groups_valid file [] h = tt
+  groups_valid file (c ∷ cs) h = by (role c.spec) (λ own. groups_valid own cs h.1)
     where
       by : (r : Role H F) → ((own : Option (List ℕ)) → Each InGroup (groups_from role own cs)) → Each InGroup (opening r file (followers role cs) (λ own. groups_from role own cs))
-      by (Heading x name) rest = (followers_good cs h.1, rest (option_or name file))
+      by (Heading x name) rest = (followers_valid cs h.1, rest (option_or name file))
       by (Follower f) rest = rest file
       by Apart rest = rest file
 
-  pub each_good : (cs : List SpecCard) → Each HasGood cs → Each InGroup (groups role cs)
-  each_good cs h = groups_good None cs h
+  pub each_valid : (cs : List SpecCard) → Each HasValid cs → Each InGroup (groups role cs)
+  each_valid cs h = groups_valid None cs h

@@ -5,7 +5,7 @@ use Rattle.std.proofs.lemmas.List.Folds.{list_any-append}
 use Rattle.std.specs.List.{list_any}
 use Rattle.std.specs.Option.{ForSome, option_and_then, option_len, option_map, option_map_or, option_to_list}
 use Rattle.std.specs.Prelude.{is_some, nat_le, nat_lt, unwrap_or, ◌==◌}
-use Rattle.rpg_cards.specs.Deeds.{deed_by, deed_from, deed_of, factor_1_operand, first_or_result, result_operand, resulting_shows, factor_2_operand, shows_of}
+use Rattle.rpg_cards.specs.Statements.{statement_by, statement_from, statement_of, factor_1_operand, first_or_result, result_operand, resulting_shows, factor_2_operand, shows_of}
 use Rattle.rpg_cards.specs.Keys as keys
 use Rattle.rpg_cards.specs.Keys.{Key, Named, entry_operand}
 use Rattle.rpg_sheet_specs.specs.Operations.{card_columns}
@@ -48,7 +48,7 @@ use Rattle.rpg_sheet_specs.specs.declared.literal.Factor.{Factor}
 use Rattle.rpg_sheet_specs.specs.declared.literal.Factor.TheVariants as factor
 use Rattle.rpg_compile_program.proofs.Entries as entries
 use Rattle.rpg_compile_program.proofs.Entries.{shape_of}
-use Rattle.rpg_compile_program.proofs.RightRows.{IsRightAct, IsRightDeed, IsRightUse, right_row}
+use Rattle.rpg_compile_program.proofs.RightRows.{IsRightAct, IsRightStatement, IsRightUse, right_row}
 use Rattle.rpg_compile_program.proofs.Lists.{none_in_option}
 
 -- ---- Booleans, lists
@@ -89,21 +89,21 @@ none_of_three test t e =
 
 module _ (cards : List SpecCard) (forms : Key → Option FieldForm)
     (named : (name : List ℕ) → forms (Named name) ≡ form_in (form_of_name name cards))
-    (good : (name : List ℕ) → is_undefined cards name ≡ false → has_field (form_in (form_of_name name cards)) ≡ true) where
+    (valid : (name : List ℕ) → is_undefined cards name ≡ false → has_field (form_in (form_of_name name cards)) ≡ true) where
   abbrev IsFit : Content → Option Factor → Type 0
-  IsFit c f = entries.IsFit cards forms named good c f
+  IsFit c f = entries.IsFit cards forms named valid c f
 
   abbrev HasForm : Factor → Type 0
-  HasForm x = entries.HasForm cards forms named good x
+  HasForm x = entries.HasForm cards forms named valid x
 
   abbrev Holds : Shape → Operand Key → Option FieldForm → Type 0
-  Holds s o d = entries.Holds cards forms named good s o d
+  Holds s o d = entries.Holds cards forms named valid s o d
 
   abbrev used : Operand Key → Kind → Shape → Use (Operand Key)
-  used o k s = entries.used cards forms named good o k s
+  used o k s = entries.used cards forms named valid o k s
 
   abbrev known : Factor → Option FieldForm
-  known x = entries.form_of cards forms named good x
+  known x = entries.form_of cards forms named valid x
 
   -- ---- what the rules of cards say of the columns of an operation
 
@@ -154,14 +154,14 @@ module _ (cards : List SpecCard) (forms : Key → Option FieldForm)
 
     -- what stands in a column that must be filled is there
     first_holds : (c : Content) → is_field_content c ≡ true → field_content t.factor_1 ≡ Some c → misses (Must c) k.factor_1 ≡ false → Holds (shape_of c) (factor_1_operand k) (option_and_then known k.factor_1)
-    first_holds c is e filled = entries.column_holds cards forms named good c k.factor_1 is filled (first_fit c e)
+    first_holds c is e filled = entries.column_holds cards forms named valid c k.factor_1 is filled (first_fit c e)
 
     second_holds : (c : Content) → is_field_content c ≡ true → field_content t.factor_2 ≡ Some c → misses (Must c) k.factor_2 ≡ false → Holds (shape_of c) (factor_2_operand k) (option_and_then known k.factor_2)
-    second_holds c is e filled = entries.column_holds cards forms named good c k.factor_2 is filled (second_fit c e)
+    second_holds c is e filled = entries.column_holds cards forms named valid c k.factor_2 is filled (second_fit c e)
 
     third_holds : (c : Content) → is_field_content c ≡ true → field_content t.result_field ≡ Some c → misses (Must c) (option_map factor.Entry k.result_field) ≡ false
         → Holds (shape_of c) (result_operand k) (option_and_then (card_entry_form cards) k.result_field)
-    third_holds c is e filled = entries.result_holds cards forms named good c k.result_field is filled (third_fit c e)
+    third_holds c is e filled = entries.result_holds cards forms named valid c k.result_field is filled (third_fit c e)
 
   -- ---- operands of operations
 
@@ -174,7 +174,7 @@ module _ (cards : List SpecCard) (forms : Key → Option FieldForm)
   -- a blank factor 1 is the result field
   first_number : (f : Option Factor) (o : Operand Key) → IsFit Value f → has_text (option_and_then known f) ≡ false → IsNumber o → IsNumber (unwrap_or (option_map keys.factor_operand f) o)
   first_number None o h right number = number
-  first_number (Some x) o h right number = entries.number_right cards forms named good (entries.factor_holds cards forms named good Value x refl h) right
+  first_number (Some x) o h right number = entries.number_right cards forms named valid (entries.factor_holds cards forms named valid Value x refl h) right
 
   record AreThree (k : CalculationSpec) : Type 0 where
     factor_1 : IsNumber (first_or_result k)
@@ -187,12 +187,12 @@ module _ (cards : List SpecCard) (forms : Key → Option FieldForm)
       let text = or_parts _ _ h.kinds in
       let factors = or_parts _ _ text.0 in
       let r = third_holds (card_columns op.Add) k h Value refl refl h.filled_3 in
-      let number = entries.number_right cards forms named good r text.1 in
+      let number = entries.number_right cards forms named valid r text.1 in
       record {
         factor_1 = first_number k.factor_1 (result_operand k) (first_fit (card_columns op.Add) k h Value refl) factors.0 number;
-        factor_2 = entries.number_right cards forms named good (second_holds (card_columns op.Add) k h Value refl refl h.filled_2) factors.1;
+        factor_2 = entries.number_right cards forms named valid (second_holds (card_columns op.Add) k h Value refl refl h.filled_2) factors.1;
         number = number;
-        written = entries.result_written cards forms named good r h.result;
+        written = entries.result_written cards forms named valid r h.result;
       }
 
   record AreTwo (k : CalculationSpec) : Type 0 where
@@ -205,9 +205,9 @@ module _ (cards : List SpecCard) (forms : Key → Option FieldForm)
       let text = or_parts _ _ h.kinds in
       let r = third_holds (card_columns op.ZeroAdd) k h Value refl refl h.filled_3 in
       record {
-        factor_2 = entries.number_right cards forms named good (second_holds (card_columns op.ZeroAdd) k h Value refl refl h.filled_2) text.0;
-        number = entries.number_right cards forms named good r text.1;
-        written = entries.result_written cards forms named good r h.result;
+        factor_2 = entries.number_right cards forms named valid (second_holds (card_columns op.ZeroAdd) k h Value refl refl h.filled_2) text.0;
+        number = entries.number_right cards forms named valid r text.1;
+        written = entries.result_written cards forms named valid r h.result;
       }
 
   -- ---- operations
@@ -247,7 +247,7 @@ module _ (cards : List SpecCard) (forms : Key → Option FieldForm)
   remainder_taken k h =
       let r = third_holds (card_columns op.MoveRemainder) k h Value refl refl h.filled_3 in
       record {
-        row = right_row forms _ (record { factor1 = tt; factor2 = tt; result = entries.number_right cards forms named good r h.kinds }) (entries.result_written cards forms named good r h.result) refl refl;
+        row = right_row forms _ (record { factor1 = tt; factor2 = tt; result = entries.number_right cards forms named valid r h.kinds }) (entries.result_written cards forms named valid r h.result) refl refl;
         marked = h.settable;
         sought = refl;
       }
@@ -259,8 +259,8 @@ module _ (cards : List SpecCard) (forms : Key → Option FieldForm)
       let b = second_holds (card_columns op.CrossFoot) k h WholeArray refl refl h.filled_2 in
       let r = third_holds (card_columns op.CrossFoot) k h Value refl refl h.filled_3 in
       record {
-        row = right_row forms _ (record { factor1 = tt; factor2 = entries.number_right cards forms named good b text.0; result = entries.number_right cards forms named good r text.1 })
-            (entries.result_written cards forms named good r h.result) refl refl;
+        row = right_row forms _ (record { factor1 = tt; factor2 = entries.number_right cards forms named valid b text.0; result = entries.number_right cards forms named valid r text.1 })
+            (entries.result_written cards forms named valid r h.result) refl refl;
         marked = h.settable;
         sought = refl;
       }
@@ -271,8 +271,8 @@ module _ (cards : List SpecCard) (forms : Key → Option FieldForm)
       let b = second_holds (card_columns op.Move) k h Value refl refl h.filled_2 in
       let r = third_holds (card_columns op.Move) k h Value refl refl h.filled_3 in
       record {
-        row = right_row forms _ (record { factor1 = tt; factor2 = entries.own_right cards forms named good b; result = entries.own_right cards forms named good r })
-            (entries.result_written cards forms named good r h.result) refl refl;
+        row = right_row forms _ (record { factor1 = tt; factor2 = entries.own_right cards forms named valid b; result = entries.own_right cards forms named valid r })
+            (entries.result_written cards forms named valid r h.result) refl refl;
         marked = refl;
         sought = refl;
       }
@@ -283,7 +283,7 @@ module _ (cards : List SpecCard) (forms : Key → Option FieldForm)
       let a = first_holds (card_columns op.Compare) k h Value refl refl h.filled_1 in
       let b = second_holds (card_columns op.Compare) k h Value refl refl h.filled_2 in
       record {
-        row = right_row forms _ (record { factor1 = entries.own_right cards forms named good a; factor2 = entries.like_right cards forms named good a b h.kinds; result = tt }) refl refl refl;
+        row = right_row forms _ (record { factor1 = entries.own_right cards forms named valid a; factor2 = entries.like_right cards forms named valid a b h.kinds; result = tt }) refl refl refl;
         marked = and_from _ _ h.settable (some_shown k.resulting_indicators h.shown);
         sought = refl;
       }
@@ -315,7 +315,7 @@ module _ (cards : List SpecCard) (forms : Key → Option FieldForm)
     index_holds : can_hold forms (factor_2_operand k).index (entries_of (forms (factor_2_operand k).field)) ≡ true
     index_holds =
         ap (λ (o : Option FieldForm). can_hold forms (factor_2_operand k).index (entries_of o)) table_searched.leads
-        ∙ entries.column_searches cards forms named good k.factor_2 form table_searched.is (second_fit (card_columns op.LookUp) k h Searched refl)
+        ∙ entries.column_searches cards forms named valid k.factor_2 form table_searched.is (second_fit (card_columns op.LookUp) k h Searched refl)
 
     in_order : (not (is_some k.resulting_indicators.first || is_some k.resulting_indicators.second) || is_form_ascending (forms (factor_2_operand k).field)) ≡ true
     in_order =
@@ -331,21 +331,21 @@ module _ (cards : List SpecCard) (forms : Key → Option FieldForm)
         → IsRightAct forms (LookUp (factor_1_operand k) (factor_2_operand k) (option_map entry_operand r) (resulting_shows k))
     unfolding row_of holds_positions
     looked_up None fit enough = record {
-      row = right_row forms _ (record { factor1 = entries.own_right cards forms named good sought_value; factor2 = entries.like_right cards forms named good sought_value table_searched h.kinds; result = tt })
+      row = right_row forms _ (record { factor1 = entries.own_right cards forms named valid sought_value; factor2 = entries.like_right cards forms named valid sought_value table_searched h.kinds; result = tt })
           refl (or_parts _ _ h.shown).1 index_holds;
       marked = marks;
       sought = in_order;
     }
     looked_up (Some e) fit enough =
-        let r = entries.factor_holds cards forms named good Table (factor.Entry e) refl fit in
+        let r = entries.factor_holds cards forms named valid Table (factor.Entry e) refl fit in
         let few : ((is_table r.form.class && (is_array form.class || is_table form.class)) && nat_lt r.form.entries form.entries) ≡ false =
         sym (λ i. finds_too_few (table_searched.is i) (r.is i)) ∙ enough in
         let less = ltb-false r.form.entries form.entries (last_of_three _ _ _ (and_parts _ _ r.shaped).0 has_positions few) in
         record {
           row = right_row forms _ (record {
-            factor1 = entries.own_right cards forms named good sought_value;
-            factor2 = entries.like_right cards forms named good sought_value table_searched h.kinds;
-            result = entries.own_right cards forms named good r;
+            factor1 = entries.own_right cards forms named valid sought_value;
+            factor2 = entries.like_right cards forms named valid sought_value table_searched h.kinds;
+            result = entries.own_right cards forms named valid r;
           }) refl (or_parts _ _ h.shown).1
               (and_from _ _ index_holds ((λ i. nat_le (entries_of (table_searched.leads i)) (entries_of (r.leads i))) ∙ le-leb form.entries r.form.entries less));
           marked = marks;
@@ -354,7 +354,7 @@ module _ (cards : List SpecCard) (forms : Key → Option FieldForm)
 
   -- ---- all operations
 
-  operation_right : (k : CalculationSpec) (o : Operation) → IsOperationFit (card_columns o) k → IsRightDeed forms (deed_by k o)
+  operation_right : (k : CalculationSpec) (o : Operation) → IsOperationFit (card_columns o) k → IsRightStatement forms (statement_by k o)
   operation_right k op.Add h = computed k operator.Add h
   operation_right k op.Subtract h = computed k operator.Subtract h
   operation_right k op.Multiply h = computed k operator.Multiply h
@@ -418,9 +418,9 @@ module _ (cards : List SpecCard) (forms : Key → Option FieldForm)
         settable = h.settable;
       }
 
-  pub card_right : (k : CalculationSpec) → IsCardFit k → IsRightDeed forms (deed_of k)
+  pub card_right : (k : CalculationSpec) → IsCardFit k → IsRightStatement forms (statement_of k)
   card_right k h = by k.operation refl
     where
-      by : (x : Option Operation) → k.operation ≡ x → IsRightDeed forms (deed_from k x)
+      by : (x : Option Operation) → k.operation ≡ x → IsRightStatement forms (statement_from k x)
       by None is = tt
       by (Some o) is = operation_right k o (operation_fit k o is h)

@@ -46,7 +46,7 @@ use Rattle.rpg_compile_program.proofs.Entries.{some_form}
 
 module _ (cards : List SpecCard) (forms : Key → Option FieldForm) (words : Key → List ℕ)
     (named : (name : List ℕ) → forms (Named name) ≡ form_in (form_of_name name cards))
-    (good : (name : List ℕ) → is_undefined cards name ≡ false → has_field (form_in (form_of_name name cards)) ≡ true)
+    (valid : (name : List ℕ) → is_undefined cards name ≡ false → has_field (form_in (form_of_name name cards)) ≡ true)
     (spelled : (text : List ℕ) → forms (Fixed (constant.Text text)) ≡ Some (constant_form (constant.Text text)) → words (Fixed (constant.Text text)) ≡ text) where
   -- ---- operands
 
@@ -64,7 +64,7 @@ module _ (cards : List SpecCard) (forms : Key → Option FieldForm) (words : Key
   index_kept (Some (written.Name x)) d fit whole there =
       let two = or_parts _ _ fit in
       let array : is_array d.class ≡ true = not-false _ two.0 in
-      let form = some_form (form_in (form_of_name x cards)) (good x there) in
+      let form = some_form (form_in (form_of_name x cards)) (valid x there) in
       let is : forms (Named x) ≡ Some form.0 = named x ∙ form.1 in
       rw is (and_from _ _ refl (and_from _ _ array (let w = rw form.1 at whole in not-false _ w)))
 
@@ -188,7 +188,7 @@ module _ (cards : List SpecCard) (forms : Key → Option FieldForm) (words : Key
       IsFieldFit (with_entry cs e code b n text) len → Keeps len (with_entry cs e code b n text)
   entry_keeps cs e code b n text len fit =
       let names = or_parts _ _ fit.defined in
-      let form = some_form (card_entry_form cards e) (good e.name names.0) in
+      let form = some_form (card_entry_form cards e) (valid e.name names.0) in
       let d = form.0 in
       let at : forms (Named e.name) ≡ Some d = named e.name ∙ form.1 in
       let unedited_by : is_none (option_and_then (if_suited d) (how_by code text)) ≡ false = subst (λ (o : Option FieldForm). unedited o (with_entry cs e code b n text) ≡ false) form.1 fit.editing in

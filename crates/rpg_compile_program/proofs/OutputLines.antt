@@ -42,8 +42,8 @@ use Rattle.rpg_effect_renaming.proofs.Lines.{keeps_same}
 use Rattle.rpg_effect_renaming.specs.Naming.{renamed_field}
 use Rattle.rpg_verify_rules.proofs.Kept.{NoneTrue}
 use Rattle.rpg_program.specs.declared.rows.Version.{Version}
-use Rattle.rpg_verify_rules.specs.Indicators.{all_asked, if_any, may_be_asked}
-use Rattle.rpg_verify_rules.specs.LineRules.{asks_wrongly, blanks_wrongly, edits_form, is_field_asked, is_field_edited, is_field_there, is_spaced_on, is_word_for, lacks_editing, lacks_room, lacks_word, line_breaks}
+use Rattle.rpg_verify_rules.specs.Indicators.{all_testable, if_any, is_testable}
+use Rattle.rpg_verify_rules.specs.LineRules.{has_untestable_condition, blanks_wrongly, edits_form, is_field_testable, is_field_edited, is_field_there, is_spaced_on, is_word_for, lacks_editing, lacks_room, lacks_word, line_breaks}
 use Rattle.rpg_verify_rules.specs.Rules.{broken}
 use Rattle.rpg_verify_rules.specs.declared.rule.LineRule.{LineRule}
 use Rattle.rpg_verify_rules.specs.declared.rule.LineRule.TheVariants.{V2, V8, V9, V10, V11, V12, V13, V14, V15}
@@ -51,7 +51,7 @@ use Rattle.rpg_verify_rules.specs.declared.rule.Rule.TheVariants as rules
 use Rattle.rpg_cards.specs.Names.{form_in, form_of_name}
 use Rattle.rpg_cards.specs.Keys.{Named}
 use Rattle.rpg_faults_operands.specs.Names.{is_undefined}
-use Rattle.rpg_compile_program.proofs.Conditions.{asked_number}
+use Rattle.rpg_compile_program.proofs.Conditions.{testable_number}
 use Rattle.rpg_compile_program.proofs.FiledGroups as filed
 use Rattle.rpg_compile_program.proofs.Lines.{length_same}
 use Rattle.rpg_compile_program.proofs.Numbers.{numbers_rename}
@@ -111,13 +111,13 @@ heading_on (spec.Output (output.Or t)) r name e = cc
 heading_on (spec.Output (output.Field f)) r name e = cc
 
 indicators_on : (cards : List SpecCard) (s : Spec) (o : OutputSpec) → output_on s ≡ Some o → bad_on cards s ≡ false → bad_on_output cards o ≡ false
-indicators_on cards (spec.Header x) o e good = cc
-indicators_on cards (spec.File x) o e good = cc
-indicators_on cards (spec.Extension x) o e good = cc
-indicators_on cards (spec.Input x) o e good = cc
-indicators_on cards (spec.Calculation x) o e good = cc
-indicators_on cards (spec.Data x) o e good = cc
-indicators_on cards (spec.Output p) o e good = let same : p ≡ o = cc in subst (λ x. bad_on_output cards x ≡ false) same good
+indicators_on cards (spec.Header x) o e valid = cc
+indicators_on cards (spec.File x) o e valid = cc
+indicators_on cards (spec.Extension x) o e valid = cc
+indicators_on cards (spec.Input x) o e valid = cc
+indicators_on cards (spec.Calculation x) o e valid = cc
+indicators_on cards (spec.Data x) o e valid = cc
+indicators_on cards (spec.Output p) o e valid = let same : p ≡ o = cc in subst (λ x. bad_on_output cards x ≡ false) same valid
 
 after_all : {X : Type 0} (test : X → Bool) (xs : List X) (o : Option X) → list_any test (xs ++ option_to_list o) ≡ false → option_map_or test o false ≡ false
 after_all test xs o e = none_in_option test o ((or_parts _ _ (sym (list_any-append test xs (option_to_list o)) ∙ e)).1)
@@ -127,52 +127,52 @@ abbrev pub ends_outside : List SpecCard → List SpecCard → SpecCard → Bool
 ends_outside cards before c = option_map_or (outside_line cards (file_by (open_file output_role before) cards)) (output_field_on c.spec) false
 
 ranges_on : (s : Spec) (o : OutputSpec) → output_on s ≡ Some o → IsInRange s → IsOutput o
-ranges_on (spec.Header x) o e good = cc
-ranges_on (spec.File x) o e good = cc
-ranges_on (spec.Extension x) o e good = cc
-ranges_on (spec.Input x) o e good = cc
-ranges_on (spec.Calculation x) o e good = cc
-ranges_on (spec.Data x) o e good = cc
-ranges_on (spec.Output p) o e good = let same : p ≡ o = cc in subst IsOutput same good
+ranges_on (spec.Header x) o e valid = cc
+ranges_on (spec.File x) o e valid = cc
+ranges_on (spec.Extension x) o e valid = cc
+ranges_on (spec.Input x) o e valid = cc
+ranges_on (spec.Calculation x) o e valid = cc
+ranges_on (spec.Data x) o e valid = cc
+ranges_on (spec.Output p) o e valid = let same : p ≡ o = cc in subst IsOutput same valid
 
 -- ---- conditions
 
--- it may be asked in that version
-abbrev IsAsked : Version → Condition → Type 0
-IsAsked v c = may_be_asked v c ≡ true
+-- it may be tested in that version
+abbrev IsTestable : Version → Condition → Type 0
+IsTestable v c = is_testable v c ≡ true
 
-asked_one : (cards : List SpecCard) (o : Option sheet.ConditionSpec) → option_map_or (bad_in_output cards) o false ≡ false → ForSome o IsCondition → Each (IsAsked (version_for cards)) (map condition_of (option_to_list o))
-asked_one cards None good range = tt
-asked_one cards (Some c) good range = (asked_number cards c.indicator good (range c refl).highest, tt)
+testable_one : (cards : List SpecCard) (o : Option sheet.ConditionSpec) → option_map_or (bad_in_output cards) o false ≡ false → ForSome o IsCondition → Each (IsTestable (version_for cards)) (map condition_of (option_to_list o))
+testable_one cards None valid range = tt
+testable_one cards (Some c) valid range = (testable_number cards c.indicator valid (range c refl).highest, tt)
 
-pub asked_three : (cards : List SpecCard) (t : Three (Option sheet.ConditionSpec)) → any_of (bad_in_output cards) t ≡ false → InThree IsCondition t → Each (IsAsked (version_for cards)) (standing t)
-asked_three cards t good range =
-    let two = or_parts _ _ good in
+pub testable_three : (cards : List SpecCard) (t : Three (Option sheet.ConditionSpec)) → any_of (bad_in_output cards) t ≡ false → InThree IsCondition t → Each (IsTestable (version_for cards)) (standing t)
+testable_three cards t valid range =
+    let two = or_parts _ _ valid in
     let one = or_parts _ _ two.0 in
-    three_of (IsAsked (version_for cards)) condition_of t.first t.second t.third (asked_one cards t.first one.0 range.first) (asked_one cards t.second one.1 range.second) (asked_one cards t.third two.1 range.third)
+    three_of (IsTestable (version_for cards)) condition_of t.first t.second t.third (testable_one cards t.first one.0 range.first) (testable_one cards t.second one.1 range.second) (testable_one cards t.third two.1 range.third)
 
-asked_place : (v : Version) (cs : List Condition) (k : ℕ) → Each (IsAsked v) cs → if_any (may_be_asked v) (slice_get cs k) ≡ true
-asked_place v [] k h = refl
-asked_place v (c ∷ cs) zero h = h.0
-asked_place v (c ∷ cs) (suc k) h = asked_place v cs k h.1
+testable_place : (v : Version) (cs : List Condition) (k : ℕ) → Each (IsTestable v) cs → if_any (is_testable v) (slice_get cs k) ≡ true
+testable_place v [] k h = refl
+testable_place v (c ∷ cs) zero h = h.0
+testable_place v (c ∷ cs) (suc k) h = testable_place v cs k h.1
 
-pub asked_places : (v : Version) (cs : List Condition) → Each (IsAsked v) cs → all_asked v (in_places cs) ≡ true
-asked_places v cs h = and_from _ _ (asked_place v cs 0 h) (and_from _ _ (asked_place v cs 1 h) (asked_place v cs 2 h))
+pub testable_places : (v : Version) (cs : List Condition) → Each (IsTestable v) cs → all_testable v (in_places cs) ≡ true
+testable_places v cs h = and_from _ _ (testable_place v cs 0 h) (and_from _ _ (testable_place v cs 1 h) (testable_place v cs 2 h))
 
 -- the conditions of AND and OR cards
 module _ (v : Version) where
-  abbrev IsFurtherAsked : OutputSpec → Type 0
-  IsFurtherAsked (output.Record r) = Unit {0}
-  IsFurtherAsked (output.And t) = Each (IsAsked v) (standing t)
-  IsFurtherAsked (output.Or t) = Each (IsAsked v) (standing t)
-  IsFurtherAsked (output.Field f) = Unit {0}
+  abbrev IsFurtherTestable : OutputSpec → Type 0
+  IsFurtherTestable (output.Record r) = Unit {0}
+  IsFurtherTestable (output.And t) = Each (IsTestable v) (standing t)
+  IsFurtherTestable (output.Or t) = Each (IsTestable v) (standing t)
+  IsFurtherTestable (output.Field f) = Unit {0}
 
-  alternatives_asked : (so_far : List Condition) (os : List OutputSpec) → Each (IsAsked v) so_far → Each IsFurtherAsked os → list_all (list_all (may_be_asked v)) (line_alternatives so_far os) ≡ true
-  alternatives_asked so_far [] h good = and_from _ _ (each_passes (may_be_asked v) so_far h) refl
-  alternatives_asked so_far (output.Record r ∷ os) h good = alternatives_asked so_far os h good.1
-  alternatives_asked so_far (output.And t ∷ os) h good = alternatives_asked (so_far ++ standing t) os (each_append (IsAsked v) so_far (standing t) h good.0) good.1
-  alternatives_asked so_far (output.Or t ∷ os) h good = and_from _ _ (each_passes (may_be_asked v) so_far h) (alternatives_asked (standing t) os good.0 good.1)
-  alternatives_asked so_far (output.Field f ∷ os) h good = alternatives_asked so_far os h good.1
+  alternatives_testable : (so_far : List Condition) (os : List OutputSpec) → Each (IsTestable v) so_far → Each IsFurtherTestable os → list_all (list_all (is_testable v)) (line_alternatives so_far os) ≡ true
+  alternatives_testable so_far [] h valid = and_from _ _ (each_passes (is_testable v) so_far h) refl
+  alternatives_testable so_far (output.Record r ∷ os) h valid = alternatives_testable so_far os h valid.1
+  alternatives_testable so_far (output.And t ∷ os) h valid = alternatives_testable (so_far ++ standing t) os (each_append (IsTestable v) so_far (standing t) h valid.0) valid.1
+  alternatives_testable so_far (output.Or t ∷ os) h valid = and_from _ _ (each_passes (is_testable v) so_far h) (alternatives_testable (standing t) os valid.0 valid.1)
+  alternatives_testable so_far (output.Field f ∷ os) h valid = alternatives_testable so_far os h valid.1
 
 -- ---- movements
 
@@ -249,8 +249,8 @@ module _ (p : Object) (len : ℕ) (f : LineField ℕ) (k : KeepsFieldRules (form
   field_blanked : blanks_wrongly p len f ≡ false
   field_blanked = never_first _ _ k.blanked
 
-  asked_well : is_field_asked p.version f ≡ true → asks_wrongly p len f ≡ false
-  asked_well h = never_first _ _ h
+  testable_well : is_field_testable p.version f ≡ true → has_untestable_condition p len f ≡ false
+  testable_well h = never_first _ _ h
 
 -- ---- the source
 
@@ -259,7 +259,7 @@ module _ (cards : List SpecCard) (allowance : ℕ) where
   pub record AreFit : Type 0 where
     pub in_range : AreCards cards
     pub named : (name : List ℕ) → key_form (table_of cards) (Named name) ≡ form_in (form_of_name name cards)
-    pub good : (name : List ℕ) → is_undefined cards name ≡ false → has_field (form_in (form_of_name name cards)) ≡ true
+    pub valid : (name : List ℕ) → is_undefined cards name ≡ false → has_field (form_in (form_of_name name cards)) ≡ true
     pub files : KeepsRule (λ before c after. breaks_files cards before c) cards
     pub indicators : KeepsRule (λ before c after. bad_indicator cards c) cards
     pub spaces : KeepsRule (λ before c after. moves_disk cards before c) cards
@@ -295,12 +295,12 @@ module _ (cards : List SpecCard) (allowance : ℕ) where
 
     -- ---- a line's card
 
-    pub record IsLineGood (name : Option (List ℕ)) (r : OutputRecord) : Type 0 where
-      pub asked : Each (IsAsked (version_for cards)) (standing r.conditions)
+    pub record IsLineValid (name : Option (List ℕ)) (r : OutputRecord) : Type 0 where
+      pub testable : Each (IsTestable (version_for cards)) (standing r.conditions)
       pub still : (moves r.movement && option_map_or is_disk_file (file_by name cards) false) ≡ false
       pub movement : IsMovement r.movement
 
-    heads : filed.Heads cards output_role HasFile IsLineGood (λ name o. Unit {0})
+    heads : filed.Heads cards output_role HasFile IsLineValid (λ name o. Unit {0})
     heads before c after r name split role known =
         let at = heading_on c.spec r name role in
         let on : output_record_on c.spec ≡ Some r = ap (option_and_then output_record_in) at.on in
@@ -309,9 +309,9 @@ module _ (cards : List SpecCard) (allowance : ℕ) where
         let still : moves_disk_by cards before r ≡ false = subst (λ (o : Option OutputRecord). option_map_or (moves_disk_by cards before) o false ≡ false) on (h.spaces before c after split) in
         let asks : any_of (bad_in_output cards) r.conditions ≡ false = indicators_on cards c.spec (output.Record r) at.on (h.indicators before c after split) in
         let range : IsLine r = ranges_on c.spec (output.Record r) at.on (each_at IsCard before c after (subst AreCards split h.in_range)) in
-        subst (λ (n : Option (List ℕ)). HasFile (option_or n (open_file output_role before)) × IsLineGood (option_or n (open_file output_role before)) r) (sym at.file) (
+        subst (λ (n : Option (List ℕ)). HasFile (option_or n (open_file output_role before)) × IsLineValid (option_or n (open_file output_role before)) r) (sym at.file) (
           named_files.named_or_before cards fit_files is_output (is_some (open_group output_role before)) r.file (open_file output_role before) lacks known,
-          record { asked = asked_three cards r.conditions asks range.conditions; still = still; movement = range.movement },
+          record { testable = testable_three cards r.conditions asks range.conditions; still = still; movement = range.movement },
         )
 
     -- ---- the cards after it
@@ -325,16 +325,16 @@ module _ (cards : List SpecCard) (allowance : ℕ) where
         list_any-append (is_same (constant.Text x)) (first ++ second) (option_to_list (option_and_then text_constant (output_field_on s)))
         ∙ or_right (list_any (is_same (constant.Text x)) (first ++ second)) _ (stands_in (constant.Text x) (option_and_then text_constant (output_field_on s)) third)
 
-    pub record IsFieldGood (name : Option (List ℕ)) (f : OutputField) : Type 0 where
-      pub asked : Each (IsAsked (version_for cards)) (standing f.conditions)
+    pub record IsFieldValid (name : Option (List ℕ)) (f : OutputField) : Type 0 where
+      pub testable : Each (IsTestable (version_for cards)) (standing f.conditions)
       pub past : is_past (file_by name cards) f.end ≡ false
       pub keeps : (len : ℕ) → f.end ≤ len → KeepsFieldRules forms texts len (line_field_of f)
 
-    abbrev pub IsOutputGood : Option (List ℕ) → OutputSpec → Type 0
-    IsOutputGood name (output.Record r) = Unit {0}
-    IsOutputGood name (output.And t) = Each (IsAsked (version_for cards)) (standing t)
-    IsOutputGood name (output.Or t) = Each (IsAsked (version_for cards)) (standing t)
-    IsOutputGood name (output.Field f) = IsFieldGood name f
+    abbrev pub IsOutputValid : Option (List ℕ) → OutputSpec → Type 0
+    IsOutputValid name (output.Record r) = Unit {0}
+    IsOutputValid name (output.And t) = Each (IsTestable (version_for cards)) (standing t)
+    IsOutputValid name (output.Or t) = Each (IsTestable (version_for cards)) (standing t)
+    IsOutputValid name (output.Field f) = IsFieldValid name f
 
     -- what a rule says of the field on a card
     of_field : (before : List SpecCard) (c : SpecCard) (after : List SpecCard) (f : OutputField) → output_field_on c.spec ≡ Some f → (test : OutputField → Bool) → option_map_or test (output_field_on c.spec) false ≡ false → test f ≡ false
@@ -343,8 +343,8 @@ module _ (cards : List SpecCard) (allowance : ℕ) where
     of_operand : (c : SpecCard) (f : OutputField) → output_field_on c.spec ≡ Some f → (test : Operand → Bool) → option_map_or test (output_operand_on c) false ≡ false → option_map_or test (output_operand f) false ≡ false
     of_operand c f on test e = subst (λ (o : Option OutputField). option_map_or test (option_and_then output_operand o) false ≡ false) on e
 
-    field_good : (before : List SpecCard) (c : SpecCard) (after : List SpecCard) (f : OutputField) → cards ≡ before ++ c ∷ after → output_on c.spec ≡ Some (output.Field f) → IsFieldGood (open_file output_role before) f
-    field_good before c after f split on =
+    field_valid : (before : List SpecCard) (c : SpecCard) (after : List SpecCard) (f : OutputField) → cards ≡ before ++ c ∷ after → output_on c.spec ≡ Some (output.Field f) → IsFieldValid (open_file output_role before) f
+    field_valid before c after f split on =
         let on_field : output_field_on c.spec ≡ Some f = ap (option_and_then output_field_in) on in
         let asks : any_of (bad_in_output cards) f.conditions ≡ false = indicators_on cards c.spec (output.Field f) on (h.indicators before c after split) in
         let range : IsOutputField f = ranges_on c.spec (output.Field f) on (each_at IsCard before c after (subst AreCards split h.in_range)) in
@@ -352,7 +352,7 @@ module _ (cards : List SpecCard) (allowance : ℕ) where
         of_field before c after f on_field (outside_line cards (file_by (open_file output_role before) cards)) (h.ends before c after split) in
         let two = or_parts (f.end == 0) _ outside in
         let one = or_parts (is_past (file_by (open_file output_role before) cards) f.end) _ two.1 in
-        let fit : (len : ℕ) → f.end ≤ len → fields.IsFieldFit cards forms texts h.named h.good spelled f len = λ len within. record {
+        let fit : (len : ℕ) → f.end ≤ len → fields.IsFieldFit cards forms texts h.named h.valid spelled f len = λ len within. record {
           columns = of_field before c after f on_field columns.bad_output_field (or_parts _ _ (h.columns before c after split)).1;
           defined = of_operand c f on_field (names_nothing cards) (after_all (names_nothing cards) (operands_listed (operands_ending c after)) (output_operand_on c) (h.names before c after split));
           kinds = of_field before c after f on_field (wrong_in_output cards) (or_parts _ _ (h.kinds before c after split)).1;
@@ -363,24 +363,24 @@ module _ (cards : List SpecCard) (allowance : ℕ) where
           listed = λ x code text. constant_there cards before c after (constant.Text x) split (text_on c.spec f x on_field code text);
         } in
         record {
-          asked = asked_three cards f.conditions asks range.conditions;
+          testable = testable_three cards f.conditions asks range.conditions;
           past = one.0;
-          keeps = λ len within. fields.keeps_rules cards forms texts h.named h.good spelled f len (fit len within);
+          keeps = λ len within. fields.keeps_rules cards forms texts h.named h.valid spelled f len (fit len within);
         }
 
-    output_good : (before : List SpecCard) (c : SpecCard) (after : List SpecCard) (o : OutputSpec) → cards ≡ before ++ c ∷ after → output_on c.spec ≡ Some o → IsOutputGood (open_file output_role before) o
-    output_good before c after (output.Record r) split on = tt
-    output_good before c after (output.And t) split on =
-        asked_three cards t (indicators_on cards c.spec (output.And t) on (h.indicators before c after split)) (ranges_on c.spec (output.And t) on (each_at IsCard before c after (subst AreCards split h.in_range)))
-    output_good before c after (output.Or t) split on =
-        asked_three cards t (indicators_on cards c.spec (output.Or t) on (h.indicators before c after split)) (ranges_on c.spec (output.Or t) on (each_at IsCard before c after (subst AreCards split h.in_range)))
-    output_good before c after (output.Field f) split on = field_good before c after f split on
+    output_valid : (before : List SpecCard) (c : SpecCard) (after : List SpecCard) (o : OutputSpec) → cards ≡ before ++ c ∷ after → output_on c.spec ≡ Some o → IsOutputValid (open_file output_role before) o
+    output_valid before c after (output.Record r) split on = tt
+    output_valid before c after (output.And t) split on =
+        testable_three cards t (indicators_on cards c.spec (output.And t) on (h.indicators before c after split)) (ranges_on c.spec (output.And t) on (each_at IsCard before c after (subst AreCards split h.in_range)))
+    output_valid before c after (output.Or t) split on =
+        testable_three cards t (indicators_on cards c.spec (output.Or t) on (h.indicators before c after split)) (ranges_on c.spec (output.Or t) on (each_at IsCard before c after (subst AreCards split h.in_range)))
+    output_valid before c after (output.Field f) split on = field_valid before c after f split on
 
-    follows : filed.Follows cards output_role HasFile IsLineGood IsOutputGood
-    follows before c after o split role = output_good before c after o split (follower_on c.spec o role)
+    follows : filed.Follows cards output_role HasFile IsLineValid IsOutputValid
+    follows before c after o split role = output_valid before c after o split (follower_on c.spec o role)
 
-    good_heads : filed.Heads cards output_role HasFile IsLineGood IsOutputGood
-    good_heads before c after r name split role known = heads before c after r name split role known
+    valid_heads : filed.Heads cards output_role HasFile IsLineValid IsOutputValid
+    valid_heads before c after r name split role known = heads before c after r name split role known
 
     -- ---- the lines
 
@@ -414,37 +414,37 @@ module _ (cards : List SpecCard) (allowance : ℕ) where
 
     record IsRightField (len : ℕ) (f : LineField ℕ) : Type 0 where
       keeps : KeepsFieldRules (form_at p.fields) (word_at p) len f
-      asked : is_field_asked p.version f ≡ true
+      testable : is_field_testable p.version f ≡ true
 
-    field_right : (len : ℕ) (f : OutputField) → KeepsFieldRules forms texts len (line_field_of f) → Each (IsAsked (version_for cards)) (standing f.conditions) → IsRightField len (renamed_field at (line_field_of f))
+    field_right : (len : ℕ) (f : OutputField) → KeepsFieldRules forms texts len (line_field_of f) → Each (IsTestable (version_for cards)) (standing f.conditions) → IsRightField len (renamed_field at (line_field_of f))
     unfolding program_of
-    field_right len f keeps asked = record {
+    field_right len f keeps testable = record {
       keeps = keeps_same (numbers_rename (table_of cards)) texts (word_at p) (words_same cards allowance) len (line_field_of f) keeps;
-      asked = asked_places (version_for cards) (standing f.conditions) asked;
+      testable = testable_places (version_for cards) (standing f.conditions) testable;
     }
 
-    fields_right : (name : Option (List ℕ)) (file : FileSpec) (len : ℕ) → file_by name cards ≡ Some file → file.record_length ≡ len → (os : List OutputSpec) → Each (IsOutputGood name) os →
+    fields_right : (name : Option (List ℕ)) (file : FileSpec) (len : ℕ) → file_by name cards ≡ Some file → file.record_length ≡ len → (os : List OutputSpec) → Each (IsOutputValid name) os →
         Each (IsRightField len) (map (renamed_field at) (map line_field_of (output_fields_in os)))
-    fields_right name file len by is [] good = tt
-    fields_right name file len by is (output.Record r ∷ os) good = fields_right name file len by is os good.1
-    fields_right name file len by is (output.And t ∷ os) good = fields_right name file len by is os good.1
-    fields_right name file len by is (output.Or t ∷ os) good = fields_right name file len by is os good.1
-    fields_right name file len by is (output.Field f ∷ os) good =
-        let here = good.0 in
+    fields_right name file len by is [] valid = tt
+    fields_right name file len by is (output.Record r ∷ os) valid = fields_right name file len by is os valid.1
+    fields_right name file len by is (output.And t ∷ os) valid = fields_right name file len by is os valid.1
+    fields_right name file len by is (output.Or t ∷ os) valid = fields_right name file len by is os valid.1
+    fields_right name file len by is (output.Field f ∷ os) valid =
+        let here = valid.0 in
         let past : nat_lt file.record_length f.end ≡ false = subst (λ (o : Option FileSpec). is_past o f.end ≡ false) by here.past in
         let within : f.end ≤ len = let l = ltb-false file.record_length f.end past in omega arith in
-        (field_right len f (here.keeps len within) here.asked, fields_right name file len by is os good.1)
+        (field_right len f (here.keeps len within) here.testable, fields_right name file len by is os valid.1)
 
-    further_asked : (name : Option (List ℕ)) (os : List OutputSpec) → Each (IsOutputGood name) os → Each (IsFurtherAsked (version_for cards)) os
-    further_asked name [] good = tt
-    further_asked name (output.Record r ∷ os) good = (tt, further_asked name os good.1)
-    further_asked name (output.And t ∷ os) good = (good.0, further_asked name os good.1)
-    further_asked name (output.Or t ∷ os) good = (good.0, further_asked name os good.1)
-    further_asked name (output.Field f ∷ os) good = (tt, further_asked name os good.1)
+    further_testable : (name : Option (List ℕ)) (os : List OutputSpec) → Each (IsOutputValid name) os → Each (IsFurtherTestable (version_for cards)) os
+    further_testable name [] valid = tt
+    further_testable name (output.Record r ∷ os) valid = (tt, further_testable name os valid.1)
+    further_testable name (output.And t ∷ os) valid = (valid.0, further_testable name os valid.1)
+    further_testable name (output.Or t ∷ os) valid = (valid.0, further_testable name os valid.1)
+    further_testable name (output.Field f ∷ os) valid = (tt, further_testable name os valid.1)
 
     each_map : {X : Type 0} (P Q : X → Type 0) (xs : List X) → ((x : X) → P x → Q x) → Each P xs → Each Q xs
-    each_map P Q [] f good = tt
-    each_map P Q (x ∷ xs) f good = (f x good.0, each_map P Q xs f good.1)
+    each_map P Q [] f valid = tt
+    each_map P Q (x ∷ xs) f valid = (f x valid.0, each_map P Q xs f valid.1)
 
     -- a line's file, and how long its lines are
     record IsPut (g : Group OutputRecord OutputSpec) (file : File) (len : ℕ) : Type 0 where
@@ -454,49 +454,49 @@ module _ (cards : List SpecCard) (allowance : ℕ) where
       still : file ≡ put.Disk → moves g.heading.movement ≡ false
 
     abbrev InFile : Group OutputRecord OutputSpec → Type 0
-    InFile g = filed.InFile cards output_role HasFile IsLineGood IsOutputGood g
+    InFile g = filed.InFile cards output_role HasFile IsLineValid IsOutputValid g
 
-    put_of : (g : Group OutputRecord OutputSpec) (good : InFile g) → IsPut g (file_put (file_use good.0.0)) good.0.0.record_length
-    put_of g good =
-        let f = good.0.0 in
-        let by = good.0.1 in
-        let still : (moves g.heading.movement && is_disk_file f) ≡ false = subst (λ (o : Option FileSpec). (moves g.heading.movement && option_map_or is_disk_file o false) ≡ false) by good.1.0.still in
+    put_of : (g : Group OutputRecord OutputSpec) (valid : InFile g) → IsPut g (file_put (file_use valid.0.0)) valid.0.0.record_length
+    put_of g valid =
+        let f = valid.0.0 in
+        let by = valid.0.1 in
+        let still : (moves g.heading.movement && is_disk_file f) ≡ false = subst (λ (o : Option FileSpec). (moves g.heading.movement && option_map_or is_disk_file o false) ≡ false) by valid.1.0.still in
         record {
           to = ap output_file by;
-          length = file_is f good.0.3 (file_use f) refl good.0.2;
-          some = good.0.3.lowest;
+          length = file_is f valid.0.3 (file_use f) refl valid.0.2;
+          some = valid.0.3.lowest;
           still = still_on f g.heading.movement still (file_use f) refl;
         }
 
-    line_breaks_not : (g : Group OutputRecord OutputSpec) (good : InFile g) (r : LineRule) → line_breaks r p (numbered_line cards (words.line_of_file (file_put (file_use good.0.0)) (put_length cards (file_put (file_use good.0.0))) g)) ≡ false
+    line_breaks_not : (g : Group OutputRecord OutputSpec) (valid : InFile g) (r : LineRule) → line_breaks r p (numbered_line cards (words.line_of_file (file_put (file_use valid.0.0)) (put_length cards (file_put (file_use valid.0.0))) g)) ≡ false
     unfolding line_breaks
-    line_breaks_not g good r = by_rule r
+    line_breaks_not g valid r = by_rule r
       where
-        all : (P : LineField ℕ → Type 0) → ((f : LineField ℕ) → IsRightField (file_length p (file_put (file_use good.0.0))) f → P f) → Each P (map (renamed_field at) (map line_field_of (output_fields_in g.followers)))
-        all P f = each_map (IsRightField (file_length p (file_put (file_use good.0.0)))) P (map (renamed_field at) (map line_field_of (output_fields_in g.followers))) f
-            (fields_right g.file good.0.0 (file_length p (file_put (file_use good.0.0))) good.0.1 (sym (length_same cards allowance (file_put (file_use good.0.0)) ∙ (put_of g good).length)) g.followers good.1.1)
+        all : (P : LineField ℕ → Type 0) → ((f : LineField ℕ) → IsRightField (file_length p (file_put (file_use valid.0.0))) f → P f) → Each P (map (renamed_field at) (map line_field_of (output_fields_in g.followers)))
+        all P f = each_map (IsRightField (file_length p (file_put (file_use valid.0.0)))) P (map (renamed_field at) (map line_field_of (output_fields_in g.followers))) f
+            (fields_right g.file valid.0.0 (file_length p (file_put (file_use valid.0.0))) valid.0.1 (sym (length_same cards allowance (file_put (file_use valid.0.0)) ∙ (put_of g valid).length)) g.followers valid.1.1)
 
-        by_rule : (r : LineRule) → line_breaks r p (numbered_line cards (words.line_of_file (file_put (file_use good.0.0)) (put_length cards (file_put (file_use good.0.0))) g)) ≡ false
-        by_rule V2 = ne_eqb (file_length p (file_put (file_use good.0.0))) 0 (λ e. let some = (put_of g good).some in let l = length_same cards allowance (file_put (file_use good.0.0)) ∙ (put_of g good).length in omega arith)
-        by_rule V8 = not_from_true _ (spaced_right (file_put (file_use good.0.0)) g.heading.movement good.1.0.movement (put_of g good).still)
-        by_rule V9 = not_from_true _ (ap (λ v. list_all (list_all (may_be_asked v)) (line_alternatives (standing g.heading.conditions) g.followers)) version_is ∙ alternatives_asked (version_for cards) (standing g.heading.conditions) g.followers good.1.0.asked (further_asked g.file g.followers good.1.1))
+        by_rule : (r : LineRule) → line_breaks r p (numbered_line cards (words.line_of_file (file_put (file_use valid.0.0)) (put_length cards (file_put (file_use valid.0.0))) g)) ≡ false
+        by_rule V2 = ne_eqb (file_length p (file_put (file_use valid.0.0))) 0 (λ e. let some = (put_of g valid).some in let l = length_same cards allowance (file_put (file_use valid.0.0)) ∙ (put_of g valid).length in omega arith)
+        by_rule V8 = not_from_true _ (spaced_right (file_put (file_use valid.0.0)) g.heading.movement valid.1.0.movement (put_of g valid).still)
+        by_rule V9 = not_from_true _ (ap (λ v. list_all (list_all (is_testable v)) (line_alternatives (standing g.heading.conditions) g.followers)) version_is ∙ alternatives_testable (version_for cards) (standing g.heading.conditions) g.followers valid.1.0.testable (further_testable g.file g.followers valid.1.1))
         by_rule V10 = not_from_true _ (each_passes (is_field_there p) _ (all (λ f. is_field_there p f ≡ true) (λ f k. field_there p _ f k.keeps)))
         by_rule V11 = none_passes (lacks_editing p) _ (all (λ f. lacks_editing p f ≡ false) (λ f k. editing_fits p _ f k.keeps))
         by_rule V12 = none_passes (lacks_word p) _ (all (λ f. lacks_word p f ≡ false) (λ f k. field_worded p _ f k.keeps))
-        by_rule V13 = none_passes (lacks_room p (file_length p (file_put (file_use good.0.0)))) _ (all (λ f. lacks_room p (file_length p (file_put (file_use good.0.0))) f ≡ false) (λ f k. field_placed p _ f k.keeps))
-        by_rule V14 = none_passes (blanks_wrongly p (file_length p (file_put (file_use good.0.0)))) _ (all (λ f. blanks_wrongly p (file_length p (file_put (file_use good.0.0))) f ≡ false) (λ f k. field_blanked p _ f k.keeps))
-        by_rule V15 = none_passes (asks_wrongly p (file_length p (file_put (file_use good.0.0)))) _ (all (λ f. asks_wrongly p (file_length p (file_put (file_use good.0.0))) f ≡ false) (λ f k. asked_well p _ f k.keeps k.asked))
+        by_rule V13 = none_passes (lacks_room p (file_length p (file_put (file_use valid.0.0)))) _ (all (λ f. lacks_room p (file_length p (file_put (file_use valid.0.0))) f ≡ false) (λ f k. field_placed p _ f k.keeps))
+        by_rule V14 = none_passes (blanks_wrongly p (file_length p (file_put (file_use valid.0.0)))) _ (all (λ f. blanks_wrongly p (file_length p (file_put (file_use valid.0.0))) f ≡ false) (λ f k. field_blanked p _ f k.keeps))
+        by_rule V15 = none_passes (has_untestable_condition p (file_length p (file_put (file_use valid.0.0)))) _ (all (λ f. has_untestable_condition p (file_length p (file_put (file_use valid.0.0))) f ≡ false) (λ f k. testable_well p _ f k.keeps k.testable))
 
     line_right : (g : Group OutputRecord OutputSpec) → InFile g → (r : LineRule) → line_breaks r p (numbered_line cards (card_line cards g)) ≡ false
-    line_right g good r =
-        subst (λ (file : File). line_breaks r p (numbered_line cards (words.line_of_file file (put_length cards file) g)) ≡ false) (sym (put_of g good).to) (line_breaks_not g good r)
+    line_right g valid r =
+        subst (λ (file : File). line_breaks r p (numbered_line cards (words.line_of_file file (put_length cards file) g)) ≡ false) (sym (put_of g valid).to) (line_breaks_not g valid r)
 
     each_line : (r : LineRule) (gs : List (Group OutputRecord OutputSpec)) → Each InFile gs → NoneTrue (map (line_breaks r p) (map (numbered_line cards) (map (card_line cards) gs)))
-    each_line r [] good k e = cc
-    each_line r (g ∷ gs) good zero e = absurd (let no = line_right g good.0 r in cc)
-    each_line r (g ∷ gs) good (suc k) e = each_line r gs good.1 k e
+    each_line r [] valid k e = cc
+    each_line r (g ∷ gs) valid zero e = absurd (let no = line_right g valid.0 r in cc)
+    each_line r (g ∷ gs) valid (suc k) e = each_line r gs valid.1 k e
 
     -- no line breaks a rule
     pub lines_kept : (r : LineRule) → NoneTrue (broken (program_of cards allowance) (rules.Line r))
     unfolding broken program_of
-    lines_kept r = each_line r (groups output_role cards) (filed.each_in_file cards output_role HasFile IsLineGood IsOutputGood good_heads follows)
+    lines_kept r = each_line r (groups output_role cards) (filed.each_in_file cards output_role HasFile IsLineValid IsOutputValid valid_heads follows)

@@ -8,7 +8,7 @@ use Rattle.rpg_cards.specs.Plain.{Each}
 use Rattle.rpg_cards.proofs.ItemLemmas.{definitions-append}
 use Rattle.rpg_cards.specs.Names.{defined_as, definitions, definitions_on, first_form, form_by, form_in, form_of_name, is_of, unless_given}
 use Rattle.rpg_cards.specs.declared.names.Defined.{Defined}
-use Rattle.rpg_cards.specs.declared.names.Defined.TheVariants.{Bad, Good, Missing}
+use Rattle.rpg_cards.specs.declared.names.Defined.TheVariants.{Bad, Valid, Missing}
 use Rattle.rpg_cards.specs.declared.names.Definition.{Definition}
 use Rattle.rpg_cards.specs.declared.spec_card.SpecCard.{SpecCard}
 use Rattle.rpg_program.specs.declared.form.FieldForm.{FieldForm}
@@ -27,7 +27,7 @@ use Rattle.rpg_compile_program.proofs.Each.{each_front}
 first_of : Defined → Defined → Defined
 first_of Missing later = later
 first_of Bad later = Bad
-first_of (Good form) later = Good form
+first_of (Valid form) later = Valid form
 
 first_form-append : (name : List ℕ) (xs ys : List Definition) → first_form name (xs ++ ys) ≡ first_of (first_form name xs) (first_form name ys)
 unfolding first_of
@@ -39,7 +39,7 @@ first_form-append name (d ∷ ds) ys = ap (λ later. cond (is_of name d) (define
     by_test true (Some form) = refl
     by_test false o = refl
 
-itself : (d : Definition) (form : FieldForm) (ys : List Definition) → d.form ≡ Some form → first_form d.name (d ∷ ys) ≡ Good form
+itself : (d : Definition) (form : FieldForm) (ys : List Definition) → d.form ≡ Some form → first_form d.name (d ∷ ys) ≡ Valid form
 itself d form ys e = ap (λ b. cond b (defined_as d.form) (first_form d.name ys)) ((nat_list_eq_equiv).refl d.name) ∙ ap defined_as e
 
 never_bad : (name : List ℕ) (ds : List Definition) → Each HasForm ds → first_form name ds ≡ Bad → ⊥
@@ -52,33 +52,33 @@ never_bad name (d ∷ ds) h e = by (is_of name d) d.form h.0 (never_bad name ds 
     by false (Some form) h later e = later e
 
 -- a definition that isn't another form has the form of its name
-pub stays : (xs : List Definition) (d : Definition) (ys : List Definition) (form : FieldForm) → Each HasForm xs → redefines_as xs d ≡ false → d.form ≡ Some form → form_by d.name (xs ++ d ∷ ys) ≡ Good form
+pub stays : (xs : List Definition) (d : Definition) (ys : List Definition) (form : FieldForm) → Each HasForm xs → redefines_as xs d ≡ false → d.form ≡ Some form → form_by d.name (xs ++ d ∷ ys) ≡ Valid form
 unfolding first_of
-stays xs d ys form good same e = by_given (defined_form given d.name) alike
+stays xs d ys form valid same e = by_given (defined_form given d.name) alike
   where
     alike : option_map_or (λ first. not (same_form first form)) (form_in (form_by d.name xs)) false ≡ false
     alike = sym (ap (λ o. option_map_or (λ form. option_map_or (λ first. not (same_form first form)) (form_in (form_by d.name xs)) false) o false) e) ∙ same
 
-    by_first : (o : Defined) → first_form d.name xs ≡ o → option_map_or (λ first. not (same_form first form)) (form_in o) false ≡ false → first_of o (first_form d.name (d ∷ ys)) ≡ Good form
+    by_first : (o : Defined) → first_form d.name xs ≡ o → option_map_or (λ first. not (same_form first form)) (form_in o) false ≡ false → first_of o (first_form d.name (d ∷ ys)) ≡ Valid form
     by_first Missing is h = itself d form ys e
-    by_first Bad is h = absurd (never_bad d.name xs good is)
-    by_first (Good first) is h = ap Good (same_form-equal first form (not-false _ h))
+    by_first Bad is h = absurd (never_bad d.name xs valid is)
+    by_first (Valid first) is h = ap Valid (same_form-equal first form (not-false _ h))
 
-    by_given : (o : Option FieldForm) → option_map_or (λ first. not (same_form first form)) (form_in (unless_given o (first_form d.name xs))) false ≡ false → unless_given o (first_form d.name (xs ++ d ∷ ys)) ≡ Good form
-    by_given (Some g) h = ap Good (same_form-equal g form (not-false _ h))
+    by_given : (o : Option FieldForm) → option_map_or (λ first. not (same_form first form)) (form_in (unless_given o (first_form d.name xs))) false ≡ false → unless_given o (first_form d.name (xs ++ d ∷ ys)) ≡ Valid form
+    by_given (Some g) h = ap Valid (same_form-equal g form (not-false _ h))
     by_given None h = first_form-append d.name xs (d ∷ ys) ∙ by_first (first_form d.name xs) refl h
 
 -- ---- of a card
 
 -- the definitions of a card, each after those before it
 abbrev pub HasName : List SpecCard → Definition → Type 0
-HasName cards d = (form : FieldForm) → d.form ≡ Some form → form_of_name d.name cards ≡ Good form
+HasName cards d = (form : FieldForm) → d.form ≡ Some form → form_of_name d.name cards ≡ Valid form
 
 each_stays : (cards : List SpecCard) (xs ds ys : List Definition) → definitions cards ≡ xs ++ (ds ++ ys) → Each HasForm (definitions cards) → redefine xs ds ≡ false → Each (HasName cards) ds
-each_stays cards xs [] ys split good same = tt
-each_stays cards xs (d ∷ ds) ys split good same = (
-  λ form e. ap (form_by d.name) split ∙ stays xs d (ds ++ ys) form (each_front HasForm xs (d ∷ (ds ++ ys)) (subst (Each HasForm) split good)) (or_first (redefines_as xs d) (redefine (xs ++ d ∷ []) ds) same) e,
-  each_stays cards (xs ++ d ∷ []) ds ys (split ∙ sym (append_assoc xs (d ∷ []) (ds ++ ys))) good (or_second (redefines_as xs d) (redefine (xs ++ d ∷ []) ds) same),
+each_stays cards xs [] ys split valid same = tt
+each_stays cards xs (d ∷ ds) ys split valid same = (
+  λ form e. ap (form_by d.name) split ∙ stays xs d (ds ++ ys) form (each_front HasForm xs (d ∷ (ds ++ ys)) (subst (Each HasForm) split valid)) (or_first (redefines_as xs d) (redefine (xs ++ d ∷ []) ds) same) e,
+  each_stays cards (xs ++ d ∷ []) ds ys (split ∙ sym (append_assoc xs (d ∷ []) (ds ++ ys))) valid (or_second (redefines_as xs d) (redefine (xs ++ d ∷ []) ds) same),
 )
 
 module _ (cards : List SpecCard) (rules : KeepsCardRules cards) where

@@ -1,10 +1,10 @@
 -- Operations with nothing wrong, by keys of any kind: from the operands in their columns, and what the verifier's rules ask of them.
 use Rattle.std.proofs.Common.{◌≡◌, Bool, true, false, not, ◌||◌, Option, None, Some, refl}
 use Rattle.std.proofs.lemmas.Bool.{and_from, and_parts, not-false, not_from_true, or_from, or_left, or_parts, or_right}
-use Rattle.rpg_cards.specs.Deeds.{Acts, Begins, Deed, Ends, Executes, GoesTo, Marks, Nothing, PutsOut}
+use Rattle.rpg_cards.specs.Statements.{Acts, Begins, Statement, Ends, Executes, GoesTo, Marks, Nothing, WritesExceptions}
 use Rattle.rpg_program.specs.Forms.{is_array, is_index_form, is_table, is_writable, kind_of, may_write, same_kind}
 use Rattle.rpg_program.specs.Right.{IsRightRow, KeepsRules}
-use Rattle.rpg_program.specs.Rows.{all_of, all_used, fits_use, form_of, has_form, has_kind, has_shape, holds_positions, is_blank_index, is_current_table, is_good_operand, is_shaped, is_stored, is_table_as, is_there, is_two_sided, is_writable_use, is_written, lacks_storage, mixes_kinds, operand_shape, row_of}
+use Rattle.rpg_program.specs.Rows.{all_of, all_used, fits_use, form_of, has_form, has_kind, has_shape, holds_positions, is_blank_index, is_current_table, is_valid_operand, is_shaped, is_stored, is_table_as, is_there, is_two_sided, is_writable_use, is_written, lacks_storage, mixes_kinds, operand_shape, row_of}
 use Rattle.rpg_program.specs.declared.form.Class.{Class}
 use Rattle.rpg_program.specs.declared.form.Class.TheVariants as class
 use Rattle.rpg_program.specs.declared.form.FieldForm.{FieldForm}
@@ -140,7 +140,7 @@ module _ {K : Type 0} (forms : K → Option FieldForm) where
       let fit = or_parts (not (all_of (fits_use forms) r)) _ h.kinds in
       let columns = columns_right r stored.0 (not-false _ fit.0) in
       record {
-        good = columns_pass (is_good_operand forms) (λ u k. and_from _ _ k.there (shaped_by (forms u.operand.field) u k.fits)) r columns;
+        valid = columns_pass (is_valid_operand forms) (λ u k. and_from _ _ k.there (shaped_by (forms u.operand.field) u k.fits)) r columns;
         kinds = columns_pass (has_kind forms) (λ u k. kind_by (forms u.operand.field) u k.fits) r columns;
         result = column_written r.result columns.result stored.1;
         one_sided = fit.1;
@@ -148,7 +148,7 @@ module _ {K : Type 0} (forms : K → Option FieldForm) where
         positions = h.positions;
       }
 
-  -- ---- deeds
+  -- ---- statements
 
   -- what stands in a column, if anything does, is in ascending sequence
   abbrev pub ascends : Option (Use (Operand K)) → Bool
@@ -164,12 +164,12 @@ module _ {K : Type 0} (forms : K → Option FieldForm) where
     pub marked : are_marked (row_of (form_of forms) x).marks ≡ true
     pub sought : is_sought_well (row_of (form_of forms) x) ≡ true
 
-  abbrev pub IsRightDeed : Deed K → Type 0
-  IsRightDeed (Acts x) = IsRightAct x
-  IsRightDeed PutsOut = Unit {0}
-  IsRightDeed (GoesTo l) = Unit {0}
-  IsRightDeed (Executes n) = Unit {0}
-  IsRightDeed (Marks l) = Unit {0}
-  IsRightDeed (Begins n) = Unit {0}
-  IsRightDeed (Ends l) = Unit {0}
-  IsRightDeed Nothing = Unit {0}
+  abbrev pub IsRightStatement : Statement K → Type 0
+  IsRightStatement (Acts x) = IsRightAct x
+  IsRightStatement WritesExceptions = Unit {0}
+  IsRightStatement (GoesTo l) = Unit {0}
+  IsRightStatement (Executes n) = Unit {0}
+  IsRightStatement (Marks l) = Unit {0}
+  IsRightStatement (Begins n) = Unit {0}
+  IsRightStatement (Ends l) = Unit {0}
+  IsRightStatement Nothing = Unit {0}

@@ -49,13 +49,13 @@ same_use-equal Disk Printer e = cc
 
 module _ (cards : List SpecCard) (rules : KeepsCardRules cards) where
   -- what F7 says of an F card
-  pub good_files : Seen cards (λ before c after. option_map_or (bad_file before) (file_on c.spec) false ≡ false)
-  good_files before c after split =
+  pub valid_files : Seen cards (λ before c after. option_map_or (bad_file before) (file_on c.spec) false ≡ false)
+  valid_files before c after split =
       or_first (option_map_or (bad_file before) (file_on c.spec) false) (option_map_or (λ t. lacks_file cards is_input (is_some (open_group input_role before)) t.file) (type_on c.spec) false)
       (or_first _ (option_map_or (λ r. lacks_file cards is_output (is_some (open_group output_role before)) r.file) (output_record_on c.spec) false) (rules.f7 before c after split))
 
-  pub own : (u : FileUse) (f : FileSpec) → file_for u cards ≡ Some f → IsOwn cards good_files f
-  own u f e = found_from cards good_files (λ g. same_use u (file_use g)) f [] cards refl e
+  pub own : (u : FileUse) (f : FileSpec) → file_for u cards ≡ Some f → IsOwn cards valid_files f
+  own u f e = found_from cards valid_files (λ g. same_use u (file_use g)) f [] cards refl e
 
   pub used : (u : FileUse) (f : FileSpec) → file_for u cards ≡ Some f → file_use f ≡ u
   used u f e = sym (same_use-equal u (file_use f) (find_passes (λ g. same_use u (file_use g)) (files cards) f e))

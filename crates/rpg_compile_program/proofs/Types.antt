@@ -7,7 +7,7 @@ use Rattle.std.proofs.lemmas.List.Elements.{filter-append, filter_map-append}
 use Rattle.std.specs.List.{cons_option, filter_map, flat_map, sum}
 use Rattle.std.specs.Option.{option_map, option_map_or}
 use Rattle.std.specs.Prelude.{nat_le, nat_lt, sum_by, ◌==◌}
-use Rattle.rpg_cards.specs.Deeds.{shows_of}
+use Rattle.rpg_cards.specs.Statements.{shows_of}
 use Rattle.rpg_cards.specs.Keys.{Key, Named}
 use Rattle.rpg_cards.specs.Plain.{Each}
 use Rattle.rpg_cards.proofs.GroupLemmas.{open_group-push}
@@ -26,7 +26,7 @@ use Rattle.rpg_program.specs.declared.input.InputField as row
 use Rattle.rpg_program.specs.declared.input.RecordCode as row_code
 use Rattle.rpg_program.specs.declared.form.FieldForm.{FieldForm}
 use Rattle.rpg_faults_operands.specs.Indicators.{any_of, cannot_be_set}
-use Rattle.rpg_faults.specs.Places.{first_length, first_good_matches, good_matches, has_other_lengths, has_other_matches, input_columns, is_at_level, is_past, joined_length, joins_badly, lengths_differ, level_fields, level_length, levels, matched_fields, matches_badly, matches_differ, open_specs, outside_on_input, outside_record, own_file, passes_length, passes_matches, repeats}
+use Rattle.rpg_faults.specs.Places.{first_length, first_valid_matches, valid_matches, has_other_lengths, has_other_matches, input_columns, is_at_level, is_past, joined_length, joins_badly, lengths_differ, level_fields, level_length, levels, matched_fields, matches_badly, matches_differ, open_specs, outside_on_input, outside_record, own_file, passes_length, passes_matches, repeats}
 use Rattle.rpg_program.specs.Object.{Object, input_length}
 use Rattle.rpg_effect_renaming.specs.Naming.{renamed_input, renamed_type}
 use Rattle.rpg_verify_rules.proofs.Kept.{NoneTrue}
@@ -42,14 +42,14 @@ use Rattle.rpg_sheet_specs.specs.declared.input.InputSpec.{InputSpec}
 use Rattle.rpg_sheet_specs.specs.declared.input.InputSpec.TheVariants as input
 use Rattle.rpg_sheet_specs.specs.declared.input.RecordType.{RecordType}
 use Rattle.rpg_sheet_specs.specs.declared.spec.Spec.TheVariants as spec
-use Rattle.rpg_compile_program.proofs.InputTypes.{InFile, IsFieldGood, IsInputGood, codes_in, each_type, follower_on, form_of_field, heading_on, marks_type, outside_kept, shown_so}
+use Rattle.rpg_compile_program.proofs.InputTypes.{InFile, IsFieldValid, IsInputValid, codes_in, each_type, follower_on, form_of_field, heading_on, marks_type, outside_kept, shown_so}
 use Rattle.rpg_compile_program.proofs.Joined as levelled
 use Rattle.rpg_compile_program.proofs.Joined.{HasColumns, Joined, all_nine, each_level, first_joined, first_same, measured, same_sum}
 use Rattle.rpg_compile_program.proofs.LevelSums.{IsOfNine, at_most_nine, sum_of_widths}
 use Rattle.rpg_compile_program.proofs.Lists.{each_card, front_keeps, or_first, or_second}
 use Rattle.rpg_compile_program.proofs.Matched.{AreFew, IsOnce, Matches, columns_same, first_rows, firsts, matched, none_few, once_same, stay_few}
 use Rattle.rpg_compile_program.proofs.Numbers.{forms_same, standing}
-use Rattle.rpg_compile_program.proofs.OpenGroups.{HasGood, InGroup, IsAmong, each_among, each_good, each_open}
+use Rattle.rpg_compile_program.proofs.OpenGroups.{HasValid, InGroup, IsAmong, each_among, each_valid, each_open}
 use Rattle.rpg_compile_program.specs.Lines.{record_length_of}
 use Rattle.rpg_compile_program.specs.Program.{key_numbers, program_of}
 use Rattle.rpg_compile_program.specs.Ranges.{AreCards}
@@ -93,13 +93,13 @@ module _ (level_of : InputFieldSpec → Option ℕ) where
       by (Some l) e r = (f x l e h.0, r)
 
 module _ (cards : List SpecCard) (rules : KeepsCardRules cards) (ranges : AreCards cards) where
-  good_columns : (name : Option (List ℕ)) (i : InputSpec) (f : InputFieldSpec) → i ≡ input.Field f → IsInputGood cards rules ranges name i → HasColumns f
-  good_columns name i f is h = in_columns (file_by name cards) f (subst (IsInputGood cards rules ranges name) is h).outside
+  valid_columns : (name : Option (List ℕ)) (i : InputSpec) (f : InputFieldSpec) → i ≡ input.Field f → IsInputValid cards rules ranges name i → HasColumns f
+  valid_columns name i f is h = in_columns (file_by name cards) f (subst (IsInputValid cards rules ranges name) is h).outside
 
-  -- ---- a type's columns are good, and its joined lengths at most 256
+  -- ---- a type's columns are valid, and its joined lengths at most 256
 
   has_columns : (g : Group RecordType InputSpec) → InFile cards rules ranges g → levelled.InGroup g
-  has_columns g h = each_field (IsInputGood cards rules ranges g.file) HasColumns (λ f x. in_columns (file_by g.file cards) f x.outside) g.followers h.1.1
+  has_columns g h = each_field (IsInputValid cards rules ranges g.file) HasColumns (λ f x. in_columns (file_by g.file cards) f x.outside) g.followers h.1.1
 
   abbrev FewJoined : Group RecordType InputSpec → Type 0
   FewJoined g = (level : ℕ) → Joined level g ≤ 256
@@ -231,14 +231,14 @@ module _ (cards : List SpecCard) (rules : KeepsCardRules cards) (ranges : AreCar
 
   -- ---- a type among the others
 
-  abbrev GoodField : InputSpec → Type 0
-  GoodField i = (f : InputFieldSpec) → i ≡ input.Field f → HasColumns f
+  abbrev ValidField : InputSpec → Type 0
+  ValidField i = (f : InputFieldSpec) → i ≡ input.Field f → HasColumns f
 
-  abbrev GoodCard : SpecCard → Type 0
-  GoodCard c = HasGood input_role GoodField c
+  abbrev ValidCard : SpecCard → Type 0
+  ValidCard c = HasValid input_role ValidField c
 
-  all_cards : Each GoodCard cards
-  all_cards = each_card cards GoodCard (λ before c after split i role f same.
+  all_cards : Each ValidCard cards
+  all_cards = each_card cards ValidCard (λ before c after split i role f same.
       in_columns (file_by (open_file input_role before) cards) f (or_first (outside_record (file_by (open_file input_role before) cards) f) _
       (outside_kept cards rules ranges before c after (input.Field f) split (follower_on c.spec i role ∙ ap spec.Input same))))
 
@@ -246,25 +246,25 @@ module _ (cards : List SpecCard) (rules : KeepsCardRules cards) (ranges : AreCar
   each_first P [] ys h = tt
   each_first P (x ∷ xs) ys h = (h.0, each_first P xs ys h.1)
 
-  front_good : (before after : List SpecCard) → cards ≡ before ++ after → Each levelled.InGroup (groups input_role before)
-  front_good before after split =
-      each_map (InGroup input_role GoodField) levelled.InGroup (groups input_role before) (λ g h. each_field GoodField HasColumns (λ f x. x f refl) g.followers h)
-      (each_good input_role GoodField before (each_first GoodCard before after (subst (Each GoodCard) split all_cards)))
+  front_valid : (before after : List SpecCard) → cards ≡ before ++ after → Each levelled.InGroup (groups input_role before)
+  front_valid before after split =
+      each_map (InGroup input_role ValidField) levelled.InGroup (groups input_role before) (λ g h. each_field ValidField HasColumns (λ f x. x f refl) g.followers h)
+      (each_valid input_role ValidField before (each_first ValidCard before after (subst (Each ValidCard) split all_cards)))
 
   abbrev Alike : List (Group RecordType InputSpec) → Group RecordType InputSpec → ℕ → Type 0
   Alike front g level = lengths_differ (first_length level front) (level_length level g.followers) ≡ false
 
   record IsAlike (front : List (Group RecordType InputSpec)) (g : Group RecordType InputSpec) : Type 0 where
-    good : Each levelled.InGroup front
+    valid : Each levelled.InGroup front
     by_level : Each (Alike front g) levels
-    matches : matches_differ (first_good_matches front) (good_matches (matched_fields g.followers)) ≡ false
+    matches : matches_differ (first_valid_matches front) (valid_matches (matched_fields g.followers)) ≡ false
 
   each_alike : Each (IsAmong input_role cards IsAlike) (groups input_role cards)
   each_alike = each_among input_role cards IsAlike (λ before c after t name split role.
       let card = heading_on c.spec t name role in
       let joins = joins_well before c after (input.Type t) split card.on in
       record {
-        good = front_good before (c ∷ after) split;
+        valid = front_valid before (c ∷ after) split;
         by_level = each_level (λ level. lengths_differ (first_length level (groups input_role before)) (level_length level (followers input_role after))) (or_first (has_other_lengths before after) (has_other_matches before after) joins);
         matches = or_second (has_other_lengths before after) (has_other_matches before after) joins;
       })
@@ -297,11 +297,11 @@ module _ (cards : List SpecCard) (rules : KeepsCardRules cards) (ranges : AreCar
 
   -- ---- a type's match fields
 
-  fields_good : (g : Group RecordType InputSpec) → InFile cards rules ranges g → Each (IsFieldGood cards rules ranges g.file) (input_fields_in g.followers)
-  fields_good g h = each_field (IsInputGood cards rules ranges g.file) (IsFieldGood cards rules ranges g.file) (λ f x. x) g.followers h.1.1
+  fields_valid : (g : Group RecordType InputSpec) → InFile cards rules ranges g → Each (IsFieldValid cards rules ranges g.file) (input_fields_in g.followers)
+  fields_valid g h = each_field (IsInputValid cards rules ranges g.file) (IsFieldValid cards rules ranges g.file) (λ f x. x) g.followers h.1.1
 
   of_nine : (g : Group RecordType InputSpec) → InFile cards rules ranges g → Each IsOfNine (Matches g)
-  of_nine g h = each_level_field match_level (IsFieldGood cards rules ranges g.file) IsOfNine (λ f l e x. x.range.match_level l e) (input_fields_in g.followers) (fields_good g h)
+  of_nine g h = each_level_field match_level (IsFieldValid cards rules ranges g.file) IsOfNine (λ f l e x. x.range.match_level l e) (input_fields_in g.followers) (fields_valid g h)
 
   -- there are at most nine
   pub each_few_rows : Each (λ g. length (Matches g) ≤ 9) (groups input_role cards)
@@ -348,21 +348,21 @@ module _ (cards : List SpecCard) (rules : KeepsCardRules cards) (ranges : AreCar
       codes_right =
           each_append (λ c. is_code_in (length_at g) c ≡ true) (codes_of g.heading.codes) (flat_map and_card_codes g.followers)
           (codes_in (length_at g) (file_by g.file cards) h.filed.0.0 file_is (record_is g h.filed) g.heading.codes h.filed.1.0.codes)
-          (each_code (IsInputGood cards rules ranges g.file) (λ c. is_code_in (length_at g) c ≡ true) more g.followers h.filed.1.1)
+          (each_code (IsInputValid cards rules ranges g.file) (λ c. is_code_in (length_at g) c ≡ true) more g.followers h.filed.1.1)
         where
-          more : (i : InputSpec) → IsInputGood cards rules ranges g.file i → Each (λ c. is_code_in (length_at g) c ≡ true) (and_card_codes i)
+          more : (i : InputSpec) → IsInputValid cards rules ranges g.file i → Each (λ c. is_code_in (length_at g) c ≡ true) (and_card_codes i)
           more (input.Type t) x = tt
           more (input.And cs) x = codes_in (length_at g) (file_by g.file cards) h.filed.0.0 file_is (record_is g h.filed) cs x.codes
           more (input.Field f) x = tt
 
-      good : Each (IsFieldGood cards rules ranges g.file) (input_fields_in g.followers)
-      good = fields_good g h.filed
+      valid : Each (IsFieldValid cards rules ranges g.file) (input_fields_in g.followers)
+      valid = fields_valid g h.filed
 
-      within : (f : InputFieldSpec) → IsFieldGood cards rules ranges g.file f → f.to ≤ length_at g
+      within : (f : InputFieldSpec) → IsFieldValid cards rules ranges g.file f → f.to ≤ length_at g
       within f x = subst (λ n. f.to ≤ n) (record_is g h.filed) (inside (file_by g.file cards) h.filed.0.0 f file_is x.outside)
 
       -- V5
-      control_right : (f : InputFieldSpec) (l : ℕ) → IsFieldGood cards rules ranges g.file f → is_control_in (length_at g) (control_field f l) ≡ true
+      control_right : (f : InputFieldSpec) (l : ℕ) → IsFieldValid cards rules ranges g.file f → is_control_in (length_at g) (control_field f l) ≡ true
       control_right f l x =
           let c = in_columns (file_by g.file cards) f x.outside in
           and_from _ _ (le-leb 1 f.from c.first) (and_from _ _ (le-leb f.from f.to c.order) (le-leb f.to (length_at g) (within f x)))
@@ -374,7 +374,7 @@ module _ (cards : List SpecCard) (rules : KeepsCardRules cards) (ranges : AreCar
           ap (λ ts. is_measured (measure level ts) (rule.joined_width level (row_type g).levels)) types_are
           ∙ (λ i. is_measured (first_same cards (key_numbers cards) level (groups input_role cards) whole i) (same_sum control_level level (input_fields_in g.followers) columns i))
           ∙ ap (λ gs. is_measured (first_joined level gs) (Joined level g)) h.alike.split
-          ∙ measured level h.alike.front g h.alike.following h.alike.holds.good columns (h.few level) same
+          ∙ measured level h.alike.front g h.alike.following h.alike.holds.valid columns (h.few level) same
 
       levels_right : rule.all_measured 1 (rule.measures p.types) (row_type g).levels ≡ true
       levels_right = all_nine p.types (row_type g).levels (each_map (Alike h.alike.front g) (λ level. is_measured (measure level p.types) (rule.joined_width level (row_type g).levels) ≡ true) levels level_right h.alike.holds.by_level)
@@ -388,7 +388,7 @@ module _ (cards : List SpecCard) (rules : KeepsCardRules cards) (ranges : AreCar
           ap (λ ts. are_joined_as (joined_widths (rule.first_matches ts)) (Matches g)) types_are
           ∙ ap (λ cs. are_joined_as (joined_widths cs) (Matches g)) (first_rows cards (key_numbers cards) (groups input_role cards))
           ∙ ap (λ gs. are_joined_as (joined_widths (firsts gs)) (Matches g)) h.alike.split
-          ∙ matched h.alike.front g h.alike.following h.alike.holds.good front_once (has_columns g h.filed) h.few_matches.once h.alike.holds.matches
+          ∙ matched h.alike.front g h.alike.following h.alike.holds.valid front_once (has_columns g h.filed) h.few_matches.once h.alike.holds.matches
 
       few_columns : sum (joined_widths (Matches g)) ≤ 256
       few_columns =
@@ -400,11 +400,11 @@ module _ (cards : List SpecCard) (rules : KeepsCardRules cards) (ranges : AreCar
       matches_right : are_matches (length_at g) (joined_widths (rule.first_matches p.types)) (row_type g).matches ≡ true
       matches_right =
           and_from _ _ (each_passes (is_control_in (length_at g)) (row_type g).matches
-          (each_level_field match_level (IsFieldGood cards rules ranges g.file) (λ c. is_control_in (length_at g) c ≡ true) (λ f l e x. control_right f l x) (input_fields_in g.followers) good))
+          (each_level_field match_level (IsFieldValid cards rules ranges g.file) (λ c. is_control_in (length_at g) c ≡ true) (λ f l e x. control_right f l x) (input_fields_in g.followers) valid))
           (and_from _ _ (once_same (input_fields_in g.followers) h.few_matches.once) (and_from _ _ (le-leb (sum (joined_widths (Matches g))) 256 few_columns) joined_alike))
 
       -- V6
-      input_right : (f : InputFieldSpec) → IsFieldGood cards rules ranges g.file f → is_input_in p (length_at g) (renamed_input (key_numbers cards) (input_row f)) ≡ true
+      input_right : (f : InputFieldSpec) → IsFieldValid cards rules ranges g.file f → is_input_in p (length_at g) (renamed_input (key_numbers cards) (input_row f)) ≡ true
       input_right f x =
           let c = in_columns (file_by g.file cards) f x.outside in
           let form = form_of_field f x.form x.is in
@@ -413,16 +413,16 @@ module _ (cards : List SpecCard) (rules : KeepsCardRules cards) (ranges : AreCar
           (and_from _ _ form.plain (eq-eqb (f.to + 1 - f.from) x.form.length (sym form.long)))
 
       -- V7
-      shown_right : (f : InputFieldSpec) → IsFieldGood cards rules ranges g.file f → is_input_shown p (renamed_input (key_numbers cards) (input_row f)) ≡ true
+      shown_right : (f : InputFieldSpec) → IsFieldValid cards rules ranges g.file f → is_input_shown p (renamed_input (key_numbers cards) (input_row f)) ≡ true
       shown_right f x =
           let form = form_of_field f x.form x.is in
           and_from _ _ (all_settable f.indicators (or_first (any_of cannot_be_set f.indicators) _ x.shown) x.range.indicators)
           (ap (λ o. fits_shows (kind_of o) (shows_of f.indicators)) (form_is f x.form x.known) ∙ ap (λ k. fits_shows k (shows_of f.indicators)) form.kind ∙ shown_so f.decimals f.indicators (or_second (any_of cannot_be_set f.indicators) _ x.shown))
 
-      inputs_each : (P : row.InputField ℕ → Type 0) → ((f : InputFieldSpec) → IsFieldGood cards rules ranges g.file f → P (renamed_input (key_numbers cards) (input_row f))) → Each P (row_type g).inputs
+      inputs_each : (P : row.InputField ℕ → Type 0) → ((f : InputFieldSpec) → IsFieldValid cards rules ranges g.file f → P (renamed_input (key_numbers cards) (input_row f))) → Each P (row_type g).inputs
       inputs_each P f =
           each_row (λ (x : row.InputField Key). P (renamed_input (key_numbers cards) x)) P (renamed_input (key_numbers cards)) (map input_row (input_fields_in g.followers)) (λ x y. y)
-          (each_row (IsFieldGood cards rules ranges g.file) (λ (x : row.InputField Key). P (renamed_input (key_numbers cards) x)) input_row (input_fields_in g.followers) f good)
+          (each_row (IsFieldValid cards rules ranges g.file) (λ (x : row.InputField Key). P (renamed_input (key_numbers cards) x)) input_row (input_fields_in g.followers) f valid)
 
       never_first : (a b : Bool) → a ≡ true → (not a && b) ≡ false
       never_first true b e = refl
@@ -434,7 +434,7 @@ module _ (cards : List SpecCard) (rules : KeepsCardRules cards) (ranges : AreCar
       type_right V4 = not_from_true _ (marks_type g.heading.indicator h.filed.1.0.indicator h.filed.1.0.range.indicator)
       type_right V5 =
           not_from_true _ (and_from _ _ (each_passes (is_control_in (length_at g)) (row_type g).levels
-          (each_level_field control_level (IsFieldGood cards rules ranges g.file) (λ c. is_control_in (length_at g) c ≡ true) (λ f l e x. control_right f l x) (input_fields_in g.followers) good)) levels_right)
+          (each_level_field control_level (IsFieldValid cards rules ranges g.file) (λ c. is_control_in (length_at g) c ≡ true) (λ f l e x. control_right f l x) (input_fields_in g.followers) valid)) levels_right)
       type_right V6 = not_from_true _ (each_passes (is_input_in p (length_at g)) (row_type g).inputs (inputs_each (λ f. is_input_in p (length_at g) f ≡ true) input_right))
       type_right V7 = none_passes (shows_wrongly p (length_at g)) (row_type g).inputs (inputs_each (λ f. shows_wrongly p (length_at g) f ≡ false) (λ f x. never_first _ _ (shown_right f x)))
       type_right V25 = ap (λ b. not (not b)) (ne_eqb (length_at g) 0 (λ z. let low = h.filed.0.3.lowest in let same = record_is g h.filed in omega (arith, z, low, same)))

@@ -17,7 +17,7 @@ use Rattle.rpg_verify_rules.specs.declared.rule.PlaceRule.TheVariants.{V21, V22}
 use Rattle.rpg_compile_program.proofs.Control.{code_each, code_none, code_own, last_return, stays, stays_before}
 use Rattle.rpg_compile_program.proofs.Counts.{LeadsWithin, Within, code_append, code_length, code_within, label_before, label_inside}
 use Rattle.rpg_compile_program.proofs.Each.{each_always, each_append, each_map, each_passes, none_broken, none_in_both, none_passes}
-use Rattle.rpg_cards.specs.Deeds.{Acts, Begins, Calculation, Deed, Ends, Executes, GoesTo, Marks, Nothing, PutsOut}
+use Rattle.rpg_cards.specs.Statements.{Acts, Begins, Calculation, Statement, Ends, Executes, GoesTo, Marks, Nothing, WritesExceptions}
 use Rattle.rpg_cards.specs.Keys.{Key, Name}
 use Rattle.rpg_cards.specs.Plain.{Each, HasGoal, defines_subroutine}
 use Rattle.rpg_cards.specs.Sections.{Sections, Subroutine, callee}
@@ -55,10 +55,10 @@ module _ (number : Key → ℕ) (level : ℕ → ℕ) (s : Sections Key) (p : Ob
   unfolding section_code
   section_length own first gs = code_length number (λ l. label_place l gs first) (called_number s) own first gs
 
-  leads_inside : (own first : ℕ) (gs : List (Calculation Key)) (x : Deed Key) → LeadsWithin number (λ l. label_place l gs first) (called_number s) own first (first + sizes gs) x
+  leads_inside : (own first : ℕ) (gs : List (Calculation Key)) (x : Statement Key) → LeadsWithin number (λ l. label_place l gs first) (called_number s) own first (first + sizes gs) x
   leads_inside own first gs (GoesTo l) = label_inside l gs first
   leads_inside own first gs (Acts a) = tt
-  leads_inside own first gs PutsOut = tt
+  leads_inside own first gs WritesExceptions = tt
   leads_inside own first gs (Executes n) = tt
   leads_inside own first gs (Marks l) = tt
   leads_inside own first gs (Begins l) = tt
@@ -69,13 +69,13 @@ module _ (number : Key → ℕ) (level : ℕ → ℕ) (s : Sections Key) (p : Ob
   unfolding section_code
   section_within own first gs =
       code_within number (λ l. label_place l gs first) (called_number s) own first (first + sizes gs) first gs (omega arith) (omega arith)
-      (each_always (λ g. LeadsWithin number (λ l. label_place l gs first) (called_number s) own first (first + sizes gs) g.deed) gs (λ g. leads_inside own first gs g.deed))
+      (each_always (λ g. LeadsWithin number (λ l. label_place l gs first) (called_number s) own first (first + sizes gs) g.statement) gs (λ g. leads_inside own first gs g.statement))
 
-  leads_before : (own first : ℕ) (front : List (Calculation Key)) (last : Calculation Key) (x : Deed Key) → HasGoal (front ++ last ∷ []) x →
+  leads_before : (own first : ℕ) (front : List (Calculation Key)) (last : Calculation Key) (x : Statement Key) → HasGoal (front ++ last ∷ []) x →
       LeadsWithin number (λ l. label_place l (front ++ last ∷ []) first) (called_number s) own first (first + sizes front) x
   leads_before own first front last (GoesTo l) h = ((label_inside l (front ++ last ∷ []) first).0, label_before l front last first h)
   leads_before own first front last (Acts a) h = tt
-  leads_before own first front last PutsOut h = tt
+  leads_before own first front last WritesExceptions h = tt
   leads_before own first front last (Executes n) h = tt
   leads_before own first front last (Marks l) h = tt
   leads_before own first front last (Begins l) h = tt
@@ -99,8 +99,8 @@ module _ (number : Key → ℕ) (level : ℕ → ℕ) (s : Sections Key) (p : Ob
   unfolding front_code
   body_within own first x b =
       let place = λ (l : Option Name). label_place l (b.front ++ b.last ∷ []) first in
-      let goals : Each (λ g. HasGoal (b.front ++ b.last ∷ []) g.deed) b.front = subst (λ (gs : List (Calculation Key)). Each (λ g. HasGoal gs g.deed) b.front) b.split b.goals in
-      let leads = each_map (λ (g : Calculation Key). HasGoal (b.front ++ b.last ∷ []) g.deed) (λ g. LeadsWithin number place (called_number s) own first (first + sizes b.front) g.deed) b.front (λ g h. leads_before own first b.front b.last g.deed h) goals in
+      let goals : Each (λ g. HasGoal (b.front ++ b.last ∷ []) g.statement) b.front = subst (λ (gs : List (Calculation Key)). Each (λ g. HasGoal gs g.statement) b.front) b.split b.goals in
+      let leads = each_map (λ (g : Calculation Key). HasGoal (b.front ++ b.last ∷ []) g.statement) (λ g. LeadsWithin number place (called_number s) own first (first + sizes b.front) g.statement) b.front (λ g h. leads_before own first b.front b.last g.statement h) goals in
       subst (λ xs. Each (Within first (first + sizes b.front)) xs) (sym (body_code own first x b))
       (each_append (Within first (first + sizes b.front)) (front_code own first b.front b.last) (made.Return own ∷ [])
       (code_within number place (called_number s) own first (first + sizes b.front) first b.front (omega arith) (omega arith) leads) (tt, tt))
@@ -126,11 +126,11 @@ module _ (number : Key → ℕ) (level : ℕ → ℕ) (s : Sections Key) (p : Ob
 
   -- ---- calls
 
-  step_calls : IsCodeOf number level s p → (sec : Section) (own low first : ℕ) (gs : List (Calculation Key)) (x : Deed Key) → level_of p sec ≡ low → CallsUp s.subroutines level low x →
+  step_calls : IsCodeOf number level s p → (sec : Section) (own low first : ℕ) (gs : List (Calculation Key)) (x : Statement Key) → level_of p sec ≡ low → CallsUp s.subroutines level low x →
       Each (λ i. calls_higher p sec i ≡ true) (step_code number (λ l. label_place l gs first) (called_number s) own x)
   unfolding step_code
   step_calls c sec own low first gs (Acts a) e h = (refl, tt)
-  step_calls c sec own low first gs PutsOut e h = (refl, tt)
+  step_calls c sec own low first gs WritesExceptions e h = (refl, tt)
   step_calls c sec own low first gs (GoesTo l) e h = (refl, tt)
   step_calls c sec own low first gs (Marks l) e h = tt
   step_calls c sec own low first gs (Begins l) e h = tt
@@ -141,12 +141,12 @@ module _ (number : Key → ℕ) (level : ℕ → ℕ) (s : Sections Key) (p : Ob
       let higher = h.1 in
       (lt-ltb (level_of p sec) (level_of p (section.Subroutine (callee n s.subroutines))) (omega arith), tt)
 
-  section_calls : IsCodeOf number level s p → (sec : Section) (own low first : ℕ) (gs : List (Calculation Key)) → level_of p sec ≡ low → Each (λ g. CallsUp s.subroutines level low g.deed) gs →
+  section_calls : IsCodeOf number level s p → (sec : Section) (own low first : ℕ) (gs : List (Calculation Key)) → level_of p sec ≡ low → Each (λ g. CallsUp s.subroutines level low g.statement) gs →
       Each (λ i. calls_higher p sec i ≡ true) (section_code number (called_number s) own first gs)
   unfolding section_code
   section_calls c sec own low first gs e h =
       code_each number (λ l. label_place l gs first) (called_number s) own (λ i. calls_higher p sec i ≡ true) (λ i t. t.calls p sec) first gs
-      (each_map (λ (g : Calculation Key). CallsUp s.subroutines level low g.deed) (λ g. Each (λ i. calls_higher p sec i ≡ true) (step_code number (λ l. label_place l gs first) (called_number s) own g.deed)) gs (λ g up. step_calls c sec own low first gs g.deed e up) h)
+      (each_map (λ (g : Calculation Key). CallsUp s.subroutines level low g.statement) (λ g. Each (λ i. calls_higher p sec i ≡ true) (step_code number (λ l. label_place l gs first) (called_number s) own g.statement)) gs (λ g up. step_calls c sec own low first gs g.statement e up) h)
 
   -- ---- V21 and V22, section by section
 
@@ -321,8 +321,8 @@ module _ (number : Key → ℕ) (level : ℕ → ℕ) (s : Sections Key) (p : Ob
   levels_within h own first [] k e = absurd cc
   levels_within h own first (x ∷ ss) zero e =
       let w = h own in
-      let good : is_between 1 100 (level own) ≡ true = and_from (nat_le 1 (level own)) (nat_le (level own) 100) (le-leb 1 (level own) w.0) (le-leb (level own) 100 w.1) in
-      let no = not_from_true (is_between 1 100 (level own)) good in
+      let valid : is_between 1 100 (level own) ≡ true = and_from (nat_le 1 (level own)) (nat_le (level own) 100) (le-leb 1 (level own) w.0) (le-leb (level own) 100 w.1) in
+      let no = not_from_true (is_between 1 100 (level own)) valid in
       cc
   levels_within h own first (x ∷ ss) (suc k) e = levels_within h (suc own) (first + sizes x.body) ss k e
 

@@ -4,11 +4,11 @@ use Rattle.rpg_program.specs.declared.condition.Conditions.{Conditions}
 use Rattle.rpg_program.specs.declared.operation.Instruction.{Instruction}
 use Rattle.rpg_program.specs.declared.operation.Instruction.TheVariants as made
 use Rattle.rpg_program.specs.Object.{SubroutineRow}
-use Rattle.rpg_cards.specs.Deeds.{Acts, Begins, Calculation, Deed, Ends, Executes, GoesTo, Marks, Nothing, PutsOut, has_instruction}
+use Rattle.rpg_cards.specs.Statements.{Acts, Begins, Calculation, Statement, Ends, Executes, GoesTo, Marks, Nothing, WritesExceptions, has_instruction}
 use Rattle.rpg_cards.specs.Keys.{Key, Name}
 use Rattle.rpg_cards.specs.Sections.{Subroutine}
 use Rattle.rpg_cards.specs.Sections.{is_same_name, label_on}
-use Rattle.rpg_cards.specs.Deeds.{tests}
+use Rattle.rpg_cards.specs.Statements.{tests}
 use Rattle.rpg_effect_renaming.specs.Naming.{renamed_action}
 
 -- ---- how many instructions
@@ -20,7 +20,7 @@ waits (Some n) = 1
 
 -- how many instructions a group of C cards becomes
 unfoldable pub size : Calculation Key → ℕ
-size g = if has_instruction g.deed then waits g.level + tests g.alternatives + 1 else 0
+size g = if has_instruction g.statement then waits g.level + tests g.alternatives + 1 else 0
 
 -- how many instructions the groups compile to together
 abbrev pub sizes : List (Calculation Key) → ℕ
@@ -32,7 +32,7 @@ sizes (g ∷ gs) = size g + sizes gs
 -- the place of the next instruction of the section after a label; its end if there is no such label
 abbrev pub label_place : Option Name → List (Calculation Key) → ℕ → ℕ
 label_place n [] place = place
-label_place n (g ∷ gs) place = if is_same_name n (label_on g.deed) then place else label_place n gs (place + size g)
+label_place n (g ∷ gs) place = if is_same_name n (label_on g.statement) then place else label_place n gs (place + size g)
 
 -- ---- instructions
 
@@ -72,9 +72,9 @@ tests_code place operation following (cs ∷ ds ∷ rest) = alternative_code (pl
 -- numbers of fields, places of labels, numbers of subroutines, and the number of the running one
 module _ (number : Key → ℕ) (place_of callee_of : Option Name → ℕ) (own : ℕ) where
   -- the instruction of an operation; TAG, BEGSR and a blank operation become none
-  unfoldable pub step_code : Deed Key → List (Instruction ℕ)
+  unfoldable pub step_code : Statement Key → List (Instruction ℕ)
   step_code (Acts a) = made.Act (renamed_action number a) ∷ []
-  step_code PutsOut = made.Except ∷ []
+  step_code WritesExceptions = made.Except ∷ []
   step_code (GoesTo l) = jump (place_of l) no_conditions ∷ []
   step_code (Executes s) = made.Call (callee_of s) ∷ []
   step_code (Marks l) = []
@@ -85,10 +85,10 @@ module _ (number : Key → ℕ) (place_of callee_of : Option Name → ℕ) (own 
   -- a group of C cards from a place on: the level indicator, the tests of its conditions, and the operation
   unfoldable pub group_code : ℕ → Calculation Key → List (Instruction ℕ)
   group_code place g =
-      if has_instruction g.deed then
+      if has_instruction g.statement then
       level_code (place + size g) g.level
       ++ (tests_code (place + waits g.level) (place + waits g.level + tests g.alternatives) (place + size g) g.alternatives
-      ++ step_code g.deed)
+      ++ step_code g.statement)
       else []
 
   -- groups one after another, from a place on

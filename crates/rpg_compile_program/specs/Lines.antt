@@ -97,8 +97,8 @@ abbrev pub text_key : Option (List ℕ) → Key
 text_key text = option_map_or (λ t. Fixed (constant.Text t)) text Nowhere
 
 -- an entry, otherwise the constant
-abbrev pub operand_put_out : OutputField → Operand Key
-operand_put_out f = unwrap_or (option_map entry_operand f.operand) (record { field = text_key f.text; index = index.Blank })
+abbrev pub output_operand_of : OutputField → Operand Key
+output_operand_of f = unwrap_or (option_map entry_operand f.operand) (record { field = text_key f.text; index = index.Blank })
 
 -- PAGE without an index
 abbrev pub names_page : Entry → Bool
@@ -134,7 +134,7 @@ output_fill f = if is_some f.code then unwrap_or (option_and_then fill_by f.text
 abbrev pub line_field_of : OutputField → LineField Key
 line_field_of f = record {
   source = output_source f;
-  operand = operand_put_out f;
+  operand = output_operand_of f;
   editing = editing_of f;
   fill = output_fill f;
   is_blanked = f.blank_after;

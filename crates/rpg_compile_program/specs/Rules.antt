@@ -2,7 +2,7 @@
 use Rattle.std.specs.Prelude.{◌≡◌, List, false}
 use Rattle.rpg_cards.specs.declared.spec_card.SpecCard.{SpecCard}
 use Rattle.rpg_faults_flow.specs.Columns as calculations
-use Rattle.rpg_faults_flow.specs.Flow.{calls_itself, goes_apart, goes_nowhere}
+use Rattle.rpg_faults_flow.specs.Flow.{calls_itself, leaves_its_section, lacks_target}
 use Rattle.rpg_faults_flow.specs.Kept.{KeepsRule}
 use Rattle.rpg_faults_flow.specs.Order.{breaks_order}
 use Rattle.rpg_faults_limits.specs.Files.{breaks_files, lacks_input, moves_disk}
@@ -33,11 +33,11 @@ pub record KeepsCardRules (cards : List SpecCard) : Type 0 where
   pub f9 : KeepsRule calculations.bad_calculation_columns cards
   pub f9_operands : KeepsRule (λ before c after. operands.bad_operand_columns cards c after) cards
   pub f9_lines : KeepsRule (λ before c after. moves_disk cards before c) cards
-  pub f10 : KeepsRule (goes_nowhere cards) cards
+  pub f10 : KeepsRule (lacks_target cards) cards
   -- of C cards, of I and O cards
   pub f12 : KeepsRule breaks_order cards
   pub f12_lines : KeepsRule (λ before c after. is_stray before c) cards
-  pub f13 : KeepsRule (goes_apart cards) cards
+  pub f13 : KeepsRule (leaves_its_section cards) cards
   pub f14 : KeepsRule (calls_itself cards) cards
   pub f16 : KeepsRule (misplaces cards) cards
   pub f17 : KeepsRule (λ before c after. bad_editing cards c) cards

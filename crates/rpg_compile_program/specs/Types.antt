@@ -2,7 +2,7 @@
 use Rattle.std.specs.Prelude.{ℕ, ◌++◌, List, [], ◌∷◌, map, Option, is_some}
 use Rattle.std.specs.List.{filter_map, flat_map}
 use Rattle.std.specs.Option.{option_map, option_map_or}
-use Rattle.rpg_cards.specs.Deeds.{shows_of}
+use Rattle.rpg_cards.specs.Statements.{shows_of}
 use Rattle.rpg_cards.specs.Keys.{Key, Named}
 use Rattle.rpg_cards.specs.Cards.{input_field_in}
 use Rattle.rpg_cards.specs.Files.{file_by, file_use}

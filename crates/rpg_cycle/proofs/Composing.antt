@@ -9,7 +9,7 @@ use Rattle.rpg_program.specs.Put.{Bytes, disk_bytes, line_of, with_output}
 use Rattle.rpg_cycle.specs.Doing.{Does, DoesAfter, Beside, DoesAlone, under_way, unselected}
 use Rattle.rpg_cycle_records.specs.Waiting.{unread}
 use Rattle.rpg_program.specs.Object.{Object}
-use Rattle.rpg_cycle.specs.Ends.{PhaseEnd, GoesOn, EndOfJob, Halt}
+use Rattle.rpg_cycle.specs.Ends.{PhaseEnd, Continues, EndOfJob, Halt}
 use Rattle.rpg_program.specs.Halts.{halt_number}
 use Rattle.rpg_cycle.specs.Phases.{Done, Phase, UnderWay, without_output, done, either, nothing_done, unless, ◌before◌}
 use Rattle.rpg_cycle.specs.Stages.{IfStops, UnlessNoMemory, job_end}
@@ -32,20 +32,20 @@ output_both previous xs ys rs ss p = bytes_are _ _
     (append_assoc p.print (bytes_from previous xs) (bytes_from (last_position_from previous xs) ys) ∙ ap (λ z. p.print ++ z) (sym (bytes_from-append previous xs ys)))
     (append_assoc p.disk (disk_bytes rs) (disk_bytes ss) ∙ ap (λ z. p.disk ++ z) (sym (disk-append rs ss)))
 
--- nothing is put out
+-- nothing is output
 pub output_none : (previous : Option Position) (p : Bytes) → p ≡ with_output previous [] [] p
 output_none previous p = bytes_are _ _ (sym (append-nil p.print)) (sym (append-nil p.disk))
 
 -- ---- two phases
 
-both_after : (P Q : Phase) (previous : Option Position) (a b c : Running) (s t u : Beside) (e : PhaseEnd) (x : DoesAfter P previous a s GoesOn b t) →
+both_after : (P Q : Phase) (previous : Option Position) (a b c : Running) (s t u : Beside) (e : PhaseEnd) (x : DoesAfter P previous a s Continues b t) →
     DoesAfter Q (last_position_from previous x.out.lines) b t e c u → DoesAfter (P before Q) previous a s e c u
 both_after P Q previous a b c s t u e x y =
     let ends = end_from-lines previous x.out.lines y.out.lines in
     record {
       out = with_more x.out y.out;
       phase = (
-        GoesOn,
+        Continues,
         under_way (config_on (last_position_from previous x.out.lines) b.config) t,
         x.out,
         x.phase,
@@ -57,7 +57,7 @@ both_after P Q previous a b c s t u e x y =
     }
 
 -- the one phase went on, and then the other was done
-pub goes : {P Q : Phase} {a b c : Running} {s t u : Beside} {e : PhaseEnd} → Does P a s GoesOn b t → Does Q b t e c u → Does (P before Q) a s e c u
+pub goes : {P Q : Phase} {a b c : Running} {s t u : Beside} {e : PhaseEnd} → Does P a s Continues b t → Does Q b t e c u → Does (P before Q) a s e c u
 goes {P} {Q} {a} {b} {c} {s} {t} {u} {e} h g = record {
   program = g.program ∙ h.program;
   following = λ previous l.
@@ -102,7 +102,7 @@ own F {p} {a} {b} {s} {t} {e} same h = subst (λ (q : Object). Does (F q) a s e 
 
 -- ---- phases that select nothing
 
-pub passes_goes : {P Q : Phase} {a b c : Running} {e : PhaseEnd} → DoesAlone P a GoesOn b → DoesAlone Q b e c → DoesAlone (P before Q) a e c
+pub passes_goes : {P Q : Phase} {a b c : Running} {e : PhaseEnd} → DoesAlone P a Continues b → DoesAlone Q b e c → DoesAlone (P before Q) a e c
 passes_goes h g = record { each = λ s. goes (h.each s) (g.each s) }
 
 -- the program is the same after it
@@ -110,20 +110,20 @@ pub same_program : {P : Phase} {a b : Running} {e : PhaseEnd} → DoesAlone P a 
 same_program h = (h.each (unselected unread)).program
 
 -- and then one of the machine's own program
-pub goes_own : {P : Phase} (F : Object → Phase) {a b c : Running} {e : PhaseEnd} → DoesAlone P a GoesOn b → DoesAlone (F b.program) b e c → DoesAlone (P before F a.program) a e c
+pub goes_own : {P : Phase} (F : Object → Phase) {a b c : Running} {e : PhaseEnd} → DoesAlone P a Continues b → DoesAlone (F b.program) b e c → DoesAlone (P before F a.program) a e c
 goes_own F {a} {b} {c} {e} h g = passes_goes h (subst (λ (p : Object). DoesAlone (F p) b e c) (same_program h) g)
 
 pub passes_ends : {P Q : Phase} {a b : Running} (e : JobEnd) → DoesAlone P a (job_end e) b → DoesAlone (P before Q) a (job_end e) b
 passes_ends e h = record { each = λ s. ends e (h.each s) }
 
 -- a phase that is left out
-pub left_out : (test : Config → Bool) (P : Phase) (a : Running) → ((previous : Option Position) → test (config_on previous a.config) ≡ true) → DoesAlone (unless test P) a GoesOn a
+pub left_out : (test : Config → Bool) (P : Phase) (a : Running) → ((previous : Option Position) → test (config_on previous a.config) ≡ true) → DoesAlone (unless test P) a Continues a
 left_out test P a h = record {
   each = λ s. record {
     program = refl;
     following = λ previous l. record {
       out = no_output;
-      phase = subst (λ (b : Bool). either b nothing_done P (under_way (config_on previous a.config) s) GoesOn (under_way (config_on previous a.config) s) no_output) (sym (h previous)) (refl, refl, refl);
+      phase = subst (λ (b : Bool). either b nothing_done P (under_way (config_on previous a.config) s) Continues (under_way (config_on previous a.config) s) no_output) (sym (h previous)) (refl, refl, refl);
       last = l;
       bytes = output_none previous a.output;
     };

@@ -3,7 +3,7 @@ use Rattle.std.proofs.Common.{◌≡◌, ℕ, zero, suc, ◌+◌, List, sym, ap,
 use Rattle.rpg_program.specs.declared.input.InputFile.TheVariants.{Primary, Secondary}
 use Rattle.rpg_program.specs.Object.{Object}
 use Rattle.rpg_cycle_records.specs.Earlier.{Selected, with_record}
-use Rattle.rpg_cycle.specs.Ends.{PhaseEnd, GoesOn, EndOfJob, Halt, Wrong}
+use Rattle.rpg_cycle.specs.Ends.{PhaseEnd, Continues, EndOfJob, Halt, Wrong}
 use Rattle.rpg_machine.specs.Config.{Config, Output}
 use Rattle.rpg_cycle.specs.Phases.{Cycle, UnderWay, begun, needs_record}
 use Rattle.rpg_cycle.specs.Runs.{Course, Records, Runs, RunsIn, ends_or, left_following, next_of}
@@ -24,9 +24,9 @@ module _ (p : Object) where
   by_end : (n : ℕ) (earlier : List Selected) (rs : Records) (c : Config) (i : Inputs) (course : Course) (e : PhaseEnd) (d : UnderWay) (out : Output) → Done earlier rs c i e d out →
       ((rest : Course) → RunsIn n p (with_record d.selected earlier) (left_following p c i rs) d.config d.inputs rest → Runs p (with_record d.selected earlier) (left_following p c i rs) d.config d.inputs rest) →
       ends_or e d out (λ d rest. RunsIn n p (with_record d.selected earlier) (left_following p c i rs) d.config d.inputs rest) course → Runs p earlier rs c i course
-  by_end n earlier rs c i course GoesOn d out cycle more (rest, g, is) =
+  by_end n earlier rs c i course Continues d out cycle more (rest, g, is) =
       subst (λ (k : ℕ). RunsIn k p earlier rs c i course) (sym (one_more course.cycles rest.cycles (ap (λ (x : Course). x.cycles) is)))
-      (GoesOn, d, out, cycle, (rest, more rest g, is))
+      (Continues, d, out, cycle, (rest, more rest g, is))
   by_end n earlier rs c i course EndOfJob d out cycle more is = last earlier rs c i course EndOfJob d out cycle (ap (λ (x : Course). x.cycles) is) (λ k. is)
   by_end n earlier rs c i course (Halt h) d out cycle more is = last earlier rs c i course (Halt h) d out cycle (ap (λ (x : Course). x.cycles) is) (λ k. is)
   by_end n earlier rs c i course (Wrong h) d out cycle more is = last earlier rs c i course (Wrong h) d out cycle (ap (λ (x : Course). x.cycles) is) (λ k. is)

@@ -13,7 +13,7 @@ use Rattle.rpg_cycle_records.specs.Earlier.{Selected, left_by, with_record}
 use Rattle.rpg_cycle_records.specs.Merging.{AreMergedInOrder}
 use Rattle.rpg_cycle_records.specs.Waiting.{Inputs, unread}
 use Rattle.rpg_cycle.specs.Counting.{records_count, waiting_count}
-use Rattle.rpg_cycle.specs.Ends.{PhaseEnd, GoesOn, EndOfJob, Halt, Wrong}
+use Rattle.rpg_cycle.specs.Ends.{PhaseEnd, Continues, EndOfJob, Halt, Wrong}
 use Rattle.rpg_cycle.specs.Job.{AtWork, Cycles, DoesCycle, feed_at, job_needs_record, with_feed}
 use Rattle.rpg_cycle.specs.Phases.{Cycle, UnderWay, begun, needs_record}
 use Rattle.rpg_cycle.specs.RunAnswers.{RunsRecords}
@@ -29,14 +29,14 @@ use Rattle.rpg_verify.specs.Bound.{bound}
 
 -- ---- how a cycle ended, by the stage that it led to
 
-went : (e : PhaseEnd) → stage_at e ≡ Going → e ≡ GoesOn
-went GoesOn h = refl
+went : (e : PhaseEnd) → stage_at e ≡ Going → e ≡ Continues
+went Continues h = refl
 went EndOfJob h = cc
 went (Halt k) h = cc
 went (Wrong f) h = cc
 
 was_ended : (e : PhaseEnd) (x : PhaseEnd) → stage_at e ≡ Ended x → e ≡ x
-was_ended GoesOn x h = cc
+was_ended Continues x h = cc
 was_ended EndOfJob x h = cc
 was_ended (Halt k) x h = cc
 was_ended (Wrong f) x h = cc
@@ -125,22 +125,22 @@ with_next j earlier previous rs a b e d out first second cycle =
 
 -- one cycle and the rest are a run
 more_runs : (j : AtWork) (earlier : List Selected) (previous : Option Position) (rs : Records) (d : UnderWay) (out : Output) (course : Course) →
-    CycleFrom j earlier previous (next_in j Primary rs.primary) (next_in j Secondary rs.secondary) GoesOn d out →
+    CycleFrom j earlier previous (next_in j Primary rs.primary) (next_in j Secondary rs.secondary) Continues d out →
     Runs j.program (with_record d.selected earlier) (left_after j rs) d.config d.inputs course → RunsFrom j earlier previous rs (with_cycle d.config out course)
 more_runs j earlier previous rs d out course cycle rest =
-    own_count j.program (suc course.cycles) earlier rs (config_on previous j.config) j.inputs (with_cycle d.config out course) (GoesOn, d, out, cycle, (course, rest, refl))
+    own_count j.program (suc course.cycles) earlier rs (config_on previous j.config) j.inputs (with_cycle d.config out course) (Continues, d, out, cycle, (course, rest, refl))
 
 fewer : (done was left now rest new all : ℕ) → done + was + left ≤ all → now + rest + 1 ≤ was + left → new ≡ now → done + 1 + new + rest ≤ all
 fewer done was left now rest new all h g e = omega (arith, h, g, e)
 
 more_done : (old mid new : AtWork) (records rest : Records) (a b : Option (List ℕ)) (cycles most greater : ℕ) (u : IsUnderWay old records mid rest cycles most) →
     a ≡ next_in mid Primary rest.primary → b ≡ next_in mid Secondary rest.secondary →
-    DoesCycle mid u.earlier (last_position_from None u.out.lines) a b GoesOn new → greater ≡ max most new.config.steps → IsUnderWay old records new (left_after mid rest) (cycles + 1) greater
+    DoesCycle mid u.earlier (last_position_from None u.out.lines) a b Continues new → greater ≡ max most new.config.steps → IsUnderWay old records new (left_after mid rest) (cycles + 1) greater
 more_done old mid new records rest a b cycles most greater u first second d g =
     let q = last_position_from None u.out.lines in
     let ends = end_from-lines None u.out.lines d.out.lines in
     let next = with_record d.there.selected u.earlier in
-    let cycle = with_next mid u.earlier q rest a b GoesOn d.there d.out first second d.cycle in
+    let cycle = with_next mid u.earlier q rest a b Continues d.there d.out first second d.cycle in
     record {
       program = d.program ∙ u.program;
       earlier = next;
@@ -165,9 +165,9 @@ more_done old mid new records rest a b cycles most greater u first second d g =
           (shorter mid.program u.earlier rest (config_on q mid.config) mid.inputs d.there d.out u.orderly cycle) (ap waiting_count (d.inputs refl));
     }
 
--- how the job's cycle ended, if it goes on
+-- how the job's cycle ended, if it continues
 went_on : (old mid new : AtWork) (records rest : Records) (a b : Option (List ℕ)) (cycles most : ℕ) (u : IsUnderWay old records mid rest cycles most) → Cycles mid a b new → Going ≡ new.stage →
-    DoesCycle mid u.earlier (last_position_from None u.out.lines) a b GoesOn new
+    DoesCycle mid u.earlier (last_position_from None u.out.lines) a b Continues new
 went_on old mid new records rest a b cycles most u h s =
     let q = last_position_from None u.out.lines in
     let d = h.does u.earlier u.left u.orderly q u.last in
@@ -186,7 +186,7 @@ pub fewer_left : (old mid new : AtWork) (records rest then : Records) (a b : Opt
 fewer_left old mid new records rest then a b cycles most u first second left h s =
     let q = last_position_from None u.out.lines in
     let d = went_on old mid new records rest a b cycles most u h s in
-    let less = shorter mid.program u.earlier rest (config_on q mid.config) mid.inputs d.there d.out u.orderly (with_next mid u.earlier q rest a b GoesOn d.there d.out first second d.cycle) in
+    let less = shorter mid.program u.earlier rest (config_on q mid.config) mid.inputs d.there d.out u.orderly (with_next mid u.earlier q rest a b Continues d.there d.out first second d.cycle) in
     below (waiting_count new.inputs) (waiting_count d.there.inputs) (records_count then) (records_count (left_after mid rest)) (waiting_count mid.inputs + records_count rest)
     (ap waiting_count (d.inputs refl)) (ap records_count left) less
   where

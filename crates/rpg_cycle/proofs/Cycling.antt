@@ -3,7 +3,7 @@ use Rattle.std.proofs.Common.{◌≡◌, ℕ, Bool, true, false, not, ◌&&◌, 
 use Rattle.rpg_program.specs.declared.input.InputFile.{InputFile}
 use Rattle.rpg_program.specs.declared.input.InputFile.TheVariants.{Primary, Secondary}
 use Rattle.rpg_machine.specs.Config.{Config, Output}
-use Rattle.rpg_machine.specs.Outputs.{FillsFields, PutsOut}
+use Rattle.rpg_machine.specs.Outputs.{FillsFields, Outputs}
 use Rattle.rpg_machine.specs.Run.{RunsTo}
 use Rattle.rpg_machine.specs.Running.{Behaviour}
 use Rattle.rpg_machine.specs.declared.time.OutputTime.TheVariants as times
@@ -14,10 +14,10 @@ use Rattle.rpg_cycle_records.proofs.Matches.{found}
 use Rattle.rpg_cycle.proofs.Picking.{Picked, selects}
 use Rattle.rpg_cycle.proofs.Taking.{takes}
 use Rattle.rpg_cycle_records.specs.Earlier.{Left, Selected, left_by, match_value, with_record}
-use Rattle.rpg_cycle.specs.Ends.{PhaseEnd, GoesOn}
+use Rattle.rpg_cycle.specs.Ends.{PhaseEnd, Continues}
 use Rattle.rpg_cycle.specs.Indicators.{is_on, last_record, level_indicators, matching_record, with_all, with_one}
 use Rattle.rpg_cycle_records.specs.Merging.{AreMergedInOrder, IsTopIfAny}
-use Rattle.rpg_cycle.specs.Phases.{Cycle, CycleOn, Phase, UnderWay, begun, by_machine, detail_calculations, detail_lines, without_output, done, either, end_where_last, fill_fields, fill_from, halt_where_asked, has_no_overflow, if_selected, is_bypassed, output, overflow_lines, nothing_done, section, select_one, select_record, set_off, show_match, take_in, total_time, with_config, ◌before◌}
+use Rattle.rpg_cycle.specs.Phases.{Cycle, CycleOn, Phase, UnderWay, begun, by_machine, detail_calculations, detail_lines, without_output, done, either, end_where_last, fill_fields, fill_from, halt_if_indicated, has_no_overflow, if_selected, is_bypassed, output, overflow_lines, nothing_done, section, select_one, select_record, set_off, show_match, take_in, total_time, with_config, ◌before◌}
 use Rattle.rpg_cycle.specs.Staging.{after_selection}
 use Rattle.rpg_cycle_records.specs.Waiting.{InputState, Inputs, finds_match, has_match, input_at, takes_in, unread}
 
@@ -36,19 +36,19 @@ by_act P c d e out h = record { inputs = h.3; selected = h.4 }
 pub same : (c d : UnderWay) → d ≡ c → Stays c d
 same c d h = record { inputs = ap (λ (u : UnderWay). u.inputs) h; selected = ap (λ (u : UnderWay). u.selected) h }
 
-pub at_totals : (p : Object) (b : Bool) (c d : UnderWay) (out : Output) → either b nothing_done (section p sections.Total before output p times.Total) c GoesOn d out → Stays c d
+pub at_totals : (p : Object) (b : Bool) (c d : UnderWay) (out : Output) → either b nothing_done (section p sections.Total before output p times.Total) c Continues d out → Stays c d
 at_totals p true c d out h = same c d h.1
 at_totals p false c d out h =
     let both = both_on (section p sections.Total) (output p times.Total) c d out h in
-    stay c both.mid d (by_act (RunsTo p sections.Total) c both.mid GoesOn both.put both.one) (by_act (PutsOut p times.Total) both.mid d GoesOn both.more both.two)
+    stay c both.mid d (by_act (RunsTo p sections.Total) c both.mid Continues both.put both.one) (by_act (Outputs p times.Total) both.mid d Continues both.more both.two)
 
-pub at_overflow : (p : Object) (b : Bool) (c d : UnderWay) (out : Output) → either b nothing_done (output p times.Overflow) c GoesOn d out → Stays c d
+pub at_overflow : (p : Object) (b : Bool) (c d : UnderWay) (out : Output) → either b nothing_done (output p times.Overflow) c Continues d out → Stays c d
 at_overflow p true c d out h = same c d h.1
-at_overflow p false c d out h = by_act (PutsOut p times.Overflow) c d GoesOn out h
+at_overflow p false c d out h = by_act (Outputs p times.Overflow) c d Continues out h
 
-at_fields : (p : Object) (s : Option Selected) (c d : UnderWay) (out : Output) → fill_from p s c GoesOn d out → Stays c d
+at_fields : (p : Object) (s : Option Selected) (c d : UnderWay) (out : Output) → fill_from p s c Continues d out → Stays c d
 at_fields p None c d out h = same c d h.1
-at_fields p (Some s) c d out h = by_act (FillsFields p s.type s.text) c d GoesOn out h
+at_fields p (Some s) c d out h = by_act (FillsFields p s.type s.text) c d Continues out h
 
 -- ---- phase 4
 
@@ -56,8 +56,8 @@ pub settled_still : (p : Object) (i j : Inputs) (f : InputFile) → input_at j f
 settled_still p i j f e h = ap (λ (x : InputState). has_file p f && (not x.is_over && is_none x.waiting)) e ∙ h
 
 phase_4 : (p : Object) (earlier : List Selected) (a b : Option (List ℕ)) (c d : UnderWay) (out : Output) (lit : Bool) → AreMergedInOrder p earlier c.inputs → c.selected ≡ None →
-    either lit (without_output (λ c. done GoesOn (with_config (with_all level_indicators true) c)))
-    (take_in p (left_by p earlier) Primary a before take_in p (left_by p earlier) Secondary b before select_one p (left_by p earlier)) c GoesOn d out → Picked p earlier d
+    either lit (without_output (λ c. done Continues (with_config (with_all level_indicators true) c)))
+    (take_in p (left_by p earlier) Primary a before take_in p (left_by p earlier) Secondary b before select_one p (left_by p earlier)) c Continues d out → Picked p earlier d
 phase_4 p earlier a b c d out true h none g = record {
   orderly = subst (λ (o : Option Selected). AreMergedInOrder p (with_record o earlier) d.inputs) (sym (ap (λ (u : UnderWay). u.selected) g.1 ∙ none))
       (subst (λ (i : Inputs). AreMergedInOrder p earlier i) (sym (ap (λ (u : UnderWay). u.inputs) g.1)) h);
@@ -125,7 +125,7 @@ abbrev pub from_selection : Object → Left → Test → Option (List ℕ) → O
 from_selection p left t a b = select_record p left a b before after_selection p left t
 
 fourth : (p : Object) (earlier : List Selected) (a b : Option (List ℕ)) (c d : UnderWay) (out : Output) → AreMergedInOrder p earlier c.inputs → c.selected ≡ None →
-    select_record p (left_by p earlier) a b c GoesOn d out → Picked p earlier d
+    select_record p (left_by p earlier) a b c Continues d out → Picked p earlier d
 fourth p earlier a b c d out h none g = phase_4 p earlier a b c d out (is_on c.config last_record) h none g
 
 abbrev Related : Object → List Selected → Test → Test → Type 0
@@ -137,12 +137,12 @@ cycle_by p earlier s t r a b c h none =
     let left = left_by p earlier in
     let F = from_selection p left s a b in
     let G = from_selection p left t a b in
-    following (detail_lines p) (halt_where_asked before set_off p before F) (halt_where_asked before set_off p before G) c
-    (λ m1 d1 put1 out1 e1 first1 rest1. following halt_where_asked (set_off p before F) (set_off p before G) m1
+    following (detail_lines p) (halt_if_indicated before set_off p before F) (halt_if_indicated before set_off p before G) c
+    (λ m1 d1 put1 out1 e1 first1 rest1. following halt_if_indicated (set_off p before F) (set_off p before G) m1
     (λ m2 d2 put2 out2 e2 first2 rest2. following (set_off p) F G m2
     (λ m3 d3 put3 out3 e3 first3 rest3. following (select_record p left a b) (after_selection p left s) (after_selection p left t) m3
     (λ m4 d4 put4 out4 e4 first4 rest4.
-    let k1 = by_act (PutsOut p times.Detail) c m1 GoesOn put1 first1 in
+    let k1 = by_act (Outputs p times.Detail) c m1 Continues put1 first1 in
     let k2 = same m1 m2 first2.1 in
     let i3 : m3.inputs ≡ m2.inputs = ap (λ (u : UnderWay). u.inputs) first3.1 in
     let s3 : m3.selected ≡ m2.selected = ap (λ (u : UnderWay). u.selected) first3.1 in
@@ -163,7 +163,7 @@ from_last p earlier a b c i e d out h g =
 
 -- ---- what it leaves is in order again
 
-pub after_4 : (p : Object) (left : Left) (t : Test) (c d : UnderWay) (out : Output) → after_selection p left t c GoesOn d out → Stays c d
+pub after_4 : (p : Object) (left : Left) (t : Test) (c d : UnderWay) (out : Output) → after_selection p left t c Continues d out → Stays c d
 after_4 p left t c d out g =
     let five = both_on (total_time p left) (end_where_last before overflow_lines p before show_match t before after_match p) c d out g in
     let six = both_on end_where_last (overflow_lines p before show_match t before after_match p) five.mid d five.more five.two in
@@ -175,20 +175,20 @@ after_4 p left t c d out g =
     let k7 = at_overflow p (has_no_overflow p.overflow six.mid.config) six.mid seven.mid seven.put seven.one in
     let k8 : Stays seven.mid eight.mid = record { inputs = ap (λ (u : UnderWay). u.inputs) eight.one.1; selected = ap (λ (u : UnderWay). u.selected) eight.one.1 } in
     let k9 = at_fields p eight.mid.selected eight.mid nine.mid nine.put nine.one in
-    let k10 = by_act (RunsTo p sections.Detail) nine.mid d GoesOn nine.more nine.two in
+    let k10 = by_act (RunsTo p sections.Detail) nine.mid d Continues nine.more nine.two in
     stay c five.mid d k5 (stay five.mid six.mid d k6 (stay six.mid seven.mid d k7 (stay seven.mid eight.mid d k8 (stay eight.mid nine.mid d k9 k10))))
 
 pub keeps : (p : Object) (earlier : List Selected) (a b : Option (List ℕ)) (c : Config) (i : Inputs) (d : UnderWay) (out : Output) → AreMergedInOrder p earlier i →
-    Cycle p earlier a b (begun p c i) GoesOn d out → AreMergedInOrder p (with_record d.selected earlier) d.inputs
+    Cycle p earlier a b (begun p c i) Continues d out → AreMergedInOrder p (with_record d.selected earlier) d.inputs
 keeps p earlier a b c i d out h g =
     let left = left_by p earlier in
     let t = has_match p earlier in
     let F = from_selection p left t a b in
-    let one = both_on (detail_lines p) (halt_where_asked before set_off p before F) (begun p c i) d out g in
-    let two = both_on halt_where_asked (set_off p before F) one.mid d one.more one.two in
+    let one = both_on (detail_lines p) (halt_if_indicated before set_off p before F) (begun p c i) d out g in
+    let two = both_on halt_if_indicated (set_off p before F) one.mid d one.more one.two in
     let three = both_on (set_off p) F two.mid d two.more two.two in
     let four = both_on (select_record p left a b) (after_selection p left t) three.mid d three.more three.two in
-    let k1 = by_act (PutsOut p times.Detail) (begun p c i) one.mid GoesOn one.put one.one in
+    let k1 = by_act (Outputs p times.Detail) (begun p c i) one.mid Continues one.put one.one in
     let k2 = same one.mid two.mid two.one.1 in
     let k3 : Stays two.mid three.mid = record { inputs = ap (λ (u : UnderWay). u.inputs) three.one.1; selected = ap (λ (u : UnderWay). u.selected) three.one.1 } in
     let k = stay (begun p c i) one.mid three.mid k1 (stay one.mid two.mid three.mid k2 k3) in

@@ -1,4 +1,4 @@
--- What a cycle puts out stands after what was there.
+-- What a cycle outputs stands after what was there.
 use Rattle.std.proofs.Common.{◌≡◌}
 use Rattle.rpg_cycle.proofs.Spending.{some_before}
 use Rattle.rpg_cycle.specs.Doing.{Beside, Does, DoesAlone, unselected}
@@ -11,7 +11,7 @@ use Rattle.rpg_program.specs.Fronts.{OnlyGrows}
 use Rattle.rpg_program.specs.Put.{Bytes}
 use Rattle.rpg_machine.specs.Running.{Behaviour, Did, Running}
 
--- a call of the machine put out no more than its lines and records
+-- a call of the machine output no more than its lines and records
 pub did_grow : {P : Behaviour} {a b : Running} {e : effects.End} → Did P a e b → OnlyGrows a.output b.output
 did_grow {P} {a} {b} {e} d =
     let o = some_before a.last in

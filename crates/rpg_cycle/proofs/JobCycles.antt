@@ -7,7 +7,7 @@ use Rattle.rpg_cycle.specs.Doing.{Does, Beside, holding, under_way, unselected}
 use Rattle.rpg_cycle_records.specs.Earlier.{Left, Selected, left_by, with_record}
 use Rattle.rpg_cycle_records.specs.Merging.{AreMergedInOrder}
 use Rattle.rpg_cycle_records.specs.Waiting.{Inputs, finds_match}
-use Rattle.rpg_cycle.specs.Ends.{GoesOn, PhaseEnd}
+use Rattle.rpg_cycle.specs.Ends.{Continues, PhaseEnd}
 use Rattle.rpg_cycle.specs.Job.{AtWork, DoesCycle, IsFollowing, feed_at, with_feed}
 use Rattle.rpg_cycle_records.specs.Keeping.{noted, renewed_by, selected_as}
 use Rattle.rpg_cycle.specs.Phases.{Cycle, CycleOn, UnderWay, begun}
@@ -32,7 +32,7 @@ abbrev pub CycleBy : Object → Left → Option (List ℕ) → Option (List ℕ)
 CycleBy p left primary secondary c e d out = CycleOn p left (finds_match p left) primary secondary c e d out
 
 -- a record that was selected is one more of those that left what is kept
-pub one_more : (old new : AtWork) (earlier : List Selected) (previous : Option Position) (x y : Option (List ℕ)) → AreMergedInOrder old.program earlier old.inputs → DoesCycle old earlier previous x y GoesOn new →
+pub one_more : (old new : AtWork) (earlier : List Selected) (previous : Option Position) (x y : Option (List ℕ)) → AreMergedInOrder old.program earlier old.inputs → DoesCycle old earlier previous x y Continues new →
     IsFollowing old.program new.left new.inputs
 one_more old new earlier previous x y order d = record {
   earlier = with_record d.there.selected earlier;
@@ -53,18 +53,18 @@ cycle_of p earlier previous x y m left i e out d same is order c =
 feed_none : (b : Bytes) → b ≡ with_feed [] b
 feed_none b = ap (λ x. record { print = x; disk = b.disk }) (sym (append-nil b.print))
 
--- the job goes on
-pub goes_on : (p : Object) (earlier : List Selected) (previous : Option Position) (x y : Option (List ℕ)) (m b : Running) (left now : Left) (i j : Inputs) (stage : Stage) (t : Option ℕ) (text : List ℕ) → m.program ≡ p →
+-- the job continues
+pub continues : (p : Object) (earlier : List Selected) (previous : Option Position) (x y : Option (List ℕ)) (m b : Running) (left now : Left) (i j : Inputs) (stage : Stage) (t : Option ℕ) (text : List ℕ) → m.program ≡ p →
     left ≡ left_by p earlier → AreMergedInOrder p earlier i → m.last ≡ line_of previous → now ≡ noted p t (renewed_by p t text left) →
-    Does (CycleBy p left x y) (refilled m) (unselected i) GoesOn b (holding j t text) → DoesCycle (job p m left i stage) earlier previous x y GoesOn (job p b now j Going)
-goes_on p earlier previous x y m b left now i j stage t text same is order placed kept d =
+    Does (CycleBy p left x y) (refilled m) (unselected i) Continues b (holding j t text) → DoesCycle (job p m left i stage) earlier previous x y Continues (job p b now j Going)
+continues p earlier previous x y m b left now i j stage t text same is order placed kept d =
     let z = d.following previous placed in
     record {
       stage = refl;
       program = refl;
       there = under_way (config_on (last_position_from previous z.out.lines) b.config) (holding j t text);
       out = z.out;
-      cycle = cycle_of p earlier previous x y m left i GoesOn z.out _ same is order z.phase;
+      cycle = cycle_of p earlier previous x y m left i Continues z.out _ same is order z.phase;
       config = refl;
       left = λ h. kept ∙ ap (λ (l : Left). noted p t (renewed_by p t text l)) is ∙ leaves p earlier t text;
       inputs = λ h. refl;
@@ -72,7 +72,7 @@ goes_on p earlier previous x y m b left now i j stage t text same is order place
       bytes = z.bytes ∙ feed_none _;
     }
 
-stops_not : (e : JobEnd) → job_end e ≡ GoesOn → ⊥
+stops_not : (e : JobEnd) → job_end e ≡ Continues → ⊥
 stops_not jobs.EndOfJob h = cc
 stops_not (jobs.Halt k) h = cc
 

@@ -3,9 +3,9 @@ use Rattle.std.proofs.Common.{◌≡◌, ℕ, List, Option, None, Some, refl, sy
 use Rattle.rpg_program.specs.Ends as effects
 use Rattle.rpg_cycle.specs.Doing.{Does, Beside, DoesAlone, holding}
 use Rattle.rpg_cycle_records.specs.Waiting.{Inputs}
-use Rattle.rpg_cycle.specs.Ends.{GoesOn, PhaseEnd, phase_end}
+use Rattle.rpg_cycle.specs.Ends.{Continues, PhaseEnd, phase_end}
 use Rattle.rpg_cycle.specs.Phases.{by_machine, fill_fields, output, section}
-use Rattle.rpg_machine.specs.Outputs.{FillsFields, PutsOut}
+use Rattle.rpg_machine.specs.Outputs.{FillsFields, Outputs}
 use Rattle.rpg_machine.specs.Run.{RunsTo}
 use Rattle.rpg_machine.specs.Running.{Behaviour, Did, Running}
 use Rattle.rpg_machine.specs.declared.time.OutputTime.{OutputTime}
@@ -24,8 +24,8 @@ machine_does P a b last s d = record {
 ended_so : (P : Behaviour) (a b : Running) (last : effects.End) (e : PhaseEnd) (s : Beside) → phase_end last ≡ e → Did P a last b → Does (by_machine P) a s e b s
 ended_so P a b last e s is d = subst (λ (x : PhaseEnd). Does (by_machine P) a s x b s) is (machine_does P a b last s d)
 
-pub put_out : (time : OutputTime) (a b : Running) (last : effects.End) (e : PhaseEnd) → phase_end last ≡ e → Did (PutsOut a.program time) a last b → DoesAlone (output a.program time) a e b
-put_out time a b last e is d = record { each = λ s. ended_so (PutsOut a.program time) a b last e s is d }
+pub output_lines : (time : OutputTime) (a b : Running) (last : effects.End) (e : PhaseEnd) → phase_end last ≡ e → Did (Outputs a.program time) a last b → DoesAlone (output a.program time) a e b
+output_lines time a b last e is d = record { each = λ s. ended_so (Outputs a.program time) a b last e s is d }
 
 pub calculated : (s : Section) (a b : Running) (last : effects.End) (e : PhaseEnd) → phase_end last ≡ e → Did (RunsTo a.program s) a last b → DoesAlone (section a.program s) a e b
 calculated s a b last e is d = record { each = λ x. ended_so (RunsTo a.program s) a b last e x is d }
@@ -46,9 +46,9 @@ filled i o t text a b last e there is d =
     (filled_fields a.program i t text a b e (ended_so (FillsFields a.program t text) a b last e s is d))
 
 -- no record was selected
-pub nothing_filled : (p : Object) (i : Inputs) (o : Option ℕ) (text : List ℕ) (a : Running) → o ≡ None → Does (fill_fields p) a (holding i o text) GoesOn a (holding i o text)
+pub nothing_filled : (p : Object) (i : Inputs) (o : Option ℕ) (text : List ℕ) (a : Running) → o ≡ None → Does (fill_fields p) a (holding i o text) Continues a (holding i o text)
 nothing_filled p i o text a none =
-    subst (λ (x : Option ℕ). Does (fill_fields p) a (holding i x text) GoesOn a (holding i x text)) (sym none) (record {
+    subst (λ (x : Option ℕ). Does (fill_fields p) a (holding i x text) Continues a (holding i x text)) (sym none) (record {
       program = refl;
       following = λ previous l. record { out = Rattle.rpg_machine.specs.Config.no_output; phase = (refl, refl, refl); last = l; bytes = Rattle.rpg_cycle.proofs.Composing.output_none previous a.output };
     })

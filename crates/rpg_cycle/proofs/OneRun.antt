@@ -8,7 +8,7 @@ use Rattle.rpg_program.specs.World.{Fields, World}
 use Rattle.rpg_cycle_records.specs.Earlier.{Left, Selected, left_by, with_record}
 use Rattle.rpg_cycle_records.specs.Waiting.{Inputs, has_match, unread}
 use Rattle.rpg_program.specs.declared.input.InputFile.TheVariants.{Primary, Secondary}
-use Rattle.rpg_cycle.specs.Ends.{PhaseEnd, GoesOn, EndOfJob, Halt, Wrong, phase_end}
+use Rattle.rpg_cycle.specs.Ends.{PhaseEnd, Continues, EndOfJob, Halt, Wrong, phase_end}
 use Rattle.rpg_cycle.specs.Indicators.{is_on, last_record}
 use Rattle.rpg_cycle.specs.Phases.{CycleOn, Done, Phase, UnderWay, begun, by_machine, without_output, either, fill_from, from_there, needs_record, output, nothing_done, section, select_record, unless, ◌before◌}
 use Rattle.rpg_cycle.specs.Runs.{Course, IsRun, Records, RunsIn, ends_or, left_following, next_of, printed, stored, with_cycle}
@@ -35,8 +35,8 @@ put_stop o (Next c more) h = absurd h
 put_stop o (Stop e c more) h = tt
 
 step_same : (b : Bool) (s : Outcome) (c : Config) (go there : Config → Outcome) → ((d : Config) → IsStop (go d) → IsStop (there d) → go d ≡ there d) →
-    IsStop (cond b (Stop effects.GoesOn c no_output) (onward s go)) → IsStop (cond b (Stop effects.GoesOn c no_output) (onward s there)) →
-    cond b (Stop effects.GoesOn c no_output) (onward s go) ≡ cond b (Stop effects.GoesOn c no_output) (onward s there)
+    IsStop (cond b (Stop effects.Continues c no_output) (onward s go)) → IsStop (cond b (Stop effects.Continues c no_output) (onward s there)) →
+    cond b (Stop effects.Continues c no_output) (onward s go) ≡ cond b (Stop effects.Continues c no_output) (onward s there)
 step_same true s c go there f h g = refl
 step_same false (Stop e d o) c go there f h g = refl
 step_same false (Next d o) c go there f h g = ap (put_before o) (f d (put_stop o (go d) h) (put_stop o (there d) g))
@@ -100,7 +100,7 @@ does_fixed : (f : UnderWay → Done) → IsFixed (without_output f)
 does_fixed f = record { same = λ c e k x y a b h g. record { end = h.0 ∙ sym g.0; there = h.1 ∙ sym g.1; out = h.2 ∙ sym g.2 } }
 
 from_there_fixed : (Q : Phase) → IsFixed Q → (f : PhaseEnd) (m : UnderWay) (put : Output) (e k : PhaseEnd) (x y : UnderWay) (a b : Output) → from_there Q f m put e x a → from_there Q f m put k y b → IsSame e k x y a b
-from_there_fixed Q q GoesOn m put e k x y a b h g =
+from_there_fixed Q q Continues m put e k x y a b h g =
     let s = q.same m e k x y h.0 g.0 h.1 g.1 in record { end = s.end; there = s.there; out = h.2 ∙ ap (with_more put) s.out ∙ sym g.2 }
 from_there_fixed Q q EndOfJob m put e k x y a b h g = record { end = h.0 ∙ sym g.0; there = h.1 ∙ sym g.1; out = h.2 ∙ sym g.2 }
 from_there_fixed Q q (Halt n) m put e k x y a b h g = record { end = h.0 ∙ sym g.0; there = h.1 ∙ sym g.1; out = h.2 ∙ sym g.2 }
@@ -161,7 +161,7 @@ ends_same e f x y a b R S u v s one h g =
     cases e h (subst (λ (z : PhaseEnd). ends_or z x a S v) (sym s.end) (subst (λ (z : UnderWay). ends_or f z a S v) (sym s.there) (subst (λ (z : Output). ends_or f y z S v) (sym s.out) g)))
   where
     cases : (k : PhaseEnd) → ends_or k x a R u → ends_or k x a S v → u ≡ v
-    cases GoesOn l m = l.2 ∙ ap (with_cycle x.config a) (one l.0 m.0 l.1 m.1) ∙ sym m.2
+    cases Continues l m = l.2 ∙ ap (with_cycle x.config a) (one l.0 m.0 l.1 m.1) ∙ sym m.2
     cases EndOfJob l m = l ∙ sym m
     cases (Halt n) l m = l ∙ sym m
     cases (Wrong n) l m = l ∙ sym m

@@ -5,9 +5,9 @@ use Rattle.std.specs.FinSet as set
 use Rattle.std.specs.Ordering.{nat_cmp}
 use Rattle.rpg_paper.specs.Paper.{Position, skipped, spaced, turns_overflow_on}
 use Rattle.rpg_program.specs.Effect.{Effect, Leaves, go_on, then_go, unless_wrong}
-use Rattle.rpg_program.specs.Ends.{End, Fault, GoesOn, Halt, Wrong}
+use Rattle.rpg_program.specs.Ends.{End, Fault, Continues, Halt, Wrong}
 use Rattle.rpg_program.specs.LineFaults.{line_fault}
-use Rattle.rpg_program.specs.Lines.{Draft, Line, after_movement, after_skip, after_space, assembled, blank_line, blanked_all, detail_output, is_asked, line_out, lines_out, one_out, put_on, put_out, settled, spaced_after, spaced_before, where_asked, with_fields}
+use Rattle.rpg_program.specs.Lines.{Draft, Line, after_movement, after_skip, after_space, assembled, blank_line, blanked_all, detail_output, is_due, line_out, lines_out, one_out, put_on, output_lines, settled, spaced_after, spaced_before, where_due, with_fields}
 use Rattle.rpg_program.specs.Showing.{turned_off, turned_on}
 use Rattle.rpg_program.specs.World.{World}
 use Rattle.rpg_program.specs.declared.form.FieldForm.{FieldForm}
@@ -54,7 +54,7 @@ both : (n : ℕ) (w : World nat_cmp) (e : Effect nat_cmp) (go : World nat_cmp �
 both n w e go h g = cases e.ending
   where
     cases : (k : End) → Keeps n w (go_on k e go).world
-    cases GoesOn = then_keeps n w e.world (go e.world).world h (g e.world)
+    cases Continues = then_keeps n w e.world (go e.world).world h (g e.world)
     cases (Halt k) = h
     cases (Wrong f) = h
 
@@ -89,13 +89,13 @@ put_on_keeps n o Printer s text w h =
 put_on_keeps n o Disk s text w h = nothing n w
 
 module _ (forms : ℕ → Option FieldForm) (words : ℕ → List ℕ) where
-  put_out_keeps : (n : ℕ) (o : Option ℕ) (l : Line ℕ) (w : World nat_cmp) (e : End) (d : Draft nat_cmp) → IsOther o n → Keeps n w (put_out forms words o l w e d).world
-  put_out_keeps n o l w GoesOn d h =
+  output_keeps : (n : ℕ) (o : Option ℕ) (l : Line ℕ) (w : World nat_cmp) (e : End) (d : Draft nat_cmp) → IsOther o n → Keeps n w (output_lines forms words o l w e d).world
+  output_keeps n o l w Continues d h =
       let drawn = with_fields d.fields w in
       let put = put_on_keeps n o l.file l.spacing d.text drawn h in
       both n w (put_on o l.file l.spacing d.text drawn) (λ v. Leaves (with_fields (blanked_all d.to_blank v.data.fields) v)) (record { same = put.same }) (λ v. record { same = refl })
-  put_out_keeps n o l w (Halt k) d h = record { same = refl }
-  put_out_keeps n o l w (Wrong f) d h = record { same = refl }
+  output_keeps n o l w (Halt k) d h = record { same = refl }
+  output_keeps n o l w (Wrong f) d h = record { same = refl }
 
   unless_keeps : (n : ℕ) (f : Option Fault) (w : World nat_cmp) (e : Effect nat_cmp) → Keeps n w e.world → Keeps n w (unless_wrong f w e).world
   unless_keeps n None w e h = h
@@ -105,15 +105,15 @@ module _ (forms : ℕ → Option FieldForm) (words : ℕ → List ℕ) where
   unfolding line_out
   line_keeps n o l w h =
       let drawn = assembled forms words w.data.on l.len l.fields (blank_line l.len w) in
-      unless_keeps n (line_fault l.len l.spacing) w (put_out forms words o l w drawn.ending drawn.draft) (put_out_keeps n o l w drawn.ending drawn.draft h)
+      unless_keeps n (line_fault l.len l.spacing) w (output_lines forms words o l w drawn.ending drawn.draft) (output_keeps n o l w drawn.ending drawn.draft h)
 
-  asked_keeps : (n : ℕ) (b : Bool) (e : Effect nat_cmp) (w : World nat_cmp) → Keeps n w e.world → Keeps n w (where_asked forms words b e w).world
+  asked_keeps : (n : ℕ) (b : Bool) (e : Effect nat_cmp) (w : World nat_cmp) → Keeps n w e.world → Keeps n w (where_due forms words b e w).world
   asked_keeps n true e w h = h
   asked_keeps n false e w h = nothing n w
 
   one_keeps : (n : ℕ) (o : Option ℕ) (pass : Pass) (l : Line ℕ) (w : World nat_cmp) → IsOther o n → Keeps n w (one_out forms words o pass l w).world
   unfolding one_out
-  one_keeps n o pass l w h = asked_keeps n (is_asked o pass w.data.on l.time l.alternatives) (line_out forms words o l w) w (line_keeps n o l w h)
+  one_keeps n o pass l w h = asked_keeps n (is_due o pass w.data.on l.time l.alternatives) (line_out forms words o l w) w (line_keeps n o l w h)
 
   lines_keep : (n : ℕ) (o : Option ℕ) (pass : Pass) (ls : List (Line ℕ)) (w : World nat_cmp) → IsOther o n → Keeps n w (lines_out forms words o pass ls w).world
   unfolding lines_out

@@ -9,7 +9,7 @@ use Rattle.rpg_cycle.proofs.Files.{file_orderly, none_up, or_up, settled_spent, 
 use Rattle.rpg_cycle_records.proofs.Order.{not_both}
 use Rattle.rpg_cycle_records.specs.Earlier.{Selected, control_fields, file_at, last_value, left_by, match_value, or_before, with_record}
 use Rattle.rpg_program.specs.Ends as effects
-use Rattle.rpg_cycle.specs.Ends.{GoesOn, Wrong}
+use Rattle.rpg_cycle.specs.Ends.{Continues, Wrong}
 use Rattle.rpg_cycle.specs.Indicators.{with_levels, with_type}
 use Rattle.rpg_cycle_records.specs.Levels.{is_in_record}
 use Rattle.rpg_cycle_records.specs.Matching.{is_greater}
@@ -104,7 +104,7 @@ orderly_with p earlier i f s h w other =
 picked : (p : Object) (earlier : List Selected) (f : InputFile) (s : Selected) (c d : UnderWay) (b : Bool) (x y : UnderWay) → AreMergedInOrder p earlier c.inputs → waiting_in c.inputs f ≡ Some s →
     (is_spent p (other_file f) (input_at c.inputs (other_file f)) ≡ true) ⊎ IsBefore p (match_value p s) (input_at c.inputs (other_file f)) →
     x.selected ≡ Some s → x.inputs ≡ with_waiting f None c.inputs →
-    GoesOn ≡ (let r : Done = cond b (done GoesOn x) (done (Wrong effects.Storage) y) in r).end → d ≡ (let r : Done = cond b (done GoesOn x) (done (Wrong effects.Storage) y) in r).leads → Picked p earlier d
+    Continues ≡ (let r : Done = cond b (done Continues x) (done (Wrong effects.Storage) y) in r).end → d ≡ (let r : Done = cond b (done Continues x) (done (Wrong effects.Storage) y) in r).leads → Picked p earlier d
 picked p earlier f s c d false x y h w other is left goes leads = absurd (cc)
 picked p earlier f s c d true x y h w other is left goes leads =
     let r = orderly_with p earlier c.inputs f s h w other in
@@ -115,7 +115,7 @@ picked p earlier f s c d true x y h w other is left goes leads =
 
 from_file : (p : Object) (earlier : List Selected) (f : InputFile) (s : Selected) (c d : UnderWay) → AreMergedInOrder p earlier c.inputs → waiting_in c.inputs f ≡ Some s →
     (is_spent p (other_file f) (input_at c.inputs (other_file f)) ≡ true) ⊎ IsBefore p (match_value p s) (input_at c.inputs (other_file f)) →
-    GoesOn ≡ (select_waiting p (left_by p earlier) f (Some s) c).end → d ≡ (select_waiting p (left_by p earlier) f (Some s) c).leads → Picked p earlier d
+    Continues ≡ (select_waiting p (left_by p earlier) f (Some s) c).end → d ≡ (select_waiting p (left_by p earlier) f (Some s) c).leads → Picked p earlier d
 from_file p earlier f s c d h w other goes leads =
     let c' = with_config (with_type (type_indicator (slice_get p.types s.type))) (with_inputs (with_waiting f None) c) in
     picked p earlier f s c d (list_all (is_in_record (length s.text)) (control_fields p s.type))
@@ -125,7 +125,7 @@ from_file p earlier f s c d h w other goes leads =
 -- of two records that wait
 of_two : (p : Object) (earlier : List Selected) (s t : Selected) (c d : UnderWay) (m n : Option (List ℕ)) → match_value p s ≡ m → match_value p t ≡ n → AreMergedInOrder p earlier c.inputs →
     waiting_in c.inputs Primary ≡ Some s → waiting_in c.inputs Secondary ≡ Some t →
-    GoesOn ≡ (select_from p (left_by p earlier) (Some (first_of m n)) c).end → d ≡ (select_from p (left_by p earlier) (Some (first_of m n)) c).leads → Picked p earlier d
+    Continues ≡ (select_from p (left_by p earlier) (Some (first_of m n)) c).end → d ≡ (select_from p (left_by p earlier) (Some (first_of m n)) c).leads → Picked p earlier d
 of_two p earlier s t c d None n own theirs h v w goes leads =
     from_file p earlier Primary s c d h v (inr (record { other = t; waits = w; before = subst (λ (o : Option (List ℕ)). GoesBefore o (match_value p t)) (sym own) tt }))
     (goes ∙ ap (λ (o : Option Selected). (select_waiting p (left_by p earlier) Primary o c).end) v) (leads ∙ ap (λ (o : Option Selected). (select_waiting p (left_by p earlier) Primary o c).leads) v)
@@ -134,7 +134,7 @@ of_two p earlier s t c d (Some x) None own theirs h v w goes leads =
     (goes ∙ ap (λ (o : Option Selected). (select_waiting p (left_by p earlier) Secondary o c).end) w) (leads ∙ ap (λ (o : Option Selected). (select_waiting p (left_by p earlier) Secondary o c).leads) w)
 of_two p earlier s t c d (Some x) (Some y) own theirs h v w goes leads = go (is_greater x y) refl goes leads
   where
-    go : (b : Bool) → is_greater x y ≡ b → GoesOn ≡ (select_from p (left_by p earlier) (Some (cond b Secondary Primary)) c).end →
+    go : (b : Bool) → is_greater x y ≡ b → Continues ≡ (select_from p (left_by p earlier) (Some (cond b Secondary Primary)) c).end →
         d ≡ (select_from p (left_by p earlier) (Some (cond b Secondary Primary)) c).leads → Picked p earlier d
     go true e goes leads =
         from_file p earlier Secondary t c d h w (inr (record {
@@ -160,11 +160,11 @@ unselected p earlier d e h = record {
 }
 
 pub selects : (p : Object) (earlier : List Selected) (c d : UnderWay) (out : Output) → AreMergedInOrder p earlier c.inputs → c.selected ≡ None → takes_in p c.inputs Primary ≡ false →
-    takes_in p c.inputs Secondary ≡ false → select_one p (left_by p earlier) c GoesOn d out → Picked p earlier d
+    takes_in p c.inputs Secondary ≡ false → select_one p (left_by p earlier) c Continues d out → Picked p earlier d
 selects p earlier c d out h none first second g = go (waiting_in c.inputs Primary) (waiting_in c.inputs Secondary) refl refl
     (g.0) (g.1)
   where
-    go : (v w : Option Selected) → waiting_in c.inputs Primary ≡ v → waiting_in c.inputs Secondary ≡ w → GoesOn ≡ (select_from p (left_by p earlier) (chosen p v w) c).end →
+    go : (v w : Option Selected) → waiting_in c.inputs Primary ≡ v → waiting_in c.inputs Secondary ≡ w → Continues ≡ (select_from p (left_by p earlier) (chosen p v w) c).end →
         d ≡ (select_from p (left_by p earlier) (chosen p v w) c).leads → Picked p earlier d
     go None None a b goes leads = unselected p earlier d (ap (λ (u : UnderWay). u.selected) leads ∙ none) (subst (λ (u : UnderWay). AreMergedInOrder p earlier u.inputs) (sym leads) h)
     go (Some s) None a b goes leads =

@@ -14,9 +14,9 @@ use Rattle.rpg_cycle.specs.Doing.{Does, Beside, holding, unselected, under_way}
 use Rattle.rpg_cycle.specs.Indicators.{is_on, last_record, level_indicators, with_all, with_levels, with_one, with_type}
 use Rattle.rpg_cycle_records.proofs.Recording.{filled_characters}
 use Rattle.rpg_cycle_records.specs.Earlier.{Left, Selected, file_of, last_of_file, match_fields, match_value, control_fields}
-use Rattle.rpg_cycle.specs.Ends.{GoesOn, Halt, PhaseEnd}
+use Rattle.rpg_cycle.specs.Ends.{Continues, Halt, PhaseEnd}
 use Rattle.rpg_cycle_records.specs.Fitting.{IsControlIn}
-use Rattle.rpg_cycle_records.specs.Identifying.{IsOf, IsOfNone, identified, is_good_record, padded, trial_weight}
+use Rattle.rpg_cycle_records.specs.Identifying.{IsOf, IsOfNone, identified, is_valid_record, padded, trial_weight}
 use Rattle.rpg_cycle_records.specs.Keeping.{left_of, renewed, renewed_by, seen_levels, seen_value, selected_as, value_following}
 use Rattle.rpg_cycle_records.specs.Levels.{broken_in, is_in_record}
 use Rattle.rpg_cycle_records.specs.Matching.{exceeds}
@@ -54,27 +54,27 @@ all_inside len (f ∷ fs) h = and (is_in_record len f) (list_all (is_in_record l
 abbrev pub taken : Object → InputFile → List ℕ → ℕ → Config → Config
 taken p f text t c = charged (length (match_fields p t)) (charged (trial_weight f p.types text) c)
 
-reads_one : (p : Object) (left : Left) (f : InputFile) (text full : List ℕ) (i : Inputs) (c : Config) (t : ℕ) → is_good_record p f text ≡ true → padded p f text ≡ full → identified f 0 p.types full ≡ IsOf t →
+reads_one : (p : Object) (left : Left) (f : InputFile) (text full : List ℕ) (i : Inputs) (c : Config) (t : ℕ) → is_valid_record p f text ≡ true → padded p f text ≡ full → identified f 0 p.types full ≡ IsOf t →
     list_all (is_in_record (length full)) (match_fields p t) ≡ true → exceeds (last_of_file left f) (match_value p (record { type = t; text = full })) ≡ false →
-    read_record p left f (Some text) (under_way c (unselected i)) ≡ done GoesOn (under_way (taken p f full t c) (unselected (with_waiting f (Some (record { type = t; text = full })) i)))
-reads_one p left f text full i c t good e is there low = rw good (rw e (rw is (rw there (rw low refl))))
+    read_record p left f (Some text) (under_way c (unselected i)) ≡ done Continues (under_way (taken p f full t c) (unselected (with_waiting f (Some (record { type = t; text = full })) i)))
+reads_one p left f text full i c t valid e is there low = rw valid (rw e (rw is (rw there (rw low refl))))
 
-reads_low : (p : Object) (left : Left) (f : InputFile) (text full : List ℕ) (i : Inputs) (c : Config) (t : ℕ) → is_good_record p f text ≡ true → padded p f text ≡ full → identified f 0 p.types full ≡ IsOf t →
+reads_low : (p : Object) (left : Left) (f : InputFile) (text full : List ℕ) (i : Inputs) (c : Config) (t : ℕ) → is_valid_record p f text ≡ true → padded p f text ≡ full → identified f 0 p.types full ≡ IsOf t →
     list_all (is_in_record (length full)) (match_fields p t) ≡ true → exceeds (last_of_file left f) (match_value p (record { type = t; text = full })) ≡ true →
     read_record p left f (Some text) (under_way c (unselected i)) ≡ done (Halt 8) (under_way (taken p f full t c) (unselected i))
-reads_low p left f text full i c t good e is there low = rw good (rw e (rw is (rw there (rw low refl))))
+reads_low p left f text full i c t valid e is there low = rw valid (rw e (rw is (rw there (rw low refl))))
 
-reads_none : (p : Object) (left : Left) (f : InputFile) (text full : List ℕ) (i : Inputs) (c : Config) → is_good_record p f text ≡ true → padded p f text ≡ full → identified f 0 p.types full ≡ IsOfNone →
+reads_none : (p : Object) (left : Left) (f : InputFile) (text full : List ℕ) (i : Inputs) (c : Config) → is_valid_record p f text ≡ true → padded p f text ≡ full → identified f 0 p.types full ≡ IsOfNone →
     read_record p left f (Some text) (under_way c (unselected i)) ≡ done (Halt 3) (under_way (charged (trial_weight f p.types full) c) (unselected i))
-reads_none p left f text full i c good e is = rw good (rw e (rw is refl))
+reads_none p left f text full i c valid e is = rw valid (rw e (rw is refl))
 
-reads_bad : (p : Object) (left : Left) (f : InputFile) (text : List ℕ) (i : Inputs) (c : Config) → is_good_record p f text ≡ false → read_record p left f (Some text) (under_way c (unselected i)) ≡ done (Halt 7) (under_way c (unselected i))
+reads_bad : (p : Object) (left : Left) (f : InputFile) (text : List ℕ) (i : Inputs) (c : Config) → is_valid_record p f text ≡ false → read_record p left f (Some text) (under_way c (unselected i)) ≡ done (Halt 7) (under_way c (unselected i))
 reads_bad p left f text i c bad = rw bad refl
 
 -- ---- what was read
 
 -- a bad record
-pub refused : (p : Object) (left : Left) (f : InputFile) (text : List ℕ) (i : Inputs) (a : Running) (e : JobEnd) → is_good_record p f text ≡ false → job_end e ≡ Halt 7 → HasRead p left f (Some text) i a (job_end e) a i
+pub refused : (p : Object) (left : Left) (f : InputFile) (text : List ℕ) (i : Inputs) (a : Running) (e : JobEnd) → is_valid_record p f text ≡ false → job_end e ≡ Halt 7 → HasRead p left f (Some text) i a (job_end e) a i
 refused p left f text i a e bad is = record {
   config = a.config;
   read = λ previous. reads_bad p left f text i (config_on previous a.config) bad ∙ ap (λ (x : PhaseEnd). done x (under_way (config_on previous a.config) (unselected i))) (sym is);
@@ -82,11 +82,11 @@ refused p left f text i a e bad is = record {
 }
 
 -- no type takes the record
-pub untaken : (p : Object) (left : Left) (f : InputFile) (text full : List ℕ) (i : Inputs) (a b : Running) (e : JobEnd) → is_good_record p f text ≡ true → full ≡ padded p f text →
+pub untaken : (p : Object) (left : Left) (f : InputFile) (text full : List ℕ) (i : Inputs) (a b : Running) (e : JobEnd) → is_valid_record p f text ≡ true → full ≡ padded p f text →
     IsUntaken p f full a e b → HasRead p left f (Some text) i a (job_end e) b i
-untaken p left f text full i a b e good is u = record {
+untaken p left f text full i a b e valid is u = record {
   config = charged (trial_weight f p.types full) a.config;
-  read = λ previous. reads_none p left f text full i (config_on previous a.config) good (sym is) u.type
+  read = λ previous. reads_none p left f text full i (config_on previous a.config) valid (sym is) u.type
       ∙ ap (λ (x : PhaseEnd). done x (under_way (charged (trial_weight f p.types full) (config_on previous a.config)) (unselected i))) (sym u.end);
   machine = u.machine;
 }
@@ -97,25 +97,25 @@ pub charged_so : (p : Object) (f : InputFile) (full : List ℕ) (t : ℕ) (a b c
 charged_so p f full t a b c one two = two ∙ ap (λ (x : Running). let r : Running = record x { config = charged (length (match_fields p t)) x.config } in r) one.machine
 
 -- its match value is too low
-pub too_low : (p : Object) (left : Left) (f : InputFile) (text full : List ℕ) (i : Inputs) (t : ℕ) (a b c : Running) (e : JobEnd) → is_good_record p f text ≡ true → full ≡ padded p f text → TakesType p f full a t b →
+pub too_low : (p : Object) (left : Left) (f : InputFile) (text full : List ℕ) (i : Inputs) (t : ℕ) (a b c : Running) (e : JobEnd) → is_valid_record p f text ≡ true → full ≡ padded p f text → TakesType p f full a t b →
     All (IsControlIn (length full)) (match_fields p t) → c ≡ record b { config = charged (length (match_fields p t)) b.config } →
     exceeds (last_of_file left f) (match_value p (record { type = t; text = full })) ≡ true → job_end e ≡ Halt 8 → HasRead p left f (Some text) i a (job_end e) c i
-too_low p left f text full i t a b c e good is one fields two low h = record {
+too_low p left f text full i t a b c e valid is one fields two low h = record {
   config = taken p f full t a.config;
-  read = λ previous. reads_low p left f text full i (config_on previous a.config) t good (sym is) one.type (all_inside (length full) (match_fields p t) fields) low
+  read = λ previous. reads_low p left f text full i (config_on previous a.config) t valid (sym is) one.type (all_inside (length full) (match_fields p t) fields) low
       ∙ ap (λ (x : PhaseEnd). done x (under_way (taken p f full t (config_on previous a.config)) (unselected i))) (sym h);
   machine = charged_so p f full t a b c one two;
 }
 
 -- it waits
-pub waits : (p : Object) (left : Left) (f : InputFile) (text full : List ℕ) (i : Inputs) (x : InputState) (t : ℕ) (a b c : Running) → is_good_record p f text ≡ true → full ≡ padded p f text → TakesType p f full a t b →
+pub waits : (p : Object) (left : Left) (f : InputFile) (text full : List ℕ) (i : Inputs) (x : InputState) (t : ℕ) (a b c : Running) → is_valid_record p f text ≡ true → full ≡ padded p f text → TakesType p f full a t b →
     All (IsControlIn (length full)) (match_fields p t) → c ≡ record b { config = charged (length (match_fields p t)) b.config } →
     exceeds (last_of_file left f) (match_value p (record { type = t; text = full })) ≡ false →
-    x ≡ record { waiting = Some (record { type = t; text = full }); is_over = (input_at i f).is_over } → HasRead p left f (Some text) i a GoesOn c (with_input f x i)
-waits p left f text full i x t a b c good is one fields two low h = record {
+    x ≡ record { waiting = Some (record { type = t; text = full }); is_over = (input_at i f).is_over } → HasRead p left f (Some text) i a Continues c (with_input f x i)
+waits p left f text full i x t a b c valid is one fields two low h = record {
   config = taken p f full t a.config;
-  read = λ previous. reads_one p left f text full i (config_on previous a.config) t good (sym is) one.type (all_inside (length full) (match_fields p t) fields) low
-      ∙ ap (λ (y : InputState). done GoesOn (under_way (taken p f full t (config_on previous a.config)) (unselected (with_input f y i)))) (sym h);
+  read = λ previous. reads_one p left f text full i (config_on previous a.config) t valid (sym is) one.type (all_inside (length full) (match_fields p t) fields) low
+      ∙ ap (λ (y : InputState). done Continues (under_way (taken p f full t (config_on previous a.config)) (unselected (with_input f y i)))) (sym h);
   machine = charged_so p f full t a b c one two;
 }
 
@@ -142,18 +142,18 @@ waits_so k t text x w e o =
 
 -- ---- the phase
 
-pub settled : (p : Object) (left : Left) (f : InputFile) (next : Option (List ℕ)) (i : Inputs) (a : Running) → takes_in p i f ≡ false → Does (take_in p left f next) a (unselected i) GoesOn a (unselected i)
+pub settled : (p : Object) (left : Left) (f : InputFile) (next : Option (List ℕ)) (i : Inputs) (a : Running) → takes_in p i f ≡ false → Does (take_in p left f next) a (unselected i) Continues a (unselected i)
 settled p left f next i a h =
-    quietly (λ c. cond (takes_in p c.inputs f) (read_record p left f next c) (done GoesOn c)) a a (unselected i) (unselected i) GoesOn a.config (λ previous. rw h refl) refl
+    quietly (λ c. cond (takes_in p c.inputs f) (read_record p left f next c) (done Continues c)) a a (unselected i) (unselected i) Continues a.config (λ previous. rw h refl) refl
 
 pub asked : (p : Object) (left : Left) (f : InputFile) (next given : Option (List ℕ)) (i j : Inputs) (a b : Running) (e : PhaseEnd) → takes_in p i f ≡ true → next ≡ given → HasRead p left f given i a e b j →
     Does (take_in p left f next) a (unselected i) e b (unselected j)
 asked p left f next given i j a b e h is r =
-    quietly (λ c. cond (takes_in p c.inputs f) (read_record p left f next c) (done GoesOn c)) a b (unselected i) (unselected j) e r.config
+    quietly (λ c. cond (takes_in p c.inputs f) (read_record p left f next c) (done Continues c)) a b (unselected i) (unselected j) e r.config
     (λ previous. rw h (ap (λ (n : Option (List ℕ)). read_record p left f n (under_way (config_on previous a.config) (unselected i))) is ∙ r.read previous)) r.machine
 
 -- the file is at its end
-pub at_end : (p : Object) (left : Left) (f : InputFile) (i : Inputs) (a : Running) → HasRead p left f None i a GoesOn a (with_file_over f i)
+pub at_end : (p : Object) (left : Left) (f : InputFile) (i : Inputs) (a : Running) → HasRead p left f None i a Continues a (with_file_over f i)
 at_end p left f i a = record { config = a.config; read = λ previous. refl; machine = refl }
 
 -- ---- what is kept of a file, put in its place
@@ -163,9 +163,9 @@ put_back Primary i = refl
 put_back Secondary i = refl
 
 pub stays : (p : Object) (left : Left) (f : InputFile) (next : Option (List ℕ)) (i : Inputs) (x : InputState) (a : Running) → input_at i f ≡ x → takes_from p f x ≡ false →
-    Does (take_in p left f next) a (unselected i) GoesOn a (unselected (with_input f x i))
+    Does (take_in p left f next) a (unselected i) Continues a (unselected (with_input f x i))
 stays p left f next i x a is h =
-    subst (λ (j : Inputs). Does (take_in p left f next) a (unselected i) GoesOn a (unselected j)) (sym (put_back f i) ∙ ap (λ (y : InputState). with_input f y i) is)
+    subst (λ (j : Inputs). Does (take_in p left f next) a (unselected i) Continues a (unselected j)) (sym (put_back f i) ∙ ap (λ (y : InputState). with_input f y i) is)
     (settled p left f next i a (ap (takes_from p f) is ∙ h))
 
 none_there : (b : Bool) (i : InputState) → (b && (not i.is_over && is_none i.waiting)) ≡ true → i.waiting ≡ None
@@ -178,11 +178,11 @@ none_there b i h = none b i.is_over i.waiting h
     none false c o h = cc
 
 pub ends : (p : Object) (left : Left) (f : InputFile) (next : Option (List ℕ)) (i : Inputs) (x y : InputState) (a : Running) → input_at i f ≡ x → takes_from p f x ≡ true → next ≡ None →
-    y ≡ record { waiting = x.waiting; is_over = true } → Does (take_in p left f next) a (unselected i) GoesOn a (unselected (with_input f y i))
+    y ≡ record { waiting = x.waiting; is_over = true } → Does (take_in p left f next) a (unselected i) Continues a (unselected (with_input f y i))
 ends p left f next i x y a is h none e =
-    subst (λ (z : InputState). Does (take_in p left f next) a (unselected i) GoesOn a (unselected (with_input f z i)))
+    subst (λ (z : InputState). Does (take_in p left f next) a (unselected i) Continues a (unselected (with_input f z i)))
     (ap (λ (o : Option Selected). let z : InputState = record { waiting = o; is_over = true } in z) (sym (none_there (has_file p f) x h)) ∙ sym e)
-    (asked p left f next None i (with_file_over f i) a a GoesOn (ap (takes_from p f) is ∙ h) none (at_end p left f i a))
+    (asked p left f next None i (with_file_over f i) a a Continues (ap (takes_from p f) is ∙ h) none (at_end p left f i a))
 
 pub taken_costs : (p : Object) (f : InputFile) (full : List ℕ) (t : ℕ) (a b c : Running) → TakesType p f full a t b → c ≡ record b { config = charged (length (match_fields p t)) b.config } → SpendsTakingIn p f a c
 taken_costs p f full t a b c one two =
@@ -218,14 +218,14 @@ pub over_kept : (p : Object) (f : InputFile) (k : KeptFile) → IsFileKept p f k
 over_kept p f k h = λ t e. let x = h t e in record { there = x.there; own = x.own; whole = x.whole; characters = x.characters; value = x.value }
 
 -- the record that was filled waits
-pub kept_waiting : (p : Object) (f : InputFile) (text full : List ℕ) (t : ℕ) (k : KeptFile) → is_good_record p f text ≡ true → full ≡ padded p f text → length full ≡ input_length p f → t < length p.types → file_of (slice_get p.types t) ≡ f →
+pub kept_waiting : (p : Object) (f : InputFile) (text full : List ℕ) (t : ℕ) (k : KeptFile) → is_valid_record p f text ≡ true → full ≡ padded p f text → length full ≡ input_length p f → t < length p.types → file_of (slice_get p.types t) ≡ f →
     k.waiting ≡ Some t → k.record.items ≡ full → seen_value k.value ≡ match_value p (record { type = t; text = full }) → IsFileKept p f k
-kept_waiting p f text full t k good filled whole there own waiting held value =
+kept_waiting p f text full t k valid filled whole there own waiting held value =
     subst (λ (o : Option ℕ). ForSome o (λ n. HoldsRecord p f k n)) (sym waiting) (of_some (λ n. HoldsRecord p f k n) t (record {
       there = there;
       own = own;
       whole = ap length held ∙ whole ∙ sym (ap (input_length p) own);
-      characters = subst (λ (xs : List ℕ). All IsCharacter xs) (sym (held ∙ filled)) (filled_characters p f text good);
+      characters = subst (λ (xs : List ℕ). All IsCharacter xs) (sym (held ∙ filled)) (filled_characters p f text valid);
       value = value ∙ ap (λ (xs : List ℕ). match_value p (record { type = t; text = xs })) (sym held);
     }))
 
@@ -257,7 +257,7 @@ nothing_waits p left f i x text a is none = record {
   config = a.config;
   leads = λ previous.
       ap (λ (o : Option Selected). select_waiting p left f o (under_way (config_on previous a.config) (unselected i))) (ap (λ (y : InputState). y.waiting) is ∙ none)
-      ∙ ap (λ (j : Inputs). done GoesOn (under_way (config_on previous a.config) (unselected j))) (sym (put_back f i) ∙ ap (λ (y : InputState). with_input f y i) is);
+      ∙ ap (λ (j : Inputs). done Continues (under_way (config_on previous a.config) (unselected j))) (sym (put_back f i) ∙ ap (λ (y : InputState). with_input f y i) is);
   machine = refl;
 }
 
@@ -299,7 +299,7 @@ compared_on previous p left t text c =
     ∙ ap (λ (x : Config). with_all levels true (weight x)) (type_on previous (type_indicator (slice_get p.types t)) c)
 
 selects_it : (p : Object) (left : Left) (f : InputFile) (i : Inputs) (t : ℕ) (text : List ℕ) (c : Config) → list_all (is_in_record (length text)) (control_fields p t) ≡ true →
-    select_waiting p left f (Some (record { type = t; text = text })) (under_way c (unselected i)) ≡ done GoesOn (under_way (compared_so p left t text c) (holding (with_waiting f None i) (Some t) text))
+    select_waiting p left f (Some (record { type = t; text = text })) (under_way c (unselected i)) ≡ done Continues (under_way (compared_so p left t text c) (holding (with_waiting f None i) (Some t) text))
 selects_it p left f i t text c there = rw there refl
 
 pub one_waits : (p : Object) (left : Left) (f : InputFile) (i : Inputs) (x y : InputState) (t : ℕ) (text : List ℕ) (a b : Running) (now : List (Option (List ℕ))) → input_at i f ≡ x →
@@ -310,8 +310,8 @@ one_waits p left f i x y t text a b now is waits e h = record {
   leads = λ previous.
       ap (λ (o : Option Selected). select_waiting p left f o (under_way (config_on previous a.config) (unselected i))) (ap (λ (z : InputState). z.waiting) is ∙ waits)
       ∙ selects_it p left f i t text (config_on previous a.config) (all_inside (length text) (control_fields p t) h.inside)
-      ∙ ap (λ (c : Config). done GoesOn (under_way c (holding (with_waiting f None i) (Some t) text))) (sym (compared_on previous p left t text a.config))
-      ∙ ap (λ (z : InputState). done GoesOn (under_way (config_on previous (compared_so p left t text a.config)) (holding (with_input f z i) (Some t) text)))
+      ∙ ap (λ (c : Config). done Continues (under_way c (holding (with_waiting f None i) (Some t) text))) (sym (compared_on previous p left t text a.config))
+      ∙ ap (λ (z : InputState). done Continues (under_way (config_on previous (compared_so p left t text a.config)) (holding (with_input f z i) (Some t) text)))
       (ap (λ (z : InputState). let w : InputState = record { waiting = None; is_over = z.is_over } in w) is ∙ sym e);
   machine = h.machine;
 }
@@ -327,9 +327,9 @@ compared_spends p n fs text bytes now a b h =
 -- ---- one of the records that wait
 
 pub picks : (p : Object) (left : Left) (f : InputFile) (i j : Inputs) (t : Option ℕ) (text : List ℕ) (a b : Running) → chosen p (waiting_in i Primary) (waiting_in i Secondary) ≡ Some f →
-    HasSelected p left f i a t text b j → Does (select_one p left) a (unselected i) GoesOn b (holding j t text)
+    HasSelected p left f i a t text b j → Does (select_one p left) a (unselected i) Continues b (holding j t text)
 picks p left f i j t text a b is h =
-    quietly (λ c. select_from p left (chosen p (waiting_in c.inputs Primary) (waiting_in c.inputs Secondary)) c) a b (unselected i) (holding j t text) GoesOn h.config
+    quietly (λ c. select_from p left (chosen p (waiting_in c.inputs Primary) (waiting_in c.inputs Secondary)) c) a b (unselected i) (holding j t text) Continues h.config
     (λ previous. ap (λ (o : Option InputFile). select_from p left o (under_way (config_on previous a.config) (unselected i))) is ∙ h.leads previous) h.machine
 
 -- the text that is kept of the record
@@ -340,9 +340,9 @@ text_of_file p k f (Some n) h = ap (λ (g : InputFile). selected_as (Some n) (la
 -- the file's record was selected
 picks_from : (p : Object) (f : InputFile) (old now : Kept) (t : Option ℕ) (a b : Running) → chosen p (waiting_in (inputs_of old) Primary) (waiting_in (inputs_of old) Secondary) ≡ Some f →
     HasSelected p (left_of old) f (inputs_of old) a t (last_record_in now f) b (inputs_of now) → t ≡ (kept_at old f).waiting → IsFileKept p f (kept_at old f) →
-    Does (select_one p (left_of old)) a (unselected (inputs_of old)) GoesOn b (holding (inputs_of now) t (text_in p now t))
+    Does (select_one p (left_of old)) a (unselected (inputs_of old)) Continues b (holding (inputs_of now) t (text_in p now t))
 picks_from p f old now t a b is h same kept =
-    subst (λ (o : Option Selected). let s : Beside = record { inputs = inputs_of now; selected = o } in Does (select_one p (left_of old)) a (unselected (inputs_of old)) GoesOn b s)
+    subst (λ (o : Option Selected). let s : Beside = record { inputs = inputs_of now; selected = o } in Does (select_one p (left_of old)) a (unselected (inputs_of old)) Continues b s)
     (sym (text_of_file p now f t (λ n e. (kept n (sym same ∙ e)).own)))
     (picks p (left_of old) f (inputs_of old) (inputs_of now) t (last_record_in now f) a b is h)
 
@@ -408,10 +408,10 @@ picked_from p f old now levels values t a b is kept left inputs other up = recor
 pub none_picked : (p : Object) (k : Kept) (a b : Running) → chosen p (waiting_in (inputs_of k) Primary) (waiting_in (inputs_of k) Secondary) ≡ None →
     b ≡ record a { config = with_all level_indicators true (with_one last_record true a.config) } → (IsReady a → IsReady b) → AreFilesKept p k → IsPicked p k a None k b
 none_picked p k a b none is ready kept = record {
-  goes = quietly (λ c. select_from p (left_of k) (chosen p (waiting_in c.inputs Primary) (waiting_in c.inputs Secondary)) c) a b (unselected i) (unselected i) GoesOn all
+  goes = quietly (λ c. select_from p (left_of k) (chosen p (waiting_in c.inputs Primary) (waiting_in c.inputs Secondary)) c) a b (unselected i) (unselected i) Continues all
       (λ previous.
       ap (λ (o : Option InputFile). select_from p (left_of k) o (under_way (config_on previous a.config) (unselected i))) none
-      ∙ ap (λ (c : Config). done GoesOn (under_way c (unselected i))) (sym (all_on previous level_indicators true (with_one last_record true a.config)))) is;
+      ∙ ap (λ (c : Config). done Continues (under_way c (unselected i))) (sym (all_on previous level_indicators true (with_one last_record true a.config)))) is;
   ready = ready;
   spends = keeps_reach p 0 a b all is (record { steps = kept_steps.steps ∙ zero-right a.config.steps; allowance = kept_steps.allowance });
   held = of_none _;
@@ -435,18 +435,18 @@ none_picked p k a b none is ready kept = record {
 
 -- LR is on
 pub at_last : (p : Object) (left : Left) (primary secondary : Option (List ℕ)) (i : Inputs) (a b : Running) → is_on a.config last_record ≡ true → b ≡ record a { config = with_all level_indicators true a.config } →
-    Does (select_record p left primary secondary) a (unselected i) GoesOn b (unselected i)
+    Does (select_record p left primary secondary) a (unselected i) Continues b (unselected i)
 at_last p left primary secondary i a b on is =
-    let P = without_output (λ c. done GoesOn (with_config (with_all level_indicators true) c)) in
+    let P = without_output (λ c. done Continues (with_config (with_all level_indicators true) c)) in
     let Q = take_in p left Primary primary before take_in p left Secondary secondary before select_one p left in
-    let d = quietly (λ c. done GoesOn (with_config (with_all level_indicators true) c)) a b (unselected i) (unselected i) GoesOn (with_all level_indicators true a.config)
-    (λ previous. ap (λ (c : Config). done GoesOn (under_way c (unselected i))) (sym (all_on previous level_indicators true a.config))) is in
+    let d = quietly (λ c. done Continues (with_config (with_all level_indicators true) c)) a b (unselected i) (unselected i) Continues (with_all level_indicators true a.config)
+    (λ previous. ap (λ (c : Config). done Continues (under_way c (unselected i))) (sym (all_on previous level_indicators true a.config))) is in
     record {
       program = d.program;
       following = λ previous l.
           let x = d.following previous l in record {
             out = x.out;
-            phase = subst (λ (z : Bool). either z P Q (under_way (config_on previous a.config) (unselected i)) GoesOn (under_way (config_on (last_position_from previous x.out.lines) b.config) (unselected i)) x.out)
+            phase = subst (λ (z : Bool). either z P Q (under_way (config_on previous a.config) (unselected i)) Continues (under_way (config_on (last_position_from previous x.out.lines) b.config) (unselected i)) x.out)
                 (sym on) x.phase;
             last = x.last;
             bytes = x.bytes;
@@ -457,7 +457,7 @@ at_last p left primary secondary i a b on is =
 pub not_last : (p : Object) (left : Left) (primary secondary : Option (List ℕ)) (a b : Running) (s t : Beside) (e : PhaseEnd) → is_on a.config last_record ≡ false →
     Does (take_in p left Primary primary before take_in p left Secondary secondary before select_one p left) a s e b t → Does (select_record p left primary secondary) a s e b t
 not_last p left primary secondary a b s t e off d =
-    let P = without_output (λ c. done GoesOn (with_config (with_all level_indicators true) c)) in
+    let P = without_output (λ c. done Continues (with_config (with_all level_indicators true) c)) in
     let Q = take_in p left Primary primary before take_in p left Secondary secondary before select_one p left in
     record {
       program = d.program;

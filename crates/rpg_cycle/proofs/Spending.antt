@@ -24,7 +24,7 @@ use Rattle.rpg_cycle.specs.Phases.{all_off, has_no_overflow}
 use Rattle.rpg_cycle.specs.Spending.{SpendsSelecting, Spends, SpendsTakingIn, compared_weight, cycle_weight, fields_weight, full_page_weight, matched_weight, phases_weight, reach, record_weight, section_cost, totals_weight}
 use Rattle.rpg_machine.specs.Config.{Config, charged}
 use Rattle.rpg_machine.specs.Potential.{PaysForSection}
-use Rattle.rpg_machine.specs.Outputs.{FillsFields, PutsOut, inputs_at, input_fields_of, output_weight}
+use Rattle.rpg_machine.specs.Outputs.{FillsFields, Outputs, inputs_at, input_fields_of, output_weight}
 use Rattle.rpg_machine.specs.Running.{Did, Running, refilled, with_indicator}
 use Rattle.rpg_machine.specs.declared.time.OutputTime.{OutputTime}
 use Rattle.rpg_machine.specs.declared.time.OutputTime.TheVariants as outputs
@@ -62,7 +62,7 @@ turns_free p n on a b is = reach_of p 0 a b (ap (λ (r : Running). r.config.step
     zero-right : (n : ℕ) → n ≡ n + 0
     zero-right n = omega arith
 
--- a full page is put out only where there is an overflow indicator
+-- a full page is output only where there is an overflow indicator
 pub page_spends : (p : Object) (c : Config) {a b : Running} → has_no_overflow p.overflow c ≡ false → Spends p (output_weight p outputs.Overflow) a b → Spends p (full_page_weight p) a b
 page_spends p c {a} {b} off s = subst (λ (n : ℕ). Spends p n a b) (weight p.overflow c (output_weight p outputs.Overflow) off) s
   where
@@ -82,8 +82,8 @@ section_spends s a b low = record { few = in_order a.config.steps (section_cost 
     in_order : (x y z n : ℕ) → n ≤ x + y + z → n ≤ x + z + y
     in_order x y z n h = omega (arith, h)
 
--- what the machine puts out, and the fields that it fills
-pub output_spends : (time : OutputTime) (e : effects.End) (a b : Running) → Did (PutsOut a.program time) a e b → Spends a.program (output_weight a.program time) a b
+-- what the machine outputs, and the fields that it fills
+pub output_spends : (time : OutputTime) (e : effects.End) (a b : Running) → Did (Outputs a.program time) a e b → Spends a.program (output_weight a.program time) a b
 output_spends time e a b d =
     let o = some_before a.last in
     let x = (d.following o.0 o.1).act.leads in

@@ -5,8 +5,8 @@ use Rattle.rpg_cycle.proofs.Composing.{ends, goes, goes_own, left_out, memory_bo
 use Rattle.rpg_cycle.proofs.Growing.{and_grows}
 use Rattle.rpg_cycle.proofs.Spending.{and_less, and_then, costs_none, of_same}
 use Rattle.rpg_cycle.specs.Doing.{Beside, Does, DoesAlone, DoesHolding}
-use Rattle.rpg_cycle.specs.Ends.{GoesOn, PhaseEnd, phase_end}
-use Rattle.rpg_cycle.specs.Phases.{Phase, detail_lines, halt_where_asked, set_off, unless, ◌before◌}
+use Rattle.rpg_cycle.specs.Ends.{Continues, PhaseEnd, phase_end}
+use Rattle.rpg_cycle.specs.Phases.{Phase, detail_lines, halt_if_indicated, set_off, unless, ◌before◌}
 use Rattle.rpg_cycle.specs.Spending.{Spends, cycle_weight, reach, section_cost}
 use Rattle.rpg_cycle.specs.Stages.{IfStops, UnlessNoMemory, job_end}
 use Rattle.rpg_cycle.specs.Staging.{CanDo, CanSpend, DoesPhase, DoesStage}
@@ -87,10 +87,10 @@ lines_few p {a} {b} few s within low =
 -- ---- a phase that selects nothing, whatever is beside it
 
 -- what the machine answered is passed on
-pub answered : {P : Phase} {n : ℕ} {a b : Running} (last : answers.End) (r : Result (Unit {0}) PhaseStop) → IfOk r (λ _. last ≡ ways.GoesOn) → IfStops r (λ e. phase_end (effects.end_of last) ≡ job_end e) →
-    ((e : PhaseEnd) → phase_end (effects.end_of last) ≡ e → DoesAlone P a e b) → (last ≡ ways.GoesOn → IsReady b) → Spends a.program n a b → OnlyGrows a.output b.output → DoesPhase P n a r b
+pub answered : {P : Phase} {n : ℕ} {a b : Running} (last : answers.End) (r : Result (Unit {0}) PhaseStop) → IfOk r (λ _. last ≡ ways.Continues) → IfStops r (λ e. phase_end (effects.end_of last) ≡ job_end e) →
+    ((e : PhaseEnd) → phase_end (effects.end_of last) ≡ e → DoesAlone P a e b) → (last ≡ ways.Continues → IsReady b) → Spends a.program n a b → OnlyGrows a.output b.output → DoesPhase P n a r b
 answered last r on off did ready few grown = record {
-  goes = ok_map r _ _ (λ x h. did GoesOn (ap (λ (e : answers.End). phase_end (effects.end_of e)) h)) on;
+  goes = ok_map r _ _ (λ x h. did Continues (ap (λ (e : answers.End). phase_end (effects.end_of e)) h)) on;
   stops = stops_map r _ _ (λ e h. did (job_end e) h) off;
   ready = ok_map r _ _ (λ x h. ready h) on;
   spends = memory_both r _ few;
@@ -118,7 +118,7 @@ leaves_out test P n a ready h = record { goes = left_out test P a h; stops = tt;
 pub leaves_in : (test : Config → Bool) {P : Phase} {n : ℕ} {a b : Running} {r : Result (Unit {0}) PhaseStop} → ((previous : Option Position) → test (config_on previous a.config) ≡ false) → DoesPhase P n a r b →
     DoesPhase (unless test P) n a r b
 leaves_in test {P} {n} {a} {b} {r} h x = record {
-  goes = ok_map r _ _ (λ u d. not_left_out test P a b GoesOn h d) x.goes;
+  goes = ok_map r _ _ (λ u d. not_left_out test P a b Continues h d) x.goes;
   stops = stops_map r _ _ (λ e d. not_left_out test P a b (job_end e) h d) x.stops;
   ready = x.ready;
   spends = x.spends;
@@ -135,7 +135,7 @@ phase_ends {P} Q {n} m {a} {b} s r is x = record {
   grows = x.grows;
 }
 
--- it goes on, and then one of the machine's own program is done
+-- it continues, and then one of the machine's own program is done
 pub phase_then : (F : Object → Phase) (w : Object → ℕ) {P : Phase} {n : ℕ} {a b c : Running} {u : Unit {0}} {r : Result (Unit {0}) PhaseStop} → DoesPhase P n a (Ok u) b → DoesPhase (F b.program) (w b.program) b r c →
     DoesPhase (P before F a.program) (n + w a.program) a r c
 phase_then F w {P} {n} {a} {b} {c} {u} {r} x y = record {
@@ -157,9 +157,9 @@ of_test {P} {p} {a} h s d = record { goes = tt; stops = d; ready = tt; spends = 
 -- ---- one phase, and those that follow it
 
 module _ {p : Object} {P Q : Phase} {n : ℕ} (m : ℕ) {h : Beside} {a b : Running} where
-  -- the one goes on
-  pub goes_on : {c : Running} {r : Result (Unit {0}) PhaseStop} → DoesHolding P h a GoesOn b → Spends p n a b → OnlyGrows a.output b.output → DoesStage p Q m h b r c → DoesStage p (P before Q) (n + m) h a r c
-  goes_on {c} {r} d s g x = record {
+  -- the one continues
+  pub continues : {c : Running} {r : Result (Unit {0}) PhaseStop} → DoesHolding P h a Continues b → Spends p n a b → OnlyGrows a.output b.output → DoesStage p Q m h b r c → DoesStage p (P before Q) (n + m) h a r c
+  continues {c} {r} d s g x = record {
     goes = ok_map r _ _ (λ u e. goes d e) x.goes;
     stops = stops_map r _ _ (λ e f. goes d f) x.stops;
     ready = x.ready;
@@ -181,8 +181,8 @@ free_then : (x y z m : ℕ) → y ≤ x + 0 → z ≤ y + m → z ≤ x + m
 free_then x y z m h g = omega (arith, h, g)
 
 module _ {p : Object} {P Q : Phase} (m : ℕ) {h : Beside} {a b : Running} where
-  -- a phase that costs nothing goes on
-  pub goes_free : {c : Running} {r : Result (Unit {0}) PhaseStop} → DoesHolding P h a GoesOn b → Spends p 0 a b → OnlyGrows a.output b.output → DoesStage p Q m h b r c → DoesStage p (P before Q) m h a r c
+  -- a phase that costs nothing continues
+  pub goes_free : {c : Running} {r : Result (Unit {0}) PhaseStop} → DoesHolding P h a Continues b → Spends p 0 a b → OnlyGrows a.output b.output → DoesStage p Q m h b r c → DoesStage p (P before Q) m h a r c
   goes_free {c} {r} d s g x = record {
     goes = ok_map r _ _ (λ u e. goes d e) x.goes;
     stops = stops_map r _ _ (λ e f. goes d f) x.stops;
@@ -207,6 +207,6 @@ module _ {p : Object} {P Q : Phase} (m : ℕ) {h : Beside} {a b : Running} where
 -- ---- the phases before the selection
 
 -- they went on, and then others were done
-pub first_three : (p : Object) {Q : Phase} {a b d c : Running} (h : Beside) {u : Beside} {e : PhaseEnd} → DoesAlone (detail_lines p) a GoesOn b → DoesAlone halt_where_asked b GoesOn b → DoesAlone (set_off p) b GoesOn d →
-    Does Q d h e c u → Does (detail_lines p before halt_where_asked before set_off p before Q) a h e c u
+pub first_three : (p : Object) {Q : Phase} {a b d c : Running} (h : Beside) {u : Beside} {e : PhaseEnd} → DoesAlone (detail_lines p) a Continues b → DoesAlone halt_if_indicated b Continues b → DoesAlone (set_off p) b Continues d →
+    Does Q d h e c u → Does (detail_lines p before halt_if_indicated before set_off p before Q) a h e c u
 first_three p h x y z r = goes (x.each h) (goes (y.each h) (goes (z.each h) r))

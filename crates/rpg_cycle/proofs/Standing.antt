@@ -2,7 +2,7 @@
 use Rattle.std.proofs.Common.{◌≡◌, ◌+◌, ℕ, ℤ, zero, suc, Bool, true, false, cond, not, ◌&&◌, eqb, eq-eqb, List, [], ◌∷◌, length, slice_get, take, Option, None, Some, refl, sym, ap, ◌∙◌, subst, inl, inr, arith}
 use Rattle.std.specs.List.{list_all}
 use Rattle.std.specs.Ordering.{nat_cmp}
-use Rattle.rpg_cycle.specs.Ends.{PhaseEnd, GoesOn, EndOfJob, Halt, Wrong, phase_end}
+use Rattle.rpg_cycle.specs.Ends.{PhaseEnd, Continues, EndOfJob, Halt, Wrong, phase_end}
 use Rattle.rpg_cycle.specs.Indicators.{is_on, last_record, level_indicators, with_all, with_levels, with_one, with_type, without_type, without_types}
 use Rattle.rpg_cycle.specs.Phases.{CycleOn, Done, Phase, UnderWay, all_off, begun, broken_level, by_machine, without_output, done, either, fill_from, from_there, identify, needs_record, output, nothing_done, read_record, section, select_from, select_record, select_waiting, take_type, type_indicator, unless, with_config, with_inputs, ◌before◌}
 use Rattle.rpg_cycle.specs.Runs.{Course, Records, RunsIn, ends_or, left_following, next_of}
@@ -13,7 +13,7 @@ use Rattle.rpg_cycle_records.specs.Matching.{exceeds}
 use Rattle.rpg_cycle_records.specs.Waiting.{Inputs, chosen, has_match, takes_in, unread, waiting_in, with_waiting}
 use Rattle.rpg_program.specs.declared.input.InputFile.{InputFile}
 use Rattle.rpg_program.specs.declared.input.InputFile.TheVariants.{Primary, Secondary}
-use Rattle.rpg_cycle_records.specs.Identifying.{IsOf, IsOfNone, Misplaced, Trial, identified, is_good_record, padded, trial_weight}
+use Rattle.rpg_cycle_records.specs.Identifying.{IsOf, IsOfNone, Misplaced, Trial, identified, is_valid_record, padded, trial_weight}
 use Rattle.rpg_cycle_records.specs.Levels.{is_in_record}
 use Rattle.rpg_program.specs.Effect.{Effect}
 use Rattle.rpg_program.specs.Ends as effects
@@ -84,7 +84,7 @@ module _ (p : Object) where
     right : (c : UnderWay) (e : PhaseEnd) (d : UnderWay) (out : Output) → P c e d out → running_place p c.config ≡ None → StandsRightAtEnd p e d.config
 
   outside : (e : PhaseEnd) (d : Config) → running_place p d ≡ None → StandsRightAtEnd p e d
-  outside GoesOn d none = none
+  outside Continues d none = none
   outside EndOfJob d none = none
   outside (Halt k) d none = inl none
   outside (Wrong f) d none = tt
@@ -99,7 +99,7 @@ module _ (p : Object) where
   effect_stands weight effect = record { right = λ c e d out h none. outside e d.config (ap (λ (x : Config). running_place p x) h.1.leads ∙ none) }
 
   section_ends : (last : effects.End) (d : Config) → machines.StandsRight p last d → StandsRightAtEnd p (phase_end last) d
-  section_ends effects.GoesOn d right = right
+  section_ends effects.Continues d right = right
   section_ends (effects.Halt k) d right = inr right
   section_ends (effects.Wrong f) d right = tt
 
@@ -111,7 +111,7 @@ module _ (p : Object) where
 
   there_stands : (Q : Phase) → Stands Q → (f : PhaseEnd) (m : UnderWay) (put : Output) (e : PhaseEnd) (d : UnderWay) (out : Output) →
       from_there Q f m put e d out → StandsRightAtEnd p f m.config → StandsRightAtEnd p e d.config
-  there_stands Q q GoesOn m put e d out h right = q.right m e d h.0 h.1 right
+  there_stands Q q Continues m put e d out h right = q.right m e d h.0 h.1 right
   there_stands Q q EndOfJob m put e d out h right = subst (λ (x : PhaseEnd). StandsRightAtEnd p x d.config) (sym h.0) (subst (λ (u : UnderWay). StandsRightAtEnd p EndOfJob u.config) (sym h.1) right)
   there_stands Q q (Halt k) m put e d out h right = subst (λ (x : PhaseEnd). StandsRightAtEnd p x d.config) (sym h.0) (subst (λ (u : UnderWay). StandsRightAtEnd p (Halt k) u.config) (sym h.1) right)
   there_stands Q q (Wrong f) m put e d out h right = subst (λ (x : PhaseEnd). StandsRightAtEnd p x d.config) (sym h.0) tt
@@ -132,7 +132,7 @@ module _ (p : Object) where
   -- ---- records are taken in, and one is selected
 
   matched_stays : (bad low : Bool) (f : Inputs → Inputs) (c : UnderWay) →
-      Stays c.config (cond bad (done (Wrong effects.Storage) c) (cond low (done (Halt 8) c) (done GoesOn (with_inputs f c)))).leads.config
+      Stays c.config (cond bad (done (Wrong effects.Storage) c) (cond low (done (Halt 8) c) (done Continues (with_inputs f c)))).leads.config
   matched_stays true low f c = still c.config
   matched_stays false true f c = still c.config
   matched_stays false false f c = still c.config
@@ -146,21 +146,21 @@ module _ (p : Object) where
   type_taken left f text IsOfNone c = still c.config
   type_taken left f text Misplaced c = still c.config
 
-  good_stays : (b : Bool) (left : Left) (f : InputFile) (text : List ℕ) (c : UnderWay) → Stays c.config (cond b (identify p left f text c) (done (Halt 7) c)).leads.config
-  good_stays true left f text c =
+  valid_stays : (b : Bool) (left : Left) (f : InputFile) (text : List ℕ) (c : UnderWay) → Stays c.config (cond b (identify p left f text c) (done (Halt 7) c)).leads.config
+  valid_stays true left f text c =
       let taken = type_taken left f text (identified f 0 p.types text) (with_config (charged (trial_weight f p.types text)) c) in record { section = taken.section; place = taken.place }
-  good_stays false left f text c = still c.config
+  valid_stays false left f text c = still c.config
 
   read_stays : (left : Left) (f : InputFile) (next : Option (List ℕ)) (c : UnderWay) → Stays c.config (read_record p left f next c).leads.config
   read_stays left f None c = still c.config
-  read_stays left f (Some text) c = good_stays (is_good_record p f text) left f (padded p f text) c
+  read_stays left f (Some text) c = valid_stays (is_valid_record p f text) left f (padded p f text) c
 
-  taking_stays : (b : Bool) (left : Left) (f : InputFile) (next : Option (List ℕ)) (c : UnderWay) → Stays c.config (cond b (read_record p left f next c) (done GoesOn c)).leads.config
+  taking_stays : (b : Bool) (left : Left) (f : InputFile) (next : Option (List ℕ)) (c : UnderWay) → Stays c.config (cond b (read_record p left f next c) (done Continues c)).leads.config
   taking_stays true left f next c = read_stays left f next c
   taking_stays false left f next c = still c.config
 
   levels_stay : (b : Bool) (s : Selected) (n m : ℕ) (c : UnderWay) →
-      Stays c.config (cond b (done GoesOn (with_config (λ x. with_levels n (charged m x)) (record c { selected = Some s }))) (done (Wrong effects.Storage) (with_config (charged m) c))).leads.config
+      Stays c.config (cond b (done Continues (with_config (λ x. with_levels n (charged m x)) (record c { selected = Some s }))) (done (Wrong effects.Storage) (with_config (charged m) c))).leads.config
   levels_stay true s n m c = let all = all_stay (take n level_indicators) true (charged m c.config) in record { section = all.section; place = all.place }
   levels_stay false s n m c = record { section = refl; place = refl }
 
@@ -210,7 +210,7 @@ module _ (p : Object) where
 
   ends_stand : (e : PhaseEnd) (d : UnderWay) (out : Output) (Rest : UnderWay → Course → Type 0) (course : Course) → StandsRightAtEnd p e d.config
       → (running_place p d.config ≡ None → (rest : Course) → Rest d rest → StandsRightAtEnd p rest.ending rest.there.config) → ends_or e d out Rest course → StandsRightAtEnd p course.ending course.there.config
-  ends_stand GoesOn d out Rest course right go (rest, h, is) = subst (λ (x : Course). StandsRightAtEnd p x.ending x.there.config) (sym is) (go right rest h)
+  ends_stand Continues d out Rest course right go (rest, h, is) = subst (λ (x : Course). StandsRightAtEnd p x.ending x.there.config) (sym is) (go right rest h)
   ends_stand EndOfJob d out Rest course right go is = subst (λ (x : Course). StandsRightAtEnd p x.ending x.there.config) (sym is) right
   ends_stand (Halt k) d out Rest course right go is = subst (λ (x : Course). StandsRightAtEnd p x.ending x.there.config) (sym is) right
   ends_stand (Wrong f) d out Rest course right go is = subst (λ (x : Course). StandsRightAtEnd p x.ending x.there.config) (sym is) right

@@ -9,8 +9,8 @@ use Rattle.rpg_program.specs.Object.{Object, has_file}
 use Rattle.rpg_cycle.proofs.Files.{file_orderly, over_spent, taking_none, taking_unspent, top_up, value_own, with_orderly}
 use Rattle.rpg_cycle_records.specs.Earlier.{Selected, file_at, file_of, last_of_file, last_value, left_by, match_fields, match_value, or_before}
 use Rattle.rpg_program.specs.Ends as effects
-use Rattle.rpg_cycle.specs.Ends.{GoesOn, Halt, Wrong}
-use Rattle.rpg_cycle_records.specs.Identifying.{Trial, IsOf, IsOfNone, Misplaced, padded, code_holds, identified, is_good_record, has_position, same_file, trial_weight}
+use Rattle.rpg_cycle.specs.Ends.{Continues, Halt, Wrong}
+use Rattle.rpg_cycle_records.specs.Identifying.{Trial, IsOf, IsOfNone, Misplaced, padded, code_holds, identified, is_valid_record, has_position, same_file, trial_weight}
 use Rattle.rpg_cycle_records.specs.Levels.{is_in_record}
 use Rattle.rpg_cycle_records.specs.Matching.{exceeds}
 use Rattle.rpg_cycle_records.specs.Merging.{AreMergedInOrder, IsTopOf, front}
@@ -119,19 +119,19 @@ waits p earlier f c s h free own low = record {
 
 -- ---- by the tests of the definition
 
-passed : (bad low : Bool) (x y w : UnderWay) (d : UnderWay) → GoesOn ≡ (let r : Done = cond bad (done (Wrong effects.Storage) x) (cond low (done (Halt 8) y) (done GoesOn w)) in r).end →
-    d ≡ (let r : Done = cond bad (done (Wrong effects.Storage) x) (cond low (done (Halt 8) y) (done GoesOn w)) in r).leads → (low ≡ false) × (d ≡ w)
+passed : (bad low : Bool) (x y w : UnderWay) (d : UnderWay) → Continues ≡ (let r : Done = cond bad (done (Wrong effects.Storage) x) (cond low (done (Halt 8) y) (done Continues w)) in r).end →
+    d ≡ (let r : Done = cond bad (done (Wrong effects.Storage) x) (cond low (done (Halt 8) y) (done Continues w)) in r).leads → (low ≡ false) × (d ≡ w)
 passed true low x y w d h e = absurd (cc)
 passed false true x y w d h e = absurd (cc)
 passed false false x y w d h e = (refl, e)
 
-good_one : (b : Bool) (x : Done) (c d : UnderWay) → GoesOn ≡ (let r : Done = cond b x (done (Halt 7) c) in r).end → d ≡ (let r : Done = cond b x (done (Halt 7) c) in r).leads →
-    (GoesOn ≡ x.end) × (d ≡ x.leads)
-good_one true x c d h e = (h, e)
-good_one false x c d h e = absurd (cc)
+valid_one : (b : Bool) (x : Done) (c d : UnderWay) → Continues ≡ (let r : Done = cond b x (done (Halt 7) c) in r).end → d ≡ (let r : Done = cond b x (done (Halt 7) c) in r).leads →
+    (Continues ≡ x.end) × (d ≡ x.leads)
+valid_one true x c d h e = (h, e)
+valid_one false x c d h e = absurd (cc)
 
 typed : (p : Object) (earlier : List Selected) (f : InputFile) (text : List ℕ) (c d : UnderWay) (t : Trial) → identified f 0 p.types text ≡ t → AreMergedInOrder p earlier c.inputs → takes_in p c.inputs f ≡ true →
-    GoesOn ≡ (take_type p (left_by p earlier) f text t c).end → d ≡ (take_type p (left_by p earlier) f text t c).leads → Taken p earlier f c d
+    Continues ≡ (take_type p (left_by p earlier) f text t c).end → d ≡ (take_type p (left_by p earlier) f text t c).leads → Taken p earlier f c d
 typed p earlier f text c d (IsOf k) is h free goes leads =
     let s : Selected = record { type = k; text = text } in
     let c' = with_config (charged (length (match_fields p k))) c in
@@ -143,21 +143,21 @@ typed p earlier f text c d IsOfNone is h free goes leads = absurd (cc)
 typed p earlier f text c d Misplaced is h free goes leads = absurd (cc)
 
 read : (p : Object) (earlier : List Selected) (f : InputFile) (next : Option (List ℕ)) (c d : UnderWay) → AreMergedInOrder p earlier c.inputs → takes_in p c.inputs f ≡ true →
-    GoesOn ≡ (read_record p (left_by p earlier) f next c).end → d ≡ (read_record p (left_by p earlier) f next c).leads → Taken p earlier f c d
+    Continues ≡ (read_record p (left_by p earlier) f next c).end → d ≡ (read_record p (left_by p earlier) f next c).leads → Taken p earlier f c d
 read p earlier f None c d h free goes leads = subst (λ (y : UnderWay). Taken p earlier f c y) (sym leads) (ended p earlier f c h)
 read p earlier f (Some text) c d h free goes leads =
-    let r = good_one (is_good_record p f text) (identify p (left_by p earlier) f (padded p f text) c) c d goes leads in
+    let r = valid_one (is_valid_record p f text) (identify p (left_by p earlier) f (padded p f text) c) c d goes leads in
     let c' = with_config (charged (trial_weight f p.types (padded p f text))) c in
     let x = typed p earlier f (padded p f text) c' d (identified f 0 p.types (padded p f text)) refl h free r.0 r.1 in
     record { orderly = x.orderly; selected = x.selected; settled = x.settled; other = x.other }
 
 by_test : (p : Object) (earlier : List Selected) (f : InputFile) (next : Option (List ℕ)) (c d : UnderWay) (b : Bool) → takes_in p c.inputs f ≡ b → AreMergedInOrder p earlier c.inputs →
-    GoesOn ≡ (let r : Done = cond b (read_record p (left_by p earlier) f next c) (done GoesOn c) in r).end →
-    d ≡ (let r : Done = cond b (read_record p (left_by p earlier) f next c) (done GoesOn c) in r).leads → Taken p earlier f c d
+    Continues ≡ (let r : Done = cond b (read_record p (left_by p earlier) f next c) (done Continues c) in r).end →
+    d ≡ (let r : Done = cond b (read_record p (left_by p earlier) f next c) (done Continues c) in r).leads → Taken p earlier f c d
 by_test p earlier f next c d true is h goes leads = read p earlier f next c d h is goes leads
 by_test p earlier f next c d false is h goes leads =
     subst (λ (y : UnderWay). Taken p earlier f c y) (sym leads) (record { orderly = h; selected = refl; settled = is; other = refl })
 
 pub takes : (p : Object) (earlier : List Selected) (f : InputFile) (next : Option (List ℕ)) (c d : UnderWay) (out : Output) → AreMergedInOrder p earlier c.inputs →
-    take_in p (left_by p earlier) f next c GoesOn d out → Taken p earlier f c d
+    take_in p (left_by p earlier) f next c Continues d out → Taken p earlier f c d
 takes p earlier f next c d out h g = by_test p earlier f next c d (takes_in p c.inputs f) refl h g.0 g.1

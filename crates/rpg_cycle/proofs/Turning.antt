@@ -8,7 +8,7 @@ use Rattle.rpg_cycle.proofs.Composing.{quietly}
 use Rattle.rpg_cycle.specs.Doing.{Does, Beside, DoesAlone, under_way}
 use Rattle.rpg_cycle_records.specs.Earlier.{Selected}
 use Rattle.rpg_cycle_records.specs.Waiting.{Inputs}
-use Rattle.rpg_cycle.specs.Ends.{GoesOn}
+use Rattle.rpg_cycle.specs.Ends.{Continues}
 use Rattle.rpg_cycle_records.specs.Fitting.{IsTypeFit}
 use Rattle.rpg_cycle.specs.Indicators.{first_page, last_record, level_indicators, matching_record, with_all, with_one, with_type, without_type, without_types}
 use Rattle.rpg_cycle.specs.Phases.{all_off, done, has_no_overflow, if_selected, set_off, show_match, with_config}
@@ -86,10 +86,10 @@ off_keeps p c =
 
 -- ---- the phase in which all goes off
 
-pub sets_off : (p : Object) (a b : Running) → b ≡ record a { config = all_off p a.config } → DoesAlone (set_off p) a GoesOn b
+pub sets_off : (p : Object) (a b : Running) → b ≡ record a { config = all_off p a.config } → DoesAlone (set_off p) a Continues b
 sets_off p a b is = record {
-  each = λ s. quietly (λ c. done GoesOn (with_config (all_off p) c)) a b s s GoesOn (all_off p a.config)
-      (λ previous. ap (λ (d : Config). done GoesOn (under_way d s)) (sym (off_on previous p a.config))) is;
+  each = λ s. quietly (λ c. done Continues (with_config (all_off p) c)) a b s s Continues (all_off p a.config)
+      (λ previous. ap (λ (d : Config). done Continues (under_way d s)) (sym (off_on previous p a.config))) is;
 }
 
 -- the indicators of types
@@ -101,7 +101,7 @@ row_indicators p ts h k d inside =
 -- ---- the phase that shows a match
 
 pub shows : (matches : Inputs → Selected → Bool) (is_match : Bool) (a b : Running) (h : Beside) → is_match ≡ if_selected (matches h.inputs) h.selected → b ≡ record a { config = with_one matching_record is_match a.config } →
-    Does (show_match matches) a h GoesOn b h
+    Does (show_match matches) a h Continues b h
 shows matches is_match a b h e is =
-    quietly (λ c. done GoesOn (with_config (with_one matching_record (if_selected (matches c.inputs) c.selected)) c)) a b h h GoesOn (with_one matching_record is_match a.config)
-    (λ previous. ap (λ (x : Bool). done GoesOn (under_way (with_one matching_record x (config_on previous a.config)) h)) (sym e)) is
+    quietly (λ c. done Continues (with_config (with_one matching_record (if_selected (matches c.inputs) c.selected)) c)) a b h h Continues (with_one matching_record is_match a.config)
+    (λ previous. ap (λ (x : Bool). done Continues (under_way (with_one matching_record x (config_on previous a.config)) h)) (sym e)) is

@@ -6,7 +6,7 @@ use Rattle.rpg_program.specs.Forms.{form_at}
 use Rattle.rpg_program.specs.Input.{TypeRow}
 use Rattle.rpg_cycle.proofs.Others.{IsOther, details_keep, insert_other, remove_other}
 use Rattle.rpg_cycle_records.specs.Earlier.{Left, Selected, last_of_file, left_by, match_fields, match_value}
-use Rattle.rpg_cycle_records.specs.Identifying.{IsOf, IsOfNone, Misplaced, Trial, identified, is_good_record, padded, trial_weight}
+use Rattle.rpg_cycle_records.specs.Identifying.{IsOf, IsOfNone, Misplaced, Trial, identified, is_valid_record, padded, trial_weight}
 use Rattle.rpg_cycle_records.specs.Levels.{is_in_record}
 use Rattle.rpg_cycle_records.specs.Matching.{exceeds}
 use Rattle.rpg_cycle_records.specs.Waiting.{InputState, Inputs, has_match, takes_in, with_waiting}
@@ -14,9 +14,9 @@ use Rattle.rpg_program.specs.Ends as effects
 use Rattle.rpg_program.specs.declared.input.InputFile.{InputFile}
 use Rattle.rpg_program.specs.declared.input.InputFile.TheVariants.{Primary, Secondary}
 use Rattle.std.specs.List.{list_all}
-use Rattle.rpg_cycle.specs.Ends.{PhaseEnd, GoesOn, EndOfJob, Halt, Wrong}
+use Rattle.rpg_cycle.specs.Ends.{PhaseEnd, Continues, EndOfJob, Halt, Wrong}
 use Rattle.rpg_cycle.specs.Indicators.{any_on, first_page, halt_indicators, is_on, last_record, level_indicators, with_all, with_one, without_type, without_types}
-use Rattle.rpg_cycle.specs.Phases.{Cycle, Done, Phase, UnderWay, all_off, begun, detail_lines, without_output, done, either, halt_where_asked, identify, needs_record, read_record, select_one, select_record, set_off, take_in, take_type, with_config, with_inputs, ◌before◌}
+use Rattle.rpg_cycle.specs.Phases.{Cycle, Done, Phase, UnderWay, all_off, begun, detail_lines, without_output, done, either, halt_if_indicated, identify, needs_record, read_record, select_one, select_record, set_off, take_in, take_type, with_config, with_inputs, ◌before◌}
 use Rattle.rpg_cycle.specs.Staging.{after_selection}
 use Rattle.rpg_machine.specs.Config.{Config, Output, charged}
 use Rattle.rpg_program.specs.Constants.{word_at}
@@ -79,11 +79,11 @@ pub record Agrees (P Q : Phase) (c : UnderWay) : Type 0 where
 first_agrees : (P Q R : Phase) (c : UnderWay) → Agrees P Q c → Agrees (P before R) (Q before R) c
 first_agrees P Q R c h = record { each = λ e d out g. (g.0, g.1, g.2, h.each g.0 g.1 g.2 g.3, g.4) }
 
-rest_agrees : (P Q R : Phase) (c : UnderWay) → ((m : UnderWay) (put : Output) → P c GoesOn m put → Agrees Q R m) → Agrees (P before Q) (P before R) c
+rest_agrees : (P Q R : Phase) (c : UnderWay) → ((m : UnderWay) (put : Output) → P c Continues m put → Agrees Q R m) → Agrees (P before Q) (P before R) c
 rest_agrees P Q R c h = record { each = cases }
   where
     cases : (e : PhaseEnd) (d : UnderWay) (out : Output) → (P before Q) c e d out → (P before R) c e d out
-    cases e d out (GoesOn, m, put, first, rest) = (GoesOn, m, put, first, (rest.0, (h m put first).each e d rest.0 rest.1, rest.2))
+    cases e d out (Continues, m, put, first, rest) = (Continues, m, put, first, (rest.0, (h m put first).each e d rest.0 rest.1, rest.2))
     cases e d out (EndOfJob, m, put, first, rest) = (EndOfJob, m, put, first, rest)
     cases e d out (Halt k, m, put, first, rest) = (Halt k, m, put, first, rest)
     cases e d out (Wrong f, m, put, first, rest) = (Wrong f, m, put, first, rest)
@@ -95,13 +95,13 @@ taken_alike false x y z h = refl
 
 takes_alike : (p : Object) (left : Left) (f : InputFile) (now next : Option (List ℕ)) (c : UnderWay) → takes_in p c.inputs f ≡ false → Agrees (take_in p left f now) (take_in p left f next) c
 takes_alike p left f now next c off =
-    let same = taken_alike (takes_in p c.inputs f) (read_record p left f now c) (read_record p left f next c) (done GoesOn c) off in
+    let same = taken_alike (takes_in p c.inputs f) (read_record p left f now c) (read_record p left f next c) (done Continues c) off in
     record { each = λ e d out h. (h.0 ∙ ap (λ (x : Done). x.end) same, h.1 ∙ ap (λ (x : Done). x.leads) same, h.2) }
 
 -- what is taken in from the primary file leaves the other one as it is
 module _ (p : Object) (left : Left) where
   matched_apart : (bad low : Bool) (s : Option Selected) (c : UnderWay) →
-      (cond bad (done (Wrong effects.Storage) c) (cond low (done (Halt 8) c) (done GoesOn (with_inputs (with_waiting Primary s) c)))).leads.inputs.secondary ≡ c.inputs.secondary
+      (cond bad (done (Wrong effects.Storage) c) (cond low (done (Halt 8) c) (done Continues (with_inputs (with_waiting Primary s) c)))).leads.inputs.secondary ≡ c.inputs.secondary
   matched_apart true low s c = refl
   matched_apart false true s c = refl
   matched_apart false false s c = refl
@@ -113,19 +113,19 @@ module _ (p : Object) (left : Left) where
   type_apart text IsOfNone c = refl
   type_apart text Misplaced c = refl
 
-  good_apart : (b : Bool) (text : List ℕ) (c : UnderWay) → (cond b (identify p left Primary text c) (done (Halt 7) c)).leads.inputs.secondary ≡ c.inputs.secondary
-  good_apart true text c = type_apart text (identified Primary 0 p.types text) (with_config (charged (trial_weight Primary p.types text)) c)
-  good_apart false text c = refl
+  valid_apart : (b : Bool) (text : List ℕ) (c : UnderWay) → (cond b (identify p left Primary text c) (done (Halt 7) c)).leads.inputs.secondary ≡ c.inputs.secondary
+  valid_apart true text c = type_apart text (identified Primary 0 p.types text) (with_config (charged (trial_weight Primary p.types text)) c)
+  valid_apart false text c = refl
 
   read_apart : (next : Option (List ℕ)) (c : UnderWay) → (read_record p left Primary next c).leads.inputs.secondary ≡ c.inputs.secondary
   read_apart None c = refl
-  read_apart (Some text) c = good_apart (is_good_record p Primary text) (padded p Primary text) c
+  read_apart (Some text) c = valid_apart (is_valid_record p Primary text) (padded p Primary text) c
 
-  taking_apart : (b : Bool) (next : Option (List ℕ)) (c : UnderWay) → (cond b (read_record p left Primary next c) (done GoesOn c)).leads.inputs.secondary ≡ c.inputs.secondary
+  taking_apart : (b : Bool) (next : Option (List ℕ)) (c : UnderWay) → (cond b (read_record p left Primary next c) (done Continues c)).leads.inputs.secondary ≡ c.inputs.secondary
   taking_apart true next c = read_apart next c
   taking_apart false next c = refl
 
-  still_none : (a : Option (List ℕ)) (c m : UnderWay) (put : Output) → take_in p left Primary a c GoesOn m put → takes_in p c.inputs Secondary ≡ false → takes_in p m.inputs Secondary ≡ false
+  still_none : (a : Option (List ℕ)) (c m : UnderWay) (put : Output) → take_in p left Primary a c Continues m put → takes_in p c.inputs Secondary ≡ false → takes_in p m.inputs Secondary ≡ false
   still_none a c m put g off =
       ap (λ (x : InputState). has_file p Secondary && (not x.is_over && is_none x.waiting))
       (ap (λ (u : UnderWay). u.inputs.secondary) g.1 ∙ taking_apart (takes_in p c.inputs Primary) a c) ∙ off
@@ -138,7 +138,7 @@ lit_alike P Q R c false h = h refl
 first_alike : (p : Object) (left : Left) (now next b : Option (List ℕ)) (c : UnderWay) → (is_on c.config last_record ≡ false → takes_in p c.inputs Primary ≡ false) →
     Agrees (select_record p left now b) (select_record p left next b) c
 first_alike p left now next b c off = record {
-  each = (lit_alike (without_output (λ c. done GoesOn (with_config (with_all level_indicators true) c))) (take_in p left Primary now before take_in p left Secondary b before select_one p left)
+  each = (lit_alike (without_output (λ c. done Continues (with_config (with_all level_indicators true) c))) (take_in p left Primary now before take_in p left Secondary b before select_one p left)
       (take_in p left Primary next before take_in p left Secondary b before select_one p left) c (is_on c.config last_record)
       (λ dark. first_agrees (take_in p left Primary now) (take_in p left Primary next) (take_in p left Secondary b before select_one p left) c (takes_alike p left Primary now next c (off dark)))).each;
 }
@@ -146,13 +146,13 @@ first_alike p left now next b c off = record {
 second_alike : (p : Object) (left : Left) (a now next : Option (List ℕ)) (c : UnderWay) → (is_on c.config last_record ≡ false → takes_in p c.inputs Secondary ≡ false) →
     Agrees (select_record p left a now) (select_record p left a next) c
 second_alike p left a now next c off = record {
-  each = (lit_alike (without_output (λ c. done GoesOn (with_config (with_all level_indicators true) c))) (take_in p left Primary a before take_in p left Secondary now before select_one p left)
+  each = (lit_alike (without_output (λ c. done Continues (with_config (with_all level_indicators true) c))) (take_in p left Primary a before take_in p left Secondary now before select_one p left)
       (take_in p left Primary a before take_in p left Secondary next before select_one p left) c (is_on c.config last_record)
       (λ dark. rest_agrees (take_in p left Primary a) (take_in p left Secondary now before select_one p left) (take_in p left Secondary next before select_one p left) c
       (λ m put g. first_agrees (take_in p left Secondary now) (take_in p left Secondary next) (select_one p left) m (takes_alike p left Secondary now next m (still_none p left a c m put g (off dark)))))).each;
 }
 
-not_asked : (b : Bool) → GoesOn ≡ cond b (Halt 6) GoesOn → b ≡ false
+not_asked : (b : Bool) → Continues ≡ cond b (Halt 6) Continues → b ≡ false
 not_asked true h = cc
 not_asked false h = refl
 
@@ -163,11 +163,11 @@ needed_not false false takes h g k = h
 
 -- ---- the cycle
 
-stays : (p : Object) (c : Config) (i : Inputs) (m : UnderWay) (put : Output) → IsProgram p → detail_lines p (begun p c i) GoesOn m put → (n : ℕ) → ((k : ℕ) → 112 ≤ k → k ≤ 119 → n ≡ k → ⊥) → is_on m.config n ≡ is_on c n
+stays : (p : Object) (c : Config) (i : Inputs) (m : UnderWay) (put : Output) → IsProgram p → detail_lines p (begun p c i) Continues m put → (n : ℕ) → ((k : ℕ) → 112 ≤ k → k ≤ 119 → n ≡ k → ⊥) → is_on m.config n ≡ is_on c n
 stays p c i m put kept g n far =
     ap (λ (x : Config). is_on x n) g.1.leads ∙ (details_keep (form_at p.fields) (word_at p) n p.overflow (lines_of p) c.world (others p.overflow n kept.overflow far)).same
 
-halts_stay : (p : Object) (c : Config) (i : Inputs) (m : UnderWay) (put : Output) → IsProgram p → detail_lines p (begun p c i) GoesOn m put → any_on m.config halt_indicators ≡ any_on c halt_indicators
+halts_stay : (p : Object) (c : Config) (i : Inputs) (m : UnderWay) (put : Output) → IsProgram p → detail_lines p (begun p c i) Continues m put → any_on m.config halt_indicators ≡ any_on c halt_indicators
 halts_stay p c i m put kept g =
     let s = stays p c i m put kept g in
     any_same c m.config halt_indicators (
@@ -190,7 +190,7 @@ halts_stay p c i m put kept g =
 -- the fourth phase agrees wherever the phases before it lead, if it does where LR is as it was and the files are
 module _ (p : Object) (left : Left) (matches : Inputs → Selected → Bool) (c : Config) (i : Inputs) (f : InputFile) (kept : IsProgram p) (needless : needs_record p c i f ≡ false) (P Q : Phase)
     (alike : (u : UnderWay) → (is_on u.config last_record ≡ false → takes_in p u.inputs f ≡ false) → Agrees P Q u) where
-  after_off : (m n u : UnderWay) (put more last : Output) → detail_lines p (begun p c i) GoesOn m put → halt_where_asked m GoesOn n more → set_off p n GoesOn u last →
+  after_off : (m n u : UnderWay) (put more last : Output) → detail_lines p (begun p c i) Continues m put → halt_if_indicated m Continues n more → set_off p n Continues u last →
       Agrees (P before after_selection p left matches) (Q before after_selection p left matches) u
   after_off m n u put more last g k o =
       let none : any_on c halt_indicators ≡ false = sym (halts_stay p c i m put kept g) ∙ not_asked (any_on m.config halt_indicators) k.0 in
@@ -200,11 +200,11 @@ module _ (p : Object) (left : Left) (matches : Inputs → Selected → Bool) (c 
       first_agrees P Q (after_selection p left matches) u
       (alike u (λ dark. ap (λ (j : Inputs). takes_in p j f) same ∙ needed_not (is_on c last_record) (any_on c halt_indicators) (takes_in p i f) needless none (sym lit ∙ dark)))
 
-  after_lines : Agrees (detail_lines p before halt_where_asked before set_off p before P before after_selection p left matches)
-      (detail_lines p before halt_where_asked before set_off p before Q before after_selection p left matches) (begun p c i)
+  after_lines : Agrees (detail_lines p before halt_if_indicated before set_off p before P before after_selection p left matches)
+      (detail_lines p before halt_if_indicated before set_off p before Q before after_selection p left matches) (begun p c i)
   after_lines =
-      rest_agrees (detail_lines p) (halt_where_asked before set_off p before P before after_selection p left matches) (halt_where_asked before set_off p before Q before after_selection p left matches) (begun p c i)
-      (λ m put g. rest_agrees halt_where_asked (set_off p before P before after_selection p left matches) (set_off p before Q before after_selection p left matches) m
+      rest_agrees (detail_lines p) (halt_if_indicated before set_off p before P before after_selection p left matches) (halt_if_indicated before set_off p before Q before after_selection p left matches) (begun p c i)
+      (λ m put g. rest_agrees halt_if_indicated (set_off p before P before after_selection p left matches) (set_off p before Q before after_selection p left matches) m
       (λ n more k. rest_agrees (set_off p) (P before after_selection p left matches) (Q before after_selection p left matches) n
       (λ u last o. after_off m n u put more last g k o)))
 

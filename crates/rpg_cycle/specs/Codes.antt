@@ -6,7 +6,7 @@ use base.Stored.{coded_unit}
 use Rattle.rpg_program.specs.Ends.{Fault, Jump, Storage, Kind, Return}
 use Rattle.rpg_cycle_records.specs.Earlier.{Left, Selected}
 use Rattle.rpg_cycle_records.specs.Waiting.{InputState, Inputs}
-use Rattle.rpg_cycle.specs.Ends.{PhaseEnd, GoesOn, EndOfJob, Halt, Wrong}
+use Rattle.rpg_cycle.specs.Ends.{PhaseEnd, Continues, EndOfJob, Halt, Wrong}
 use Rattle.rpg_cycle.specs.Stages.{Stage, Going, Ended, Failed}
 
 -- a fault as one of four types
@@ -35,20 +35,20 @@ fault_code = code_by (Unit {0} ⊎ (Unit {0} ⊎ (Unit {0} ⊎ Unit {0}))) (code
 
 -- the end of a phase as one of four types
 abbrev end_to : PhaseEnd → Unit {0} ⊎ (Unit {0} ⊎ (ℕ ⊎ Fault))
-end_to GoesOn = inl tt
+end_to Continues = inl tt
 end_to EndOfJob = inr (inl tt)
 end_to (Halt k) = inr (inr (inl k))
 end_to (Wrong f) = inr (inr (inr f))
 
 -- the end of a phase of such a type
 abbrev end_from : Unit {0} ⊎ (Unit {0} ⊎ (ℕ ⊎ Fault)) → PhaseEnd
-end_from (inl u) = GoesOn
+end_from (inl u) = Continues
 end_from (inr (inl u)) = EndOfJob
 end_from (inr (inr (inl k))) = Halt k
 end_from (inr (inr (inr f))) = Wrong f
 
 pub end_law : (e : PhaseEnd) → end_from (end_to e) ≡ e
-end_law GoesOn = refl
+end_law Continues = refl
 end_law EndOfJob = refl
 end_law (Halt k) = refl
 end_law (Wrong f) = refl

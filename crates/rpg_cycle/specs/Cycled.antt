@@ -2,7 +2,7 @@
 use Rattle.std.specs.Prelude.{◌≡◌, ℕ, ◌<◌, ◌≤◌, List, Option, Result, IfOk, length}
 use Rattle.std.specs.Option.{ForSome}
 use denote.Bor.{Bor}
-use Rattle.rpg_cycle.specs.Doing.{CycleEnds, CycleGoesOn, IsSeen}
+use Rattle.rpg_cycle.specs.Doing.{CycleEnds, CycleContinues, IsSeen}
 use Rattle.rpg_cycle.specs.Selecting.{RenewsLeft}
 use Rattle.rpg_cycle.specs.Spending.{Spends, phases_weight}
 use Rattle.rpg_cycle.specs.Stages.{IfStops, UnlessNoMemory, job_end}
@@ -28,7 +28,7 @@ pub record KeepsWell (p : Object) (k : Kept) : Type 0 where
 
 -- a machine did a cycle that selected the record of that type, if one was selected, and everything is as the next cycle requires
 pub record HasCycled (p : Object) (k : Kept) (primary secondary : Option (Bor (List ℕ))) (old : Running) (t : Option ℕ) (k' : Kept) (new : Running) : Type 0 where
-  pub goes : CycleGoesOn p k primary secondary old t k' new
+  pub goes : CycleContinues p k primary secondary old t k' new
   pub ready : IsReady new
   pub there : ForSome t (λ n. n < length p.types)
   pub left : RenewsLeft p t k k'

@@ -10,7 +10,7 @@ use Rattle.rpg_cycle_records.specs.Holding.{inputs_of, text_in}
 use Rattle.rpg_cycle_records.specs.Keeping.{left_of, selected_as}
 use Rattle.rpg_cycle_records.specs.Waiting.{Inputs, finds_match}
 use Rattle.rpg_cycle_records.specs.declared.kept.Kept.{Kept}
-use Rattle.rpg_cycle.specs.Ends.{GoesOn, PhaseEnd}
+use Rattle.rpg_cycle.specs.Ends.{Continues, PhaseEnd}
 use Rattle.rpg_cycle.specs.Phases.{CycleOn, Phase, UnderWay, if_selected}
 use Rattle.rpg_machine.specs.Config.{Config, Output}
 use Rattle.rpg_machine.specs.Running.{Running, config_on}
@@ -89,9 +89,9 @@ pub record DoesAlone (P : Phase) (old : Running) (e : PhaseEnd) (new : Running) 
 
 -- With what is kept of earlier records and of its files, and with the next record of each, a machine with a full allowance did a cycle that
 -- continues, and selected the record of that type, if one was selected.
-abbrev pub CycleGoesOn : Object → Kept → (primary secondary : Option (Bor (List ℕ))) → Running → Option ℕ → Kept → Running → Type 0
-CycleGoesOn p k primary secondary old t k' new =
-    Does (cycle_by p k (next_text primary) (next_text secondary)) old (unselected (inputs_of k)) GoesOn new (holding_kept p k' t)
+abbrev pub CycleContinues : Object → Kept → (primary secondary : Option (Bor (List ℕ))) → Running → Option ℕ → Kept → Running → Type 0
+CycleContinues p k primary secondary old t k' new =
+    Does (cycle_by p k (next_text primary) (next_text secondary)) old (unselected (inputs_of k)) Continues new (holding_kept p k' t)
 
 -- a cycle that ended the job
 abbrev pub CycleEnds : Object → Kept → (primary secondary : Option (Bor (List ℕ))) → Running → PhaseEnd → Running → Type 0

@@ -5,13 +5,13 @@ use Rattle.rpg_program.specs.Ends.{Fault}
 
 -- It continues, reaches the end of the job, halts with a number, or is wrong.
 pub data PhaseEnd : Type 0 where
-  GoesOn : PhaseEnd
+  Continues : PhaseEnd
   EndOfJob : PhaseEnd
   Halt : ℕ → PhaseEnd
   Wrong : Fault → PhaseEnd
 
 -- the end of an output, of a section or of input fields
 abbrev pub phase_end : effects.End → PhaseEnd
-phase_end effects.GoesOn = GoesOn
+phase_end effects.Continues = Continues
 phase_end (effects.Halt k) = Halt k
 phase_end (effects.Wrong f) = Wrong f

@@ -11,7 +11,7 @@ use Rattle.rpg_cycle_records.specs.declared.kept.Kept.{Kept}
 use Rattle.rpg_cycle_records.specs.Merging.{AreMergedInOrder}
 use Rattle.rpg_cycle_records.specs.Waiting.{Inputs, unread}
 use Rattle.rpg_program.specs.declared.input.InputFile.{InputFile}
-use Rattle.rpg_cycle.specs.Ends.{GoesOn, PhaseEnd}
+use Rattle.rpg_cycle.specs.Ends.{Continues, PhaseEnd}
 use Rattle.rpg_machine.specs.Running as machines
 use Rattle.rpg_machine.specs.Ready.{IsReady}
 use Rattle.rpg_cycle.specs.Phases as cycles
@@ -86,8 +86,8 @@ pub record DoesCycle (old : AtWork) (earlier : List Selected) (previous : Option
   pub out : Output
   pub cycle : Cycle old.program earlier primary secondary (begun old.program (config_on previous old.config) old.inputs) e there out
   pub config : there.config ≡ config_on (last_position_from previous out.lines) new.config
-  pub left : e ≡ GoesOn → new.left ≡ left_by old.program (with_record there.selected earlier)
-  pub inputs : e ≡ GoesOn → new.inputs ≡ there.inputs
+  pub left : e ≡ Continues → new.left ≡ left_by old.program (with_record there.selected earlier)
+  pub inputs : e ≡ Continues → new.inputs ≡ there.inputs
   pub last : new.last ≡ line_of (last_position_from previous out.lines)
   pub bytes : new.output ≡ with_feed (feed_at (stage_at e) new.last) (with_output previous out.lines out.records old.output)
 

@@ -1,7 +1,7 @@
 -- What the laws of cycles and of runs state.
 use Rattle.std.specs.Prelude.{◌≡◌, ℕ, ℤ, List, Option, false}
 use Rattle.std.specs.Ordering.{nat_cmp}
-use Rattle.rpg_cycle.specs.Ends.{GoesOn, PhaseEnd}
+use Rattle.rpg_cycle.specs.Ends.{Continues, PhaseEnd}
 use Rattle.rpg_cycle.specs.Phases.{Cycle, CycleOn, Phase, UnderWay, begun, needs_record}
 use Rattle.rpg_cycle.specs.Runs.{Course, IsRun, Records, Runs, RunsIn}
 use Rattle.rpg_cycle_records.specs.Earlier.{Selected, left_by, with_record}
@@ -19,7 +19,7 @@ use Rattle.rpg_program.specs.Object.{Object}
 abbrev pub CyclesKeepOrder : Type 0
 CyclesKeepOrder =
     (p : Object) (earlier : List Selected) (a b : Option (List ℕ)) (c : Config) (i : Inputs) (d : UnderWay) (out : Output)
-    → AreMergedInOrder p earlier i → Cycle p earlier a b (begun p c i) GoesOn d out → AreMergedInOrder p (with_record d.selected earlier) d.inputs
+    → AreMergedInOrder p earlier i → Cycle p earlier a b (begun p c i) Continues d out → AreMergedInOrder p (with_record d.selected earlier) d.inputs
 
 -- a cycle that looks for a match in what earlier records left, not among all of them
 abbrev pub CycleByLeft : Object → List Selected → Option (List ℕ) → Option (List ℕ) → Phase

@@ -2,8 +2,8 @@
 use Rattle.std.specs.Prelude.{◌≡◌, ℕ, Bool, true, false, not, ◌&&◌, ◌||◌, List, [], ◌∷◌, length, slice_get, Option, None, Some, is_none, if◌then◌else◌}
 use Rattle.std.specs.List.{list_all}
 use Rattle.rpg_cycle_records.specs.Earlier.{Left, Selected, control_fields, is_any, last_of_file, last_of_level, left_by, match_fields, match_value}
-use Rattle.rpg_cycle.specs.Ends.{PhaseEnd, GoesOn, EndOfJob, Halt, Wrong, phase_end}
-use Rattle.rpg_cycle_records.specs.Identifying.{Trial, IsOf, IsOfNone, Misplaced, padded, identified, is_good_record, trial_weight}
+use Rattle.rpg_cycle.specs.Ends.{PhaseEnd, Continues, EndOfJob, Halt, Wrong, phase_end}
+use Rattle.rpg_cycle_records.specs.Identifying.{Trial, IsOf, IsOfNone, Misplaced, padded, identified, is_valid_record, trial_weight}
 use Rattle.rpg_cycle.specs.Indicators.{any_on, first_page, halt_indicators, is_on, last_record, level_indicators, matching_record, with_all, with_levels, with_one, with_type, without_types}
 use Rattle.rpg_cycle_records.specs.Levels.{differs, highest_broken, is_in_record, level_bytes}
 use Rattle.rpg_cycle_records.specs.Matching.{exceeds}
@@ -13,7 +13,7 @@ use Rattle.rpg_program.specs.Input.{TypeRow}
 use Rattle.rpg_program.specs.declared.input.InputFile.{InputFile}
 use Rattle.rpg_program.specs.declared.input.InputFile.TheVariants.{Primary, Secondary}
 use Rattle.rpg_machine.specs.Config.{Config, Output, charged, no_output, with_more}
-use Rattle.rpg_machine.specs.Outputs.{FillsFields, PutsOut}
+use Rattle.rpg_machine.specs.Outputs.{FillsFields, Outputs}
 use Rattle.rpg_machine.specs.Run.{RunsTo}
 use Rattle.rpg_machine.specs.Running.{Behaviour}
 use Rattle.rpg_machine.specs.declared.time.OutputTime.{OutputTime}
@@ -34,7 +34,7 @@ Phase = UnderWay → PhaseEnd → UnderWay → Output → Type 0
 
 -- a phase from where the previous one led, unless that ended the job
 abbrev pub from_there : Phase → PhaseEnd → UnderWay → Output → PhaseEnd → UnderWay → Output → Type 0
-from_there Q GoesOn m put e d out = (more : Output) × Q m e d more × (out ≡ with_more put more)
+from_there Q Continues m put e d out = (more : Output) × Q m e d more × (out ≡ with_more put more)
 from_there Q EndOfJob m put e d out = (e ≡ EndOfJob) × (d ≡ m) × (out ≡ put)
 from_there Q (Halt k) m put e d out = (e ≡ Halt k) × (d ≡ m) × (out ≡ put)
 from_there Q (Wrong f) m put e d out = (e ≡ Wrong f) × (d ≡ m) × (out ≡ put)
@@ -61,7 +61,7 @@ by_machine P c e d out = (last : effects.End) × P c.config last d.config out ×
 
 -- the lines of a time
 abbrev pub output : Object → OutputTime → Phase
-output p time = by_machine (PutsOut p time)
+output p time = by_machine (Outputs p time)
 
 -- a section of calculations, in as many steps as it takes
 abbrev pub section : Object → Section → Phase
@@ -82,7 +82,7 @@ without_output f c e d out = (e ≡ (f c).end) × (d ≡ (f c).leads) × (out �
 
 -- nothing is done
 abbrev pub nothing_done : Phase
-nothing_done = without_output (done GoesOn)
+nothing_done = without_output (done Continues)
 
 -- one of two phases, by a test
 abbrev pub either : Bool → Phase → Phase → Phase
@@ -102,8 +102,8 @@ detail_lines p = output p times.Detail
 -- ---- 2 halt 6 where a halt indicator is on
 
 -- halt 6 if a halt indicator is on
-abbrev pub halt_where_asked : Phase
-halt_where_asked = without_output (λ c. done (if any_on c.config halt_indicators then Halt 6 else GoesOn) c)
+abbrev pub halt_if_indicated : Phase
+halt_if_indicated = without_output (λ c. done (if any_on c.config halt_indicators then Halt 6 else Continues) c)
 
 -- ---- 3 1P, L1 to L9 and the indicators of record types but LR turn off
 
@@ -113,7 +113,7 @@ all_off p c = with_one first_page false (with_all level_indicators false (withou
 
 -- the phase that turns them off
 abbrev pub set_off : Object → Phase
-set_off p = without_output (λ c. done GoesOn (with_config (all_off p) c))
+set_off p = without_output (λ c. done Continues (with_config (all_off p) c))
 
 -- ---- 4 records are read, and one is selected
 
@@ -122,7 +122,7 @@ abbrev pub match_up : Object → Left → InputFile → Selected → UnderWay �
 match_up p left f s c =
     if not (list_all (is_in_record (length s.text)) (match_fields p s.type)) then done (Wrong effects.Storage) c
     else (if exceeds (last_of_file left f) (match_value p s) then done (Halt 8) c
-    else done GoesOn (with_inputs (with_waiting f (Some s)) c))
+    else done Continues (with_inputs (with_waiting f (Some s)) c))
 
 -- the match fields of an identified record weigh 1 each; a record of no type is halt 3
 abbrev pub take_type : Object → Left → InputFile → List ℕ → Trial → UnderWay → Done
@@ -134,14 +134,14 @@ take_type p left f text Misplaced c = done (Wrong effects.Storage) c
 abbrev pub identify : Object → Left → InputFile → List ℕ → UnderWay → Done
 identify p left f text c = take_type p left f text (identified f 0 p.types text) (with_config (charged (trial_weight f p.types text)) c)
 
--- a good record is identified, a bad one is halt 7; if there is none the file is at its end
+-- a valid record is identified, a bad one is halt 7; if there is none the file is at its end
 abbrev pub read_record : Object → Left → InputFile → Option (List ℕ) → UnderWay → Done
-read_record p left f None c = done GoesOn (with_inputs (with_file_over f) c)
-read_record p left f (Some text) c = if is_good_record p f text then identify p left f (padded p f text) c else done (Halt 7) c
+read_record p left f None c = done Continues (with_inputs (with_file_over f) c)
+read_record p left f (Some text) c = if is_valid_record p f text then identify p left f (padded p f text) c else done (Halt 7) c
 
 -- a file that exists, isn't at its end and has no waiting record reads one
 abbrev pub take_in : Object → Left → InputFile → Option (List ℕ) → Phase
-take_in p left f next = without_output (λ c. if takes_in p c.inputs f then read_record p left f next c else done GoesOn c)
+take_in p left f next = without_output (λ c. if takes_in p c.inputs f then read_record p left f next c else done Continues c)
 
 -- the highest level that this record breaks, 0 if none
 abbrev pub broken_level : Object → Left → Selected → ℕ
@@ -151,7 +151,7 @@ broken_level p left s = highest_broken (λ level. differs (last_of_level left le
 abbrev pub compare_levels : Object → Left → Selected → UnderWay → Done
 compare_levels p left s c =
     if list_all (is_in_record (length s.text)) (control_fields p s.type)
-    then done GoesOn (with_config (λ x. with_levels (broken_level p left s) (charged (length (control_fields p s.type)) x)) (record c { selected = Some s }))
+    then done Continues (with_config (λ x. with_levels (broken_level p left s) (charged (length (control_fields p s.type)) x)) (record c { selected = Some s }))
     else done (Wrong effects.Storage) (with_config (charged (length (control_fields p s.type))) c)
 
 -- the indicator of a type
@@ -161,13 +161,13 @@ type_indicator (Some t) = t.indicator
 
 -- the record that waits in a file is selected: it no longer waits, and its type's indicator turns on
 abbrev pub select_waiting : Object → Left → InputFile → Option Selected → UnderWay → Done
-select_waiting p left f None c = done GoesOn c
+select_waiting p left f None c = done Continues c
 select_waiting p left f (Some s) c =
     compare_levels p left s (with_config (with_type (type_indicator (slice_get p.types s.type))) (with_inputs (with_waiting f None) c))
 
 -- if no record waits, LR and all levels turn on
 abbrev pub select_from : Object → Left → Option InputFile → UnderWay → Done
-select_from p left None c = done GoesOn (with_config (λ x. with_all level_indicators true (with_one last_record true x)) c)
+select_from p left None c = done Continues (with_config (λ x. with_all level_indicators true (with_one last_record true x)) c)
 select_from p left (Some f) c = select_waiting p left f (waiting_in c.inputs f) c
 
 -- the record that the cycle is for
@@ -177,7 +177,7 @@ select_one p left = without_output (λ c. select_from p left (chosen p (waiting_
 -- if LR is on no record is read, and L1 to L9 turn on
 abbrev pub select_record : Object → Left → Option (List ℕ) → Option (List ℕ) → Phase
 select_record p left primary secondary c =
-    either (is_on c.config last_record) (without_output (λ c. done GoesOn (with_config (with_all level_indicators true) c)))
+    either (is_on c.config last_record) (without_output (λ c. done Continues (with_config (with_all level_indicators true) c)))
     (take_in p left Primary primary before take_in p left Secondary secondary before select_one p left) c
 
 -- ---- 5 total calculations and total output, unless they are bypassed
@@ -207,7 +207,7 @@ total_time p left = total_time_by p left.any left.control
 
 -- the job ends if LR is on, or no record is left
 abbrev pub end_where_last : Phase
-end_where_last = without_output (λ c. done (if is_on c.config last_record || is_none c.selected then EndOfJob else GoesOn) c)
+end_where_last = without_output (λ c. done (if is_on c.config last_record || is_none c.selected then EndOfJob else Continues) c)
 
 -- ---- 7 all lines of a new page, if the overflow indicator is on
 
@@ -229,7 +229,7 @@ if_selected test (Some s) = test s
 
 -- MR is on if the record has a match, otherwise off
 abbrev pub show_match : (Inputs → Selected → Bool) → Phase
-show_match matches = without_output (λ c. done GoesOn (with_config (with_one matching_record (if_selected (matches c.inputs) c.selected)) c))
+show_match matches = without_output (λ c. done Continues (with_config (with_one matching_record (if_selected (matches c.inputs) c.selected)) c))
 
 -- those of the selected record's type
 abbrev pub fill_from : Object → Option Selected → Phase
@@ -252,7 +252,7 @@ detail_calculations p = section p sections.Detail
 abbrev pub CycleOn : Object → Left → (Inputs → Selected → Bool) → Option (List ℕ) → Option (List ℕ) → Phase
 CycleOn p left matches primary secondary =
     detail_lines p
-    before halt_where_asked
+    before halt_if_indicated
     before set_off p
     before select_record p left primary secondary
     before total_time p left

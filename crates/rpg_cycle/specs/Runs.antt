@@ -3,7 +3,7 @@ use Rattle.std.specs.Prelude.{◌≡◌, ℕ, zero, suc, ◌+◌, ◌++◌, ℤ,
 use Rattle.std.specs.Ordering.{nat_cmp}
 use Rattle.rpg_cycle_records.specs.Earlier.{Selected, with_record}
 use Rattle.rpg_cycle_records.specs.Waiting.{Inputs, unread}
-use Rattle.rpg_cycle.specs.Ends.{PhaseEnd, GoesOn, EndOfJob, Halt, Wrong}
+use Rattle.rpg_cycle.specs.Ends.{PhaseEnd, Continues, EndOfJob, Halt, Wrong}
 use Rattle.rpg_cycle.specs.Phases.{Cycle, UnderWay, begun, needs_record}
 use Rattle.rpg_cycle.specs.Starting.{job_start}
 use Rattle.rpg_paper.specs.Paper.{Placed, paper}
@@ -37,7 +37,7 @@ with_cycle c out rest = record {
 
 -- a cycle ended the job, or the rest follows
 abbrev pub ends_or : PhaseEnd → UnderWay → Output → (UnderWay → Course → Type 0) → Course → Type 0
-ends_or GoesOn d out Rest course = (rest : Course) × Rest d rest × (course ≡ with_cycle d.config out rest)
+ends_or Continues d out Rest course = (rest : Course) × Rest d rest × (course ≡ with_cycle d.config out rest)
 ends_or EndOfJob d out Rest course = course ≡ last_cycle EndOfJob d out
 ends_or (Halt k) d out Rest course = course ≡ last_cycle (Halt k) d out
 ends_or (Wrong f) d out Rest course = course ≡ last_cycle (Wrong f) d out

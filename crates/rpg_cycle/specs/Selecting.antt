@@ -4,7 +4,7 @@ use Rattle.std.specs.Option.{ForSome}
 use denote.Bor.{Bor}
 use Rattle.rpg_cycle_records.specs.Earlier.{Left, control_fields, file_of, last_of_file}
 use Rattle.rpg_cycle.specs.Doing.{Does, DoesHolding, holding, holding_kept, next_text, unselected, under_way}
-use Rattle.rpg_cycle.specs.Ends.{GoesOn, Halt, PhaseEnd}
+use Rattle.rpg_cycle.specs.Ends.{Continues, Halt, PhaseEnd}
 use Rattle.rpg_cycle_records.specs.Fitting.{IsControlIn}
 use Rattle.rpg_cycle_records.specs.Identifying.{IsOf, IsOfNone, identified, trial_weight}
 use Rattle.rpg_cycle.specs.Indicators.{with_levels, with_type}
@@ -63,7 +63,7 @@ pub record HasRead (p : Object) (left : Left) (f : InputFile) (next : Option (Li
 -- the record that waits in a file, if any, was selected: the cycle in progress then, wherever the form is
 pub record HasSelected (p : Object) (left : Left) (f : InputFile) (before : Inputs) (old : Running) (t : Option ℕ) (text : List ℕ) (new : Running) (after : Inputs) : Type 0 where
   pub config : Config
-  pub leads : (previous : Option Position) → select_waiting p left f (waiting_in before f) (under_way (config_on previous old.config) (unselected before)) ≡ done GoesOn (under_way (config_on previous config) (holding after t text))
+  pub leads : (previous : Option Position) → select_waiting p left f (waiting_in before f) (under_way (config_on previous old.config) (unselected before)) ≡ done Continues (under_way (config_on previous config) (holding after t text))
   pub machine : new ≡ record old { config = config }
 
 -- what earlier records leave, with these bytes of levels and these match values
@@ -87,7 +87,7 @@ EndsAtRecord p f last text old e new =
 abbrev pub TakesIn : Object → InputFile → MatchValue → Option (Bor (List ℕ)) → KeptFile → Running → KeptFile → Running → Type 0
 TakesIn p f last next k old k' new =
     (left : Left) (i : Inputs) → last_of_file left f ≡ seen_value last → input_at i f ≡ input_state_of k
-    → Does (take_in p left f (next_text next)) old (unselected i) GoesOn new (unselected (with_input f (input_state_of k') i))
+    → Does (take_in p left f (next_text next)) old (unselected i) Continues new (unselected (with_input f (input_state_of k') i))
 
 -- the job ended there, and the files were left unchanged
 abbrev pub EndsTakingIn : Object → InputFile → MatchValue → Option (Bor (List ℕ)) → KeptFile → Running → PhaseEnd → Running → Type 0
@@ -121,12 +121,12 @@ RenewsLeft p t k k' = left_of k' ≡ renewed_by p t (text_in p k' t) (left_of k)
 
 -- of the records that wait the one of that type was selected, or none
 abbrev pub SelectsOne : Object → Kept → Running → Option ℕ → Kept → Running → Type 0
-SelectsOne p k old t k' new = Does (select_one p (left_of k)) old (unselected (inputs_of k)) GoesOn new (holding_kept p k' t)
+SelectsOne p k old t k' new = Does (select_one p (left_of k)) old (unselected (inputs_of k)) Continues new (holding_kept p k' t)
 
 -- Records were read, of the files' next ones, and the one of that type was selected, or none.
 abbrev pub SelectsRecord : Object → Kept → (primary secondary : Option (Bor (List ℕ))) → Running → Option ℕ → Kept → Running → Type 0
 SelectsRecord p k primary secondary old t k' new =
-    Does (select_record p (left_of k) (next_text primary) (next_text secondary)) old (unselected (inputs_of k)) GoesOn new (holding_kept p k' t)
+    Does (select_record p (left_of k) (next_text primary) (next_text secondary)) old (unselected (inputs_of k)) Continues new (holding_kept p k' t)
 
 -- the job ended there, and none was selected, at this cost at most
 pub record EndsSelecting (p : Object) (k : Kept) (primary secondary : Option (Bor (List ℕ))) (old : Running) (e : PhaseEnd) (new : Running) : Type 0 where

@@ -1,7 +1,7 @@
 -- The stages of a job, and the stage that each result of the code means.
 use Rattle.std.specs.Prelude.{Bool, true, false, Result, Ok, Err}
 use Rattle.rpg_program.specs.Halts.{halt_number}
-use Rattle.rpg_cycle.specs.Ends.{PhaseEnd, GoesOn, EndOfJob, Halt, Wrong}
+use Rattle.rpg_cycle.specs.Ends.{PhaseEnd, Continues, EndOfJob, Halt, Wrong}
 use Rattle.rpg_cycle.specs.declared.ends.CycleEnd.{CycleEnd}
 use Rattle.rpg_cycle.specs.declared.ends.CycleEnd.TheVariants as answers
 use Rattle.rpg_cycle.specs.declared.ends.JobEnd.{JobEnd}
@@ -31,7 +31,7 @@ has_failed Failed = true
 
 -- the stage that a cycle with this end leads to
 abbrev pub stage_at : PhaseEnd → Stage
-stage_at GoesOn = Going
+stage_at Continues = Going
 stage_at EndOfJob = Ended EndOfJob
 stage_at (Halt k) = Ended (Halt k)
 stage_at (Wrong f) = Ended (Wrong f)
@@ -42,11 +42,11 @@ job_end jobs.EndOfJob = EndOfJob
 job_end (jobs.Halt h) = Halt (halt_number h)
 
 -- the stage that a result reports
-abbrev pub told : CycleEnd → Stage
-told answers.GoesOn = Going
-told answers.EndOfJob = Ended EndOfJob
-told (answers.Halt h) = Ended (Halt (halt_number h))
-told answers.Failed = Failed
+abbrev pub stage_after : CycleEnd → Stage
+stage_after answers.Continues = Going
+stage_after answers.EndOfJob = Ended EndOfJob
+stage_after (answers.Halt h) = Ended (Halt (halt_number h))
+stage_after answers.Failed = Failed
 
 -- the stage that a job keeps
 abbrev pub stage_of : kept.Progress → Stage

@@ -1,7 +1,7 @@
 -- The result of a phase of a cycle, and of several phases, up to one that ends the job.
 use Rattle.std.specs.Prelude.{◌+◌, ◌^◌, ◌≤◌, ℕ, Bool, Option, Result, Ok, IfOk}
 use Rattle.rpg_cycle.specs.Doing.{Beside, DoesAlone, DoesHolding, holding_kept, match_by, selected_in}
-use Rattle.rpg_cycle.specs.Ends.{GoesOn}
+use Rattle.rpg_cycle.specs.Ends.{Continues}
 use Rattle.rpg_cycle.specs.Phases.{Phase, detail_calculations, end_where_last, fill_fields, overflow_lines, show_match, total_time, ◌before◌}
 use Rattle.rpg_cycle.specs.Spending.{Spends, detail_time_weight, fields_weight, reach, record_weight}
 use Rattle.rpg_cycle.specs.Stages.{IfStops, UnlessNoMemory, job_end}
@@ -37,7 +37,7 @@ pub record KeepsSelected (p : Object) (k : Kept) (t : Option ℕ) : Type 0 where
 
 -- A phase was done that neither reads nor selects: its result, and its greatest cost.
 pub record DoesPhase (P : Phase) (n : ℕ) (old : Running) (r : Result (Unit {0}) PhaseStop) (new : Running) : Type 0 where
-  pub goes : IfOk r (λ _. DoesAlone P old GoesOn new)
+  pub goes : IfOk r (λ _. DoesAlone P old Continues new)
   pub stops : IfStops r (λ e. DoesAlone P old (job_end e) new)
   pub ready : IfOk r (λ _. IsReady new)
   pub spends : UnlessNoMemory r (Spends old.program n old new)
@@ -59,7 +59,7 @@ after_selection p left matches = total_time p left before end_where_last before 
 
 -- Phases were done that select nothing, up to the one that ended the job, if one did: the result, and its greatest cost.
 pub record DoesStage (p : Object) (P : Phase) (n : ℕ) (h : Beside) (old : Running) (r : Result (Unit {0}) PhaseStop) (new : Running) : Type 0 where
-  pub goes : IfOk r (λ _. DoesHolding P h old GoesOn new)
+  pub goes : IfOk r (λ _. DoesHolding P h old Continues new)
   pub stops : IfStops r (λ e. DoesHolding P h old (job_end e) new)
   pub ready : IfOk r (λ _. IsReady new)
   pub spends : UnlessNoMemory r (Spends p n old new)

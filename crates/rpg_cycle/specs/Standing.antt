@@ -1,7 +1,7 @@
 -- Where a job is at the end of a cycle, and of a run.
 use Rattle.std.specs.Prelude.{◌≡◌, ℤ, ◌⊎◌, None}
 use Rattle.std.specs.Ordering.{nat_cmp}
-use Rattle.rpg_cycle.specs.Ends.{PhaseEnd, GoesOn, EndOfJob, Halt, Wrong}
+use Rattle.rpg_cycle.specs.Ends.{PhaseEnd, Continues, EndOfJob, Halt, Wrong}
 use Rattle.rpg_cycle.specs.Runs.{Course, IsRun, Records}
 use Rattle.rpg_program.specs.Put.{Bytes}
 use Rattle.rpg_program.specs.World.{Fields}
@@ -13,7 +13,7 @@ use Rattle.rpg_program.specs.Object.{Object}
 -- At the end of calculations; after a halt there, or at the instruction whose step halted. So if a halted job is at an instruction,
 -- that instruction halted it, and if it is at none, no instruction did.
 abbrev pub StandsRightAtEnd : Object → PhaseEnd → Config → Type 0
-StandsRightAtEnd p GoesOn d = running_place p d ≡ None
+StandsRightAtEnd p Continues d = running_place p d ≡ None
 StandsRightAtEnd p EndOfJob d = running_place p d ≡ None
 StandsRightAtEnd p (Halt k) d = (running_place p d ≡ None) ⊎ HaltedThere p k d
 StandsRightAtEnd p (Wrong f) d = Unit {0}

@@ -7,8 +7,8 @@ ghost use Rattle.rpg_machine.specs.Ready.{IsReady};
 
 use crate::ends::PhaseStop;
 use crate::phases::{
-    calculate_details, end_where_last, fill_fields, halt_where_asked, put_out_details,
-    put_out_overflow, set_off, show_match, take_total_time,
+    calculate_details, end_where_last, fill_fields, halt_if_indicated, output_details,
+    output_overflow, set_off, show_match, take_total_time,
 };
 use crate::program::is_bounded;
 use crate::seen::Seen;
@@ -28,7 +28,7 @@ fn take_detail_time<S: Store + Drop>(
     requires held { KeepsSelected machine.old.program kept.now selected }
     ensures { TakesDetailTime kept.now selected machine.old result machine.new }
 {
-    put_out_overflow(machine)?;
+    output_overflow(machine)?;
     show_match(machine, kept, selected);
     fill_fields(machine, kept, selected)?;
     calculate_details(machine)
@@ -65,8 +65,8 @@ fn do_phases<S: Store + Drop>(
     requires kept { KeepsWell machine.old.program kept.old }
     ensures { DoesPhases machine.old.program kept.old primary.entry secondary.entry machine.old result kept.new machine.new }
 {
-    put_out_details(machine)?;
-    halt_where_asked(machine)?;
+    output_details(machine)?;
+    halt_if_indicated(machine)?;
     set_off(machine);
     let program = machine.program();
     let selected = select_record(program, machine, kept, primary, secondary, seen)?;

@@ -14,7 +14,7 @@ pub enum JobEnd {
 /// What a cycle led to, for its caller. `JobEnd` covers only jobs that have ended, and a caller first tests whether the job continues.
 #[derive(Clone, Copy)]
 pub enum CycleEnd {
-    GoesOn,
+    Continues,
     EndOfJob,
     Halt(Halt),
     /// Memory ran out in an earlier cycle.

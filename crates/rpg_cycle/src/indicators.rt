@@ -18,14 +18,14 @@ pub const LEVELS: [u8; 9] = [101, 102, 103, 104, 105, 106, 107, 108, 109];
 pub const HALT_INDICATORS: [u8; 9] = [120, 121, 122, 123, 124, 125, 126, 127, 128];
 
 /// Whether a halt indicator is on.
-pub(crate) fn is_halt_asked<S: Store + Drop>(machine: &Machine<S>) -> bool
+pub(crate) fn is_halt_indicated<S: Store + Drop>(machine: &Machine<S>) -> bool
     ensures { result ≡ spec.any_on machine.now.config spec.halt_indicators }
 {
-    let mut is_asked = false;
+    let mut is_due = false;
     for number in HALT_INDICATORS {
-        is_asked |= machine.indicator(number);
+        is_due |= machine.indicator(number);
     }
-    is_asked
+    is_due
 }
 
 /// Turns indicators on or off, in order.

@@ -1,11 +1,11 @@
 //! Jobs: a program running over its records.
 ghost use Rattle.std.specs.Prelude.{◌≡◌};
-ghost use Rattle.rpg_cycle.specs.Stages.{stage_of, told};
+ghost use Rattle.rpg_cycle.specs.Stages.{stage_of, stage_after};
 
 use crate::cycle::run_cycle;
 use crate::date::{Date, put_date};
 use crate::ends::{CycleEnd, JobEnd, PhaseStop, Progress, StartFault};
-use crate::indicators::{LAST_RECORD, is_halt_asked};
+use crate::indicators::{LAST_RECORD, is_halt_indicated};
 use crate::program::is_end;
 use crate::seen::{NOTHING_SEEN, Seen};
 use rpg_cycle_records::Kept;
@@ -63,10 +63,10 @@ pub struct Need {
 
 /// Returns what a cycle leads to, by the job's stage.
 fn answer_from(progress: Progress) -> CycleEnd
-    ensures { told result ≡ stage_of progress }
+    ensures { stage_after result ≡ stage_of progress }
 {
     match progress {
-        Progress::Going => CycleEnd::GoesOn,
+        Progress::Going => CycleEnd::Continues,
         Progress::Ended(JobEnd::EndOfJob) => CycleEnd::EndOfJob,
         Progress::Ended(JobEnd::Halt(halt)) => CycleEnd::Halt(halt),
         Progress::Failed => CycleEnd::Failed,
@@ -105,7 +105,7 @@ impl<'a, S: Store + Drop> Job<'a, S> {
     ghost use Rattle.rpg_program.specs.declared.input.InputFile.TheVariants as files;
     ghost use Rattle.rpg_cycle.specs.Job as of;
     ghost use Rattle.rpg_cycle.specs.Phases.{takes_records};
-    ghost use Rattle.rpg_cycle.specs.Stages.{Failed, is_going, told};
+    ghost use Rattle.rpg_cycle.specs.Stages.{Failed, is_going, stage_after};
     ghost use Rattle.rpg_cycle.specs.Starting.{date_in};
     ghost use Rattle.rpg_cycle_records.specs.Holding.{inputs_of};
     ghost use Rattle.rpg_cycle_records.specs.Keeping.{left_of};
@@ -170,7 +170,7 @@ impl<'a, S: Store + Drop> Job<'a, S> {
     {
         match self.progress {
             Progress::Going => {
-                !self.machine.indicator(LAST_RECORD) && !is_halt_asked(&self.machine)
+                !self.machine.indicator(LAST_RECORD) && !is_halt_indicated(&self.machine)
             }
             Progress::Ended(_) | Progress::Failed => false,
         }
@@ -184,7 +184,7 @@ impl<'a, S: Store + Drop> Job<'a, S> {
         secondary: Option<&[u8]>,
     ) -> Result<CycleEnd, AllocError>
         ensures going { is_going self.old.stage ≡ true → IfOk result (λ _. of.Cycles self.old (next_text primary.entry) (next_text secondary.entry) self.new) }
-        ensures told { IfOk result (λ e. told e ≡ self.new.stage) }
+        ensures stage_after { IfOk result (λ e. stage_after e ≡ self.new.stage) }
         ensures over { is_going self.old.stage ≡ false → IsOk result × (self.new ≡ self.old) }
         ensures failed { OnErr result (self.new.stage ≡ Failed) }
         ensures bound { of.KeepsBound self.new }
@@ -204,7 +204,7 @@ impl<'a, S: Store + Drop> Job<'a, S> {
         requires primary { IsSeen seen.primary primary }
         requires secondary { IsSeen seen.secondary secondary }
         ensures going { is_going self.old.stage ≡ true → IfOk result (λ _. of.Cycles self.old (next_text primary.entry) (next_text secondary.entry) self.new) }
-        ensures told { IfOk result (λ e. told e ≡ self.new.stage) }
+        ensures stage_after { IfOk result (λ e. stage_after e ≡ self.new.stage) }
         ensures over { is_going self.old.stage ≡ false → IsOk result × (self.new ≡ self.old) }
         ensures failed { OnErr result (self.new.stage ≡ Failed) }
         ensures bound { of.KeepsBound self.new }

@@ -12,7 +12,7 @@ ghost use Rattle.rpg_program.specs.Object.{Object};
 use rpg_verify::Verified;
 
 /// Before the first cycle nothing is out of order, and a cycle that continues preserves this. From there a cycle is the same whether a match
-/// is sought among all records read so far, or in what a job keeps.
+/// is looked for among all records read so far, or in what a job keeps.
 #[tactic(auto, using(crate::proofs::Cycling::at_first))]
 pub fn cycles_keep_order()
     ensures first { (p : Object) → AreMergedInOrder p [] unread }

@@ -3,7 +3,7 @@ ghost use Rattle.std.specs.Prelude.{◌≡◌, ℕ, All, IfOk, List, map, true};
 ghost use Rattle.std.specs.Option.{ForSome};
 ghost use Rattle.rpg_cycle.specs.Doing.{DoesAlone, DoesWith, selected_has_match};
 ghost use Rattle.rpg_cycle.specs.Ends as ends;
-ghost use Rattle.rpg_cycle.specs.Ends.{GoesOn};
+ghost use Rattle.rpg_cycle.specs.Ends.{Continues};
 ghost use Rattle.rpg_cycle.specs.Indicators as lights;
 ghost use Rattle.rpg_cycle_records.specs.Holding.{HoldsSelected};
 ghost use Rattle.rpg_cycle_records.specs.Keeping.{selected_as};
@@ -22,7 +22,7 @@ ghost use Rattle.rpg_program.specs.declared.section.Section.TheVariants as secti
 
 use crate::ends::{JobEnd, PhaseStop};
 use crate::indicators::{
-    FIRST_PAGE, LAST_RECORD, LEVELS, MATCHING_RECORD, is_halt_asked, turn_all, turn_type_off,
+    FIRST_PAGE, LAST_RECORD, LEVELS, MATCHING_RECORD, is_halt_indicated, turn_all, turn_type_off,
 };
 use crate::program::{is_bounded, overflow_of};
 use rpg_cycle_records::{Kept, types_of};
@@ -37,17 +37,20 @@ use rpg_verify::Verified;
 
 /// Returns how the cycle continues after the machine's answer.
 fn go_on(end: End) -> Result<(), PhaseStop>
-    ensures goes { IfOk result (λ _. end ≡ End.GoesOn) }
+    ensures goes { IfOk result (λ _. end ≡ End.Continues) }
     ensures stops { IfStops result (λ e. ends.phase_end (effects.end_of end) ≡ job_end e) }
 {
     match end {
-        End::GoesOn => Ok(()),
+        End::Continues => Ok(()),
         End::Halt(halt) => Err(PhaseStop::Ends(JobEnd::Halt(halt))),
     }
 }
 
 /// Outputs the lines of a time.
-fn put_out<S: Store + Drop>(machine: &mut Machine<S>, time: OutputTime) -> Result<(), PhaseStop>
+fn output_lines<S: Store + Drop>(
+    machine: &mut Machine<S>,
+    time: OutputTime,
+) -> Result<(), PhaseStop>
     requires { CanDo machine.old }
     ensures { DoesPhase (spec.output machine.old.program time) (output_weight machine.old.program time) machine.old result machine.new }
 {
@@ -67,19 +70,19 @@ fn calculate<S: Store + Drop>(machine: &mut Machine<S>, section: Section) -> Res
 }
 
 /// 1. Heading and detail lines.
-pub(crate) fn put_out_details<S: Store + Drop>(machine: &mut Machine<S>) -> Result<(), PhaseStop>
+pub(crate) fn output_details<S: Store + Drop>(machine: &mut Machine<S>) -> Result<(), PhaseStop>
     requires { CanDo machine.old }
     ensures { DoesPhase (spec.detail_lines machine.old.program) (output_weight machine.old.program times.Detail) machine.old result machine.new }
 {
-    put_out(machine, OutputTime::Detail)
+    output_lines(machine, OutputTime::Detail)
 }
 
 /// 2. Halt 6 if a halt indicator is on.
-pub(crate) fn halt_where_asked<S: Store + Drop>(machine: &Machine<S>) -> Result<(), PhaseStop>
-    ensures goes { IfOk result (λ _. DoesAlone spec.halt_where_asked machine.now GoesOn machine.now) }
-    ensures stops { IfStops result (λ e. DoesAlone spec.halt_where_asked machine.now (job_end e) machine.now) }
+pub(crate) fn halt_if_indicated<S: Store + Drop>(machine: &Machine<S>) -> Result<(), PhaseStop>
+    ensures goes { IfOk result (λ _. DoesAlone spec.halt_if_indicated machine.now Continues machine.now) }
+    ensures stops { IfStops result (λ e. DoesAlone spec.halt_if_indicated machine.now (job_end e) machine.now) }
 {
-    if is_halt_asked(machine) {
+    if is_halt_indicated(machine) {
         return Err(PhaseStop::Ends(JobEnd::Halt(Halt::IndicatorOn)));
     }
     Ok(())
@@ -139,7 +142,7 @@ fn do_totals<S: Store + Drop>(machine: &mut Machine<S>) -> Result<(), PhaseStop>
 {
     is_bounded(machine.program());
     calculate(machine, Section::Total)?;
-    put_out(machine, OutputTime::Total)
+    output_lines(machine, OutputTime::Total)
 }
 
 /// 5. Total calculations and total lines, unless they are bypassed.
@@ -162,7 +165,7 @@ pub(crate) fn end_where_last<S: Store + Drop>(
     machine: &Machine<S>,
     selected: Option<usize>,
 ) -> Result<(), PhaseStop>
-    ensures goes { IfOk result (λ _. (text : List ℕ) → DoesWith spec.end_where_last (selected_as selected text) machine.now GoesOn machine.now) }
+    ensures goes { IfOk result (λ _. (text : List ℕ) → DoesWith spec.end_where_last (selected_as selected text) machine.now Continues machine.now) }
     ensures stops { IfStops result (λ e. (text : List ℕ) → DoesWith spec.end_where_last (selected_as selected text) machine.now (job_end e) machine.now) }
 {
     if machine.indicator(LAST_RECORD) || selected.is_none() {
@@ -184,14 +187,14 @@ fn has_no_overflow<S: Store + Drop>(machine: &Machine<S>, overflow: Option<u8>) 
 
 /// 7. All lines of a new page, if the overflow indicator is on.
 #[inline(always)]
-pub(crate) fn put_out_overflow<S: Store + Drop>(machine: &mut Machine<S>) -> Result<(), PhaseStop>
+pub(crate) fn output_overflow<S: Store + Drop>(machine: &mut Machine<S>) -> Result<(), PhaseStop>
     requires { CanDo machine.old }
     ensures { DoesPhase (spec.overflow_lines machine.old.program) (full_page_weight machine.old.program) machine.old result machine.new }
 {
     if has_no_overflow(machine, overflow_of(machine.program())) {
         return Ok(());
     }
-    put_out(machine, OutputTime::Overflow)
+    output_lines(machine, OutputTime::Overflow)
 }
 
 /// Whether the selected record has a match, if one was selected.

@@ -3,13 +3,13 @@ ghost use Rattle.std.specs.Prelude.{◌≡◌, ◌^◌, ◌<◌, ◌≤◌, IfOk
 ghost use Rattle.std.specs.List.{list_all};
 ghost use Rattle.rpg_cycle.specs.Cycled.{AreSeen, KeepsWell};
 ghost use Rattle.rpg_cycle.specs.Doing.{IsSeen};
-ghost use Rattle.rpg_cycle.specs.Ends.{GoesOn};
+ghost use Rattle.rpg_cycle.specs.Ends.{Continues};
 ghost use Rattle.rpg_cycle.specs.Indicators as lights;
 ghost use Rattle.rpg_cycle.specs.Selecting.{ComparesLevels, EndsAtRecord, EndsSelecting, EndsTakingIn, HoldsWaiting, IsChosen, IsPicked, IsTakenUp, IsUntaken, LeavesFile, ReadsRecord, TakesIn, TakesType};
 ghost use Rattle.rpg_cycle.specs.Stages.{IfStops, job_end};
 ghost use Rattle.rpg_cycle_records.specs.Fitting.{IsFilledAs};
 ghost use Rattle.rpg_cycle_records.specs.Holding.{IsFileKept};
-ghost use Rattle.rpg_cycle_records.specs.Identifying.{is_good_record};
+ghost use Rattle.rpg_cycle_records.specs.Identifying.{is_valid_record};
 ghost use Rattle.rpg_machine.specs.Ready.{IsReady};
 ghost use Rattle.rpg_program.specs.Object.{input_length};
 ghost use Rattle.rpg_text.specs.Texts.{is_character};
@@ -20,7 +20,7 @@ use crate::program::indicator_of;
 use crate::seen::Seen;
 use rpg_cycle_records::{
     Kept, KeptFile, LastBytes, LastValues, MatchValue, chosen, compare, control_fields, fill,
-    identify, input_length, is_good, match_fields,
+    identify, input_length, is_valid, match_fields,
 };
 use rpg_machine::Machine;
 use rpg_program::halt::Halt;
@@ -61,12 +61,12 @@ fn take_type<S: Store + Drop>(
 /// Whether the program accepts a record from a file. Doesn't test the bytes of one that is known to have only characters.
 fn can_take(program: &Verified, file: InputFile, text: &[u8], is_seen: bool) -> bool
     requires { is_seen ≡ true → list_all is_character text.now ≡ true }
-    ensures { result ≡ is_good_record program.now file text.now }
+    ensures { result ≡ is_valid_record program.now file text.now }
 {
     if is_seen {
         text.len() <= input_length(program, file)
     } else {
-        is_good(program, file, text)
+        is_valid(program, file, text)
     }
 }
 
@@ -83,7 +83,7 @@ fn read<S: Store + Drop>(
 ) -> Result<(), PhaseStop>
     requires few { machine.old.config.steps ≤ 2 ^ 50 }
     requires seen { is_seen ≡ true → list_all is_character text.now ≡ true }
-    ensures goes { IfOk result (λ _. ReadsRecord program.now file last.now (Some text.now) kept.old machine.old GoesOn kept.new machine.new) }
+    ensures goes { IfOk result (λ _. ReadsRecord program.now file last.now (Some text.now) kept.old machine.old Continues kept.new machine.new) }
     ensures stops { IfStops result (λ e. EndsAtRecord program.now file last.now text.now machine.old (job_end e) machine.new) }
     ensures leaves { LeavesFile program.now file machine.old result kept.new machine.new }
 {

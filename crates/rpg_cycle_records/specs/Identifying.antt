@@ -11,8 +11,8 @@ use Rattle.rpg_text.specs.Texts.{is_character}
 -- ---- the record
 
 -- a record of characters that is no longer than the file's records
-abbrev pub is_good_record : Object → InputFile → List ℕ → Bool
-is_good_record p f text = nat_le (length text) (input_length p f) && list_all is_character text
+abbrev pub is_valid_record : Object → InputFile → List ℕ → Bool
+is_valid_record p f text = nat_le (length text) (input_length p f) && list_all is_character text
 
 -- padded with blanks to the length of the file's records
 abbrev pub padded : Object → InputFile → List ℕ → List ℕ

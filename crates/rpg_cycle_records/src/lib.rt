@@ -18,4 +18,4 @@ pub use matching::{LastValues, MatchValue};
 pub use program::{
     control_fields, file_of, input_length, match_fields, rows_of, type_at, types_of,
 };
-pub use record::{fill, is_good};
+pub use record::{fill, is_valid};

@@ -11,8 +11,8 @@ use std::alloc::AllocError;
 
 /// Whether a program accepts the record from a file: only characters, 0x20 to 0x7E, and no longer than the file's records. It may
 /// be empty.
-pub fn is_good(program: &Verified, file: InputFile, text: &[u8]) -> bool
-    ensures { result ≡ spec.is_good_record program.now file text.now }
+pub fn is_valid(program: &Verified, file: InputFile, text: &[u8]) -> bool
+    ensures { result ≡ spec.is_valid_record program.now file text.now }
 {
     text.len() <= input_length(program, file) && has_only_characters(text)
 }
@@ -26,7 +26,7 @@ pub fn fill(
     file: InputFile,
     text: &[u8],
 ) -> Result<(), AllocError>
-    requires { spec.is_good_record program.now file text.now ≡ true }
+    requires { spec.is_valid_record program.now file text.now ≡ true }
     ensures filled { IfOk result (λ _. room.new.items ≡ spec.padded program.now file text.now) }
     ensures whole { IfOk result (λ _. length room.new.items ≡ length_of program.now file) }
 {

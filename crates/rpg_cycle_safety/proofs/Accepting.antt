@@ -1,4 +1,4 @@
--- What an accepted program gives to the machine.
+-- What an accepted program guarantees to the machine.
 use Rattle.std.proofs.Common.{◌≡◌, ℕ, All, Option, None, Some, slice_get, refl, subst}
 use Rattle.std.proofs.lemmas.List.Elements.{All-nil}
 use Rattle.std.proofs.lemmas.Option.{get_or_from_slice_get, slice_get_within}

@@ -38,7 +38,7 @@ use Rattle.rpg_machine_operations.proofs.Overlays.{over_length}
 use Rattle.rpg_memory.proofs.Programs.{program_forms}
 use Rattle.rpg_machine_operations.proofs.Rights.{entries_right}
 use Rattle.rpg_memory.proofs.Values.{length_low}
-use Rattle.rpg_machine_operations.specs.Good.{AreOperandEntries, FitsPosition, HasPosition, IsRightAction}
+use Rattle.rpg_machine_operations.specs.Valid.{AreOperandEntries, FitsPosition, HasPosition, IsRightAction}
 use Rattle.rpg_memory.specs.Fields.{AreForms, IsValue, reads_index}
 use Rattle.rpg_program.specs.Kept.{IsCharacter, IsProgram}
 use Rattle.rpg_program.specs.Object.{Object}
@@ -64,7 +64,7 @@ over_fits : (side : Side) (k : ℕ) (n : ℤ) (len : ℕ) (old : ℤ) → unsign
 over_fits Right k n len old = (right_digits k n len old).fits
 over_fits Left k n len old = (left_digits k n len old).fits
 
-module _ (p : Object) (good : AreForms p.fields) where
+module _ (p : Object) (valid : AreForms p.fields) where
   after_fits : (from : Kind) (side : Side) (w : Data nat_cmp) (b : Entry ℕ) (len : ℕ) (old n : ℤ) → 1 ≤ len →
       number_after (form_at p.fields) from side w b len old ≡ Some n → unsigned_abs n < 10 ^ len
   after_fits kinds.Number side w b len old n low h =
@@ -84,7 +84,7 @@ module _ (p : Object) (good : AreForms p.fields) where
   moved_keeps from kinds.Number side w b r h source result may =
       or_halts p (number_after (form_at p.fields) from side w b (length_of (form_at p.fields r.field)) (number_at w r.field r.position)) 4 w (λ n. Gives (set_value w r.field r.position (Number n))) (omega arith, omega arith, λ is. omega (arith, is)) h
       (λ n is. gives p _ (number_written p w r.field r.position n h result may
-      (after_fits from side w b (length_of (form_at p.fields r.field)) (number_at w r.field r.position) n (length_low p.fields r.field r.position good result) is)))
+      (after_fits from side w b (length_of (form_at p.fields r.field)) (number_at w r.field r.position) n (length_low p.fields r.field r.position valid result) is)))
   moved_keeps from kinds.Text side w b r h source result may =
       gives p _ (text_written p w r.field r.position (text_over side (source_text (form_at p.fields) from w b) (characters_at w r.field r.position)) h result may
       (over_length side (source_text (form_at p.fields) from w b) (characters_at w r.field r.position) ∙ text_long p w r.field r.position h result)
@@ -96,7 +96,7 @@ module _ (p : Object) (good : AreForms p.fields) where
       can_hold (form_at p.fields) index n ≡ true → Holds p (index_set index n w)
   index_kept Blank n w h reads holds = h
   index_kept (Literal m) n w h reads holds = h
-  index_kept (Field k) n w h reads holds = number_written p w k 1 (pos n) h (index_value p.fields k good reads) (index_may (form_at p.fields k) reads) (held p.fields k n holds)
+  index_kept (Field k) n w h reads holds = number_written p w k 1 (pos n) h (index_value p.fields k valid reads) (index_may (form_at p.fields k) reads) (held p.fields k n holds)
 
   current_if : (b : Bool) (table n : ℕ) (w : Data nat_cmp) → Holds p w → 1 ≤ n → n ≤ entries_of (form_at p.fields table) →
       Holds p (cond b (set_current w table n) w)
@@ -115,7 +115,7 @@ module _ (p : Object) (good : AreForms p.fields) where
   placed_keeps : (b : Entry ℕ) (table : Option ℕ) (o : Option Found) (w : Data nat_cmp) → Holds p w → reads_index p.fields b.index ≡ true →
       IfSome o (λ f. FitsPosition p.fields b table f.position) → Holds p (with_found (form_at p.fields) b table o w)
   unfolding with_found
-  placed_keeps b table None w h reads fits = index_kept b.index 1 w h reads (first_fits p.fields b.index good reads)
+  placed_keeps b table None w h reads fits = index_kept b.index 1 w h reads (first_fits p.fields b.index valid reads)
   placed_keeps b table (Some f) w h reads fits =
       let n = f.position in
       let one = index_kept b.index n w h reads (holds_index p.fields b table n fits) in
@@ -180,9 +180,9 @@ pub operate_keeps : (p : Object) (a : Action (Operand ℕ)) (w : Data nat_cmp) �
     IsRightRow (form_at p.fields) (row_of (form_of (form_at p.fields)) a) → Holds p w → KeepsData p (operate (form_at p.fields) a w)
 unfolding operate resolved
 operate_keeps p a w stored_value row h =
-    let good = program_forms p stored_value in
+    let valid = program_forms p stored_value in
     let right : IsRightAction p.fields a = record { storage = row.storage; kinds = row.kinds; positions = row.positions } in
     or_halts p (resolved (form_at p.fields) w.fields a) 2 w (λ e. act (form_at p.fields) e w) (omega arith, omega arith, λ is. omega (arith, is)) h
     (λ e is.
     let found = cond_some (has_entries (form_at p.fields) w.fields a) (with_operands (entry_of (form_at p.fields) w.fields) a) e is in
-    subst (λ (x : Action (Entry ℕ)). KeepsData p (act (form_at p.fields) x w)) found.1 (act_keeps p good w h a right (entries_right p.fields w.fields a good h.fits right found.0)))
+    subst (λ (x : Action (Entry ℕ)). KeepsData p (act (form_at p.fields) x w)) found.1 (act_keeps p valid w h a right (entries_right p.fields w.fields a valid h.fits right found.0)))

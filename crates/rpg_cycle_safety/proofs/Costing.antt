@@ -1,8 +1,8 @@
--- Steps and sections of an accepted program pay for what they put out.
+-- Steps and sections of an accepted program pay for what they output.
 use Rattle.std.proofs.Common.{◌≡◌, ℕ, zero, suc, ◌+◌, Bool, true, false, ◌&&◌, cond, eqb, [], Option, None, Some, refl, sym, subst, arith, nat_cmp}
 use Rattle.std.specs.FinMap as map
 use Rattle.rpg_program.specs.Effect.{Effect}
-use Rattle.rpg_program.specs.Ends.{End, GoesOn, Halt, Wrong}
+use Rattle.rpg_program.specs.Ends.{End, Continues, Halt, Wrong}
 use Rattle.rpg_program.specs.declared.operation.Instruction.{Instruction}
 use Rattle.rpg_cycle_safety.proofs.Outputting.{instruction_few}
 use Rattle.rpg_cycle_safety.proofs.Sizing.{PutsFew, bytes_both, near_both}
@@ -29,12 +29,12 @@ use Rattle.rpg_paper.specs.Paper.{Position, last_position_from}
 
 -- ---- from one configuration to another
 
--- nothing was put out, and the form stayed
+-- nothing was output, and the form stayed
 pub nothing_paid : (previous : Option Position) (n : ℕ) (c d : Config) → d.steps ≡ c.steps + n → d.world.paper.here ≡ c.world.paper.here → StandsNear previous c.world.paper.here →
     PaysForOutput previous c d no_output
 nothing_paid previous n c d steps same near = record { few = omega (arith, steps); near = subst (λ (x : Position). StandsNear previous x) (sym same) near }
 
--- an effect that weighs what it puts out
+-- an effect that weighs what it outputs
 pub effect_paid : (previous : Option Position) (n : ℕ) (c d : Config) (e : Effect nat_cmp) → d.steps ≡ c.steps + n → d.world ≡ e.world → PutsFew previous n e →
     PaysForOutput previous c d (output_of e)
 effect_paid previous n c d e steps world h =
@@ -63,7 +63,7 @@ arrived_steps c k (Some to) = refl
 module _ (p : Object) (orderly : IsOrderly p) where
   ended_paid : (ending : End) (previous : Option Position) (n : ℕ) (c m a : Config) (e : Effect nat_cmp) → m.steps ≡ c.steps + n → a.steps ≡ c.steps + n →
       PutsFew previous n e → PaysFor previous c (outcome_of ending m a e.world (output_of e))
-  ended_paid GoesOn previous n c m a e one two h = effect_paid previous n c (record a { world = e.world }) e two refl h
+  ended_paid Continues previous n c m a e one two h = effect_paid previous n c (record a { world = e.world }) e two refl h
   ended_paid (Halt k) previous n c m a e one two h = effect_paid previous n c (record m { world = e.world }) e one refl h
   ended_paid (Wrong f) previous n c m a e one two h = effect_paid previous n c (record m { world = e.world }) e one refl h
 
@@ -104,7 +104,7 @@ module _ (p : Object) (orderly : IsOrderly p) where
   onward_paid previous c (Stop e d o) go steady h next = h
 
   one_more : (n : ℕ) → RunPays (run p n) → (b : Bool) (previous : Option Position) (c : Config) → is_end p c ≡ b → IsSteady p c → StandsNear previous c.world.paper.here →
-      PaysFor previous c (cond b (Stop GoesOn c no_output) (onward (step p c) (run p n)))
+      PaysFor previous c (cond b (Stop Continues c no_output) (onward (step p c) (run p n)))
   one_more n next true previous c at_end steady near = nothing_paid previous 0 c c (omega arith) refl near
   one_more n next false previous c at_end steady near = onward_paid previous c (step p c) (run p n) (leads_well p orderly c steady at_end) (step_paid previous c at_end steady near) next
 

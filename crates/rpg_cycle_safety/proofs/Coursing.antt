@@ -6,7 +6,7 @@ use Rattle.rpg_cycle.proofs.Cycling.{at_first, keeps}
 use Rattle.rpg_cycle.proofs.Ending.{few_cycles, shorter}
 use Rattle.rpg_cycle.proofs.OneRun.{runs_same}
 use Rattle.rpg_cycle.specs.Counting.{records_count, waiting_count}
-use Rattle.rpg_cycle.specs.Ends.{PhaseEnd, GoesOn, EndOfJob, Halt, Wrong}
+use Rattle.rpg_cycle.specs.Ends.{PhaseEnd, Continues, EndOfJob, Halt, Wrong}
 use Rattle.rpg_cycle.specs.Phases.{UnderWay, begun, needs_record}
 use Rattle.rpg_cycle.specs.Runs.{Course, IsRun, Records, RunsIn, last_cycle, left_following, next_of, printed, stored, with_cycle}
 use Rattle.rpg_cycle.specs.Starting.{job_first_world, job_start}
@@ -42,13 +42,13 @@ module _ (p : Object) (orderly : IsOrderly p) where
 
   by_cycle : (n : ℕ) → RunsFrom n → (earlier : List Selected) (rs : Records) (c : Config) (i : Inputs) → merging.AreMergedInOrder p earlier i → waiting_count i + records_count rs < suc n →
       (e : PhaseEnd) (d : UnderWay) (out : Output) → next_cycle p earlier rs c i (begun p c i) e d out → CyclesWell p e d → HasCourse (suc n) p earlier rs c i
-  by_cycle n next earlier rs c i order enough GoesOn d out cycle well =
+  by_cycle n next earlier rs c i order enough Continues d out cycle well =
       let fewer = shorter p earlier rs c i d out order cycle in
       let order_kept = keeps p earlier (next_of (needs_record p c i Primary) rs.primary) (next_of (needs_record p c i Secondary) rs.secondary) c i d out order cycle in
       let rest = next (with_record d.selected earlier) (left_following p c i rs) d.config d.inputs well.values (well.no_cell refl) well.waiting order_kept (omega (arith, fewer, enough)) in
       let one = well.few in
       let others = rest.few in
-      record { course = with_cycle d.config out rest.course; runs = (GoesOn, d, out, cycle, (rest.course, rest.runs, refl)); ending = rest.ending; few = omega (arith, one, others) }
+      record { course = with_cycle d.config out rest.course; runs = (Continues, d, out, cycle, (rest.course, rest.runs, refl)); ending = rest.ending; few = omega (arith, one, others) }
   by_cycle n next earlier rs c i order enough EndOfJob d out cycle well =
       record { course = last_cycle EndOfJob d out; runs = (EndOfJob, d, out, cycle, refl); ending = tt; few = well.few }
   by_cycle n next earlier rs c i order enough (Halt k) d out cycle well =

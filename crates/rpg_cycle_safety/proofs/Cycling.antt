@@ -5,9 +5,9 @@ use Rattle.rpg_cycle.proofs.OneRun.{cycle_fixed}
 use Rattle.rpg_cycle.proofs.Spending.{within_bound}
 use Rattle.rpg_cycle_records.specs.Earlier.{Left, Selected, left_by}
 use Rattle.rpg_cycle_records.specs.Waiting.{Inputs, chosen, has_match, takes_in, waiting_in}
-use Rattle.rpg_cycle.specs.Ends.{PhaseEnd, GoesOn, EndOfJob, Halt, phase_end}
+use Rattle.rpg_cycle.specs.Ends.{PhaseEnd, Continues, EndOfJob, Halt, phase_end}
 use Rattle.rpg_cycle.specs.Indicators.{any_on, halt_indicators, is_on, last_record, level_indicators, matching_record, with_all, with_one}
-use Rattle.rpg_cycle.specs.Phases.{Cycle, CycleOn, Done, Phase, UnderWay, all_off, begun, detail_calculations, detail_lines, without_output, done, either, end_where_last, fill_fields, halt_where_asked, if_selected, is_bypassed, output, overflow_lines, read_record, section, select_from, select_one, select_record, set_off, show_match, take_in, total_time, with_config, ◌before◌}
+use Rattle.rpg_cycle.specs.Phases.{Cycle, CycleOn, Done, Phase, UnderWay, all_off, begun, detail_calculations, detail_lines, without_output, done, either, end_where_last, fill_fields, halt_if_indicated, if_selected, is_bypassed, output, overflow_lines, read_record, section, select_from, select_one, select_record, set_off, show_match, take_in, total_time, with_config, ◌before◌}
 use Rattle.rpg_cycle.specs.Staging.{after_selection}
 use Rattle.rpg_cycle.specs.Spending.{section_cost}
 use Rattle.rpg_program.specs.Ends as effects
@@ -24,7 +24,7 @@ use Rattle.rpg_cycle_safety.specs.Holding.{Holds}
 use Rattle.rpg_cycle_safety.specs.Leading as leading
 use Rattle.rpg_machine.specs.Accepted.{IsOrderly}
 use Rattle.rpg_machine.specs.Config.{Config, Output, no_output}
-use Rattle.rpg_machine.specs.Outputs.{PutsOut, inputs_at, output_effect, output_weight}
+use Rattle.rpg_machine.specs.Outputs.{Outputs, inputs_at, output_effect, output_weight}
 use Rattle.rpg_machine.specs.Run.{RunsTo}
 use Rattle.rpg_machine.specs.declared.time.OutputTime.{OutputTime}
 use Rattle.rpg_machine.specs.declared.time.OutputTime.TheVariants as times
@@ -46,11 +46,11 @@ module _ (p : Object) (orderly : IsOrderly p) where
 
   output_works : (time : OutputTime) (x : Owed) → Works p (output p time) x x (output_weight p time)
   output_works time x =
-      machine_works p (PutsOut p time) x (output_weight p time)
+      machine_works p (Outputs p time) x (output_weight p time)
       (λ c h none. effect_acts p (output_weight p time) (output_effect p time) c (output_keeps p orderly.program orderly.sound time c.world h) none)
 
   named_end : (e : effects.End) → leading.IsNamedEnd e → IsCycleEnd (phase_end e)
-  named_end effects.GoesOn h = tt
+  named_end effects.Continues h = tt
   named_end (effects.Halt k) h = (h.0, omega (arith, h.1))
   named_end (effects.Wrong f) h = absurd h
 
@@ -97,8 +97,8 @@ module _ (p : Object) (orderly : IsOrderly p) where
 
   taking_works : (left : Left) (f : InputFile) (next : Option (List ℕ)) → Works p (take_in p left f next) owing owing (taking_weight f p.types)
   taking_works left f next =
-      does_work p (λ c. cond (takes_in p c.inputs f) (read_record p left f next c) (done GoesOn c)) owing owing (taking_weight f p.types)
-      (λ n c r. picked (taking_weight f p.types) n c (cond (takes_in p c.inputs f) (read_record p left f next c) (done GoesOn c)) r (takes p orderly left f c r.waiting r.taken next))
+      does_work p (λ c. cond (takes_in p c.inputs f) (read_record p left f next c) (done Continues c)) owing owing (taking_weight f p.types)
+      (λ n c r. picked (taking_weight f p.types) n c (cond (takes_in p c.inputs f) (read_record p left f next c) (done Continues c)) r (takes p orderly left f c r.waiting r.taken next))
 
   selecting_works : (left : Left) → Works p (select_one p left) owing owing (moving_weight p.types)
   selecting_works left =
@@ -113,10 +113,10 @@ module _ (p : Object) (orderly : IsOrderly p) where
   taking_both left primary secondary = take_in p left Primary primary before take_in p left Secondary secondary before select_one p left
 
   selected_by : (left : Left) (primary secondary : Option (List ℕ)) (b : Bool) →
-      Works p (either b (without_output (λ c. done GoesOn (with_config (with_all level_indicators true) c))) (taking_both left primary secondary)) owing owing selection_weight
+      Works p (either b (without_output (λ c. done Continues (with_config (with_all level_indicators true) c))) (taking_both left primary secondary)) owing owing selection_weight
   selected_by left primary secondary true =
-      does_work p (λ c. done GoesOn (with_config (with_all level_indicators true) c)) owing owing selection_weight
-      (λ n c r. picked selection_weight n c (done GoesOn (with_config (with_all level_indicators true) c)) r (levels_alone p selection_weight c r.waiting r.taken))
+      does_work p (λ c. done Continues (with_config (with_all level_indicators true) c)) owing owing selection_weight
+      (λ n c r. picked selection_weight n c (done Continues (with_config (with_all level_indicators true) c)) r (levels_alone p selection_weight c r.waiting r.taken))
   selected_by left primary secondary false =
       both p (take_in p left Primary primary) (take_in p left Secondary secondary before select_one p left) owing owing owing (taking_weight Primary p.types)
       (taking_weight Secondary p.types + moving_weight p.types) (taking_works left Primary primary)
@@ -130,14 +130,14 @@ module _ (p : Object) (orderly : IsOrderly p) where
 
   -- ---- the other phases
 
-  halt_by : (b : Bool) (x : Owed) (n : ℕ) (c : UnderWay) → Ready p x n c → Comes p x n (cond b (Halt 6) GoesOn) c
+  halt_by : (b : Bool) (x : Owed) (n : ℕ) (c : UnderWay) → Ready p x n c → Comes p x n (cond b (Halt 6) Continues) c
   halt_by true x n c r = let few = r.few in ends p x n (Halt 6) c (omega arith, omega arith) (λ is. cc) r.values r.waiting (omega (arith, few))
   halt_by false x n c r = goes p x n c r
 
   same_limit : (x : Owed) (n : ℕ) (c : UnderWay) → Ready p x n c → Ready p x (n + 0) c
   same_limit x n c r = let few = r.few in record { values = r.values; no_cell = r.no_cell; waiting = r.waiting; taken = r.taken; few = omega (arith, few) }
 
-  halting_works : (x : Owed) → Works p halt_where_asked x x 0
+  halting_works : (x : Owed) → Works p halt_if_indicated x x 0
   halting_works x = does_work p _ x x 0 (λ n c r. halt_by (any_on c.config halt_indicators) x (n + 0) c (same_limit x n c r))
 
   off_works : (x : Owed) → Works p (set_off p) x x 0
@@ -150,7 +150,7 @@ module _ (p : Object) (orderly : IsOrderly p) where
       goes p x (n + 0) (with_config (all_off p) c)
       (record { values = still_holds p 0 c.config (all_off p c.config) still r.values; no_cell = still.cells ∙ r.no_cell; waiting = r.waiting; taken = r.taken; few = omega (arith, grown, few) }))
 
-  end_by : (b : Bool) (x : Owed) (n : ℕ) (c : UnderWay) → Ready p x n c → Comes p x n (cond b EndOfJob GoesOn) c
+  end_by : (b : Bool) (x : Owed) (n : ℕ) (c : UnderWay) → Ready p x n c → Comes p x n (cond b EndOfJob Continues) c
   end_by true x n c r = let few = r.few in ends p x n EndOfJob c tt (λ is. cc) r.values r.waiting (omega (arith, few))
   end_by false x n c r = goes p x n c r
 
@@ -180,7 +180,7 @@ module _ (p : Object) (orderly : IsOrderly p) where
       let few = r.few in
       let there : UnderWay = record { config = config; inputs = i; selected = None } in
       record {
-        ending = GoesOn;
+        ending = Continues;
         leads = there;
         output = no_output;
         phase = (refl, refl, refl);
@@ -246,9 +246,9 @@ module _ (p : Object) (orderly : IsOrderly p) where
 
     cycle_works : Works p (CycleOn p left matches primary secondary) owing nothing (output_weight p times.Detail + (0 + (0 + (selection_weight + (totals + (0 + late))))))
     cycle_works =
-        both p (detail_lines p) (halt_where_asked before set_off p before from_selection) owing owing nothing (output_weight p times.Detail) (0 + (0 + (selection_weight + (totals + (0 + late)))))
+        both p (detail_lines p) (halt_if_indicated before set_off p before from_selection) owing owing nothing (output_weight p times.Detail) (0 + (0 + (selection_weight + (totals + (0 + late)))))
         (output_works times.Detail owing)
-        (both p halt_where_asked (set_off p before from_selection) owing owing nothing 0 (0 + (selection_weight + (totals + (0 + late)))) (halting_works owing)
+        (both p halt_if_indicated (set_off p before from_selection) owing owing nothing 0 (0 + (selection_weight + (totals + (0 + late)))) (halting_works owing)
         (both p (set_off p) from_selection owing owing nothing 0 (selection_weight + (totals + (0 + late))) (off_works owing) middle_works))
 
   -- ---- cycles

@@ -50,7 +50,7 @@ columns_spelled f text h = All-take IsCharacter (f.to - (f.from - 1)) _ (All-dro
 
 -- ---- one field, and all of a record
 
-module _ (p : Object) (good : AreForms p.fields) where
+module _ (p : Object) (valid : AreForms p.fields) where
   by_number : (f : InputField ℕ) (part : List ℕ) (w : Data nat_cmp) (v : Value) (o : Option ℤ) → Holds p w → IsValue p.fields kinds.Number f.field 1 →
       may_write (form_at p.fields f.field) ≡ true →
       length part ≡ length_of (form_at p.fields f.field) → number_in part ≡ o → option_map Number o ≡ Some v → Holds p (taken_in f.field f.shows v w)
@@ -76,7 +76,7 @@ module _ (p : Object) (good : AreForms p.fields) where
       let part = record_part f text in
       let fits = fits_field p.fields (length text) f right in
       let long = long_there p.fields (length text) (length part) f fits (columns_long f text fits.low fits.ordered fits.high) in
-      let value = value_there p.fields (length text) f k good fits refl in
+      let value = value_there p.fields (length text) f k valid fits refl in
       let go = λ (v : Value). Gives (taken_in f.field f.shows v w) in
       let done : KeepsData p (or_halt (value_read k part) 4 w go) =
       or_halts p (value_read k part) 4 w go (omega arith, omega arith, λ is. omega (arith, is)) h

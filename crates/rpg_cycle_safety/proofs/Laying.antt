@@ -2,7 +2,7 @@
 use Rattle.std.proofs.Common.{◌≡◌, ℕ, ◌+◌, ◌-◌, ◌≤◌, Bool, true, false, cond, List, [], ◌∷◌, ◌++◌, length, take, drop, Option, None, Some, IfSome, refl, sym, ◌∙◌, subst, arith, length-append, length-drop, length-take-le, nat_cmp}
 use Rattle.std.proofs.lemmas.List.Elements.{All-head, All-tail}
 use Rattle.rpg_program.specs.Editing.{how_of, text_of}
-use Rattle.rpg_program.specs.Ends.{End, Fault, GoesOn, Halt, Wrong}
+use Rattle.rpg_program.specs.Ends.{End, Fault, Continues, Halt, Wrong}
 use Rattle.rpg_program.specs.Entries.{position_of}
 use Rattle.rpg_program.specs.Forms.{form_at, kind_of, length_of}
 use Rattle.rpg_program.specs.LineFaults.{AreRight, field_fault}
@@ -38,7 +38,7 @@ module _ (p : Object) (kept : IsProgram p) (len : ℕ) (w : Data nat_cmp) where
   abbrev IsLong : Drafted nat_cmp → Type 0
   IsLong d = length d.draft.text ≡ len
 
-  part_fits : (fields : Fields nat_cmp) (f : LineField ℕ) (n : ℕ) → Draws p w (drafted GoesOn (record { fields = fields; text = []; to_blank = [] })) →
+  part_fits : (fields : Fields nat_cmp) (f : LineField ℕ) (n : ℕ) → Draws p w (drafted Continues (record { fields = fields; text = []; to_blank = [] })) →
       IsFieldEntry p.fields f.operand.field n → field_fault forms (word_at p) len f ≡ None →
       length (text_of (forms f.operand.field) (how_of (word_at p) f.editing f.fill) (value_in fields (f.operand.field, n))) ≤ f.end
   part_fits fields f n h i fault =
@@ -50,7 +50,7 @@ module _ (p : Object) (kept : IsProgram p) (len : ℕ) (w : Data nat_cmp) where
       let fits = (right forms (word_at p) len f fault).width in
       omega (arith, wide, fits)
 
-  laid_long : (d : Draft nat_cmp) (f : LineField ℕ) (position : Option ℕ) → field_fault forms (word_at p) len f ≡ None → Draws p w (drafted GoesOn d) →
+  laid_long : (d : Draft nat_cmp) (f : LineField ℕ) (position : Option ℕ) → field_fault forms (word_at p) len f ≡ None → Draws p w (drafted Continues d) →
       IfSome position (λ n. IsFieldEntry p.fields f.operand.field n) → length d.text ≡ len → IsLong (laid forms (word_at p) d f position)
   laid_long d f None fault h i long = long
   laid_long d f (Some n) fault h i long =
@@ -65,7 +65,7 @@ module _ (p : Object) (kept : IsProgram p) (len : ℕ) (w : Data nat_cmp) where
   where_held true x y h k = h
   where_held false x y h k = k
 
-  field_long : (d : Draft nat_cmp) (f : LineField ℕ) → field_fault forms (word_at p) len f ≡ None → Draws p w (drafted GoesOn d) → length d.text ≡ len →
+  field_long : (d : Draft nat_cmp) (f : LineField ℕ) → field_fault forms (word_at p) len f ≡ None → Draws p w (drafted Continues d) → length d.text ≡ len →
       IsLong (with_field forms (word_at p) w.on len d f)
   unfolding with_field
   field_long d f fault h long =
@@ -73,16 +73,16 @@ module _ (p : Object) (kept : IsProgram p) (len : ℕ) (w : Data nat_cmp) where
       let position = position_of forms d.fields f.operand in
       let i = entry_there p.fields d.fields f.operand position refl kept.fields h.fields.fits r.there r.index in
       let put = laid forms (word_at p) d f position in
-      where_held (three_hold w.on f.conditions) (unless_faulty (field_fault forms (word_at p) len f) d put) (drafted GoesOn d)
+      where_held (three_hold w.on f.conditions) (unless_faulty (field_fault forms (word_at p) len f) d put) (drafted Continues d)
       (subst (λ (o : Option Fault). IsLong (unless_faulty o d put)) (sym fault) (laid_long d f position fault h i long)) long
 
   then_long : (ending : End) (d : Drafted nat_cmp) (go : Draft nat_cmp → Drafted nat_cmp) → Draws p w d → IsLong d →
-      (Draws p w (drafted GoesOn d.draft) → IsLong (go d.draft)) → IsLong (go_on_with ending d go)
-  then_long GoesOn d go h long next = next (record { ending = tt; fields = h.fields; blanks = h.blanks })
+      (Draws p w (drafted Continues d.draft) → IsLong (go d.draft)) → IsLong (go_on_with ending d go)
+  then_long Continues d go h long next = next (record { ending = tt; fields = h.fields; blanks = h.blanks })
   then_long (Halt k) d go h long next = long
   then_long (Wrong f) d go h long next = long
 
-  pub assembled_long : (fs : List (LineField ℕ)) (d : Draft nat_cmp) → AreRight forms (word_at p) len fs → Draws p w (drafted GoesOn d) → length d.text ≡ len →
+  pub assembled_long : (fs : List (LineField ℕ)) (d : Draft nat_cmp) → AreRight forms (word_at p) len fs → Draws p w (drafted Continues d) → length d.text ≡ len →
       length (assembled forms (word_at p) w.on len fs d).draft.text ≡ len
   assembled_long [] d all h long = long
   assembled_long (f ∷ fs) d all h long =

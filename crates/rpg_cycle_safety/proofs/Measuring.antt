@@ -1,11 +1,11 @@
--- The cycles of an accepted program pay for what they put out.
+-- The cycles of an accepted program pay for what they output.
 use Rattle.std.proofs.Common.{◌≡◌, ℕ, zero, suc, Bool, true, false, ◌||◌, cond, inl, inr, List, [], length, Option, None, Some, is_none, All, refl, sym, ap, ◌∙◌, subst, arith, nat_cmp, ℤ, unsigned_abs, ◌<◌, ◌^◌}
 use Rattle.std.specs.FinMap as map
 use Rattle.rpg_cycle_records.specs.Earlier.{Left, Selected, left_by, with_record}
 use Rattle.rpg_cycle_records.specs.Waiting.{Inputs, chosen, has_match, takes_in, unread, waiting_in}
-use Rattle.rpg_cycle.specs.Ends.{PhaseEnd, GoesOn, EndOfJob, Halt, Wrong}
+use Rattle.rpg_cycle.specs.Ends.{PhaseEnd, Continues, EndOfJob, Halt, Wrong}
 use Rattle.rpg_cycle.specs.Indicators.{any_on, halt_indicators, is_on, last_record, level_indicators, matching_record, with_all, with_one}
-use Rattle.rpg_cycle.specs.Phases.{Cycle, CycleOn, Done, Phase, UnderWay, all_off, begun, by_machine, detail_calculations, detail_lines, without_output, done, either, end_where_last, fill_fields, fill_from, from_there, halt_where_asked, has_no_overflow, if_selected, is_bypassed, needs_record, output, overflow_lines, nothing_done, read_record, section, select_from, select_one, select_record, set_off, show_match, take_in, total_time, unless, with_config, ◌before◌}
+use Rattle.rpg_cycle.specs.Phases.{Cycle, CycleOn, Done, Phase, UnderWay, all_off, begun, by_machine, detail_calculations, detail_lines, without_output, done, either, end_where_last, fill_fields, fill_from, from_there, halt_if_indicated, has_no_overflow, if_selected, is_bypassed, needs_record, output, overflow_lines, nothing_done, read_record, section, select_from, select_one, select_record, set_off, show_match, take_in, total_time, unless, with_config, ◌before◌}
 use Rattle.rpg_cycle.specs.Staging.{after_selection}
 use Rattle.rpg_cycle.specs.Runs.{Records, left_following, next_of}
 use Rattle.rpg_cycle.specs.Starting.{job_first_world, job_start}
@@ -47,7 +47,7 @@ use Rattle.rpg_paper.specs.Paper.{Position, last_position_from}
 module _ (p : Object) (orderly : IsOrderly p) where
   -- ---- between two phases
 
-  -- the values are what they are to be, no subroutine runs, and a record that was selected is good
+  -- the values are what they are to be, no subroutine runs, and a record that was selected is valid
   record Rests (c : UnderWay) : Type 0 where
     pub values : Holds p c.config.world.data
     pub no_cell : c.config.cells ≡ map.empty
@@ -57,7 +57,7 @@ module _ (p : Object) (orderly : IsOrderly p) where
   -- what a phase comes to
   record Pays (previous : Option Position) (c : UnderWay) (e : PhaseEnd) (d : UnderWay) (out : Output) : Type 0 where
     pub pays : PaysForOutput previous c.config d.config out
-    pub rests : e ≡ GoesOn → Rests d
+    pub rests : e ≡ Continues → Rests d
 
   abbrev IsPaid : Phase → Type 0
   IsPaid P = (previous : Option Position) (c : UnderWay) (e : PhaseEnd) (d : UnderWay) (out : Output) → Rests c → StandsNear previous c.config.world.paper.here → P c e d out →
@@ -70,7 +70,7 @@ module _ (p : Object) (orderly : IsOrderly p) where
 
   -- ---- one after another
 
-  same_put : (previous : Option Position) (c m d : UnderWay) (k e : PhaseEnd) (put out : Output) → (k ≡ GoesOn → ⊥) → Pays previous c k m put → e ≡ k → d ≡ m → out ≡ put →
+  same_put : (previous : Option Position) (c m d : UnderWay) (k e : PhaseEnd) (put out : Output) → (k ≡ Continues → ⊥) → Pays previous c k m put → e ≡ k → d ≡ m → out ≡ put →
       Pays previous c e d out
   same_put previous c m d k e put out stops h is there same = record {
     pays =
@@ -81,7 +81,7 @@ module _ (p : Object) (orderly : IsOrderly p) where
 
   from_paid : (Q : Phase) → IsPaid Q → (f : PhaseEnd) (previous : Option Position) (c m : UnderWay) (put : Output) (e : PhaseEnd) (d : UnderWay) (out : Output) →
       Pays previous c f m put → from_there Q f m put e d out → Pays previous c e d out
-  from_paid Q q GoesOn previous c m put e d out h (more, k, is) =
+  from_paid Q q Continues previous c m put e d out h (more, k, is) =
       let next = q (last_position_from previous put.lines) m e d more (h.rests refl) h.pays.near k in
       record {
         pays = subst (λ (o : Output). PaysForOutput previous c.config d.config o) (sym is) (paid_then previous c.config m.config d.config put more h.pays next.pays);
@@ -121,7 +121,7 @@ module _ (p : Object) (orderly : IsOrderly p) where
       (subst (λ (o : Option Selected). IsTaken p o) (sym (ap (λ (y : UnderWay). y.selected) there ∙ s.2)) r.taken) same
 
   pass_paid : IsPaid nothing_done
-  pass_paid = does_paid (done GoesOn) (λ c. (all_still [] true c.config, refl, refl))
+  pass_paid = does_paid (done Continues) (λ c. (all_still [] true c.config, refl, refl))
 
   either_paid : (b : Bool) (P : Phase) → IsPaid P → IsPaid (either b nothing_done P)
   either_paid true P h = pass_paid
@@ -163,18 +163,18 @@ module _ (p : Object) (orderly : IsOrderly p) where
 
   -- ---- the phases
 
-  halt_paid : IsPaid halt_where_asked
-  halt_paid = does_paid (λ c. done (cond (any_on c.config halt_indicators) (Halt 6) GoesOn) c) (λ c. (all_still [] true c.config, refl, refl))
+  halt_paid : IsPaid halt_if_indicated
+  halt_paid = does_paid (λ c. done (cond (any_on c.config halt_indicators) (Halt 6) Continues) c) (λ c. (all_still [] true c.config, refl, refl))
 
   off_paid : IsPaid (set_off p)
-  off_paid = does_paid (λ c. done GoesOn (with_config (all_off p) c)) (λ c. (off_still p c.config, refl, refl))
+  off_paid = does_paid (λ c. done Continues (with_config (all_off p) c)) (λ c. (off_still p c.config, refl, refl))
 
   end_paid : IsPaid end_where_last
-  end_paid = does_paid (λ c. done (cond (is_on c.config last_record || is_none c.selected) EndOfJob GoesOn) c) (λ c. (all_still [] true c.config, refl, refl))
+  end_paid = does_paid (λ c. done (cond (is_on c.config last_record || is_none c.selected) EndOfJob Continues) c) (λ c. (all_still [] true c.config, refl, refl))
 
   taking_paid : (left : Left) (f : InputFile) (next : Option (List ℕ)) → IsPaid (take_in p left f next)
   taking_paid left f next =
-      picked_paid (taking_weight f p.types) (λ c. cond (takes_in p c.inputs f) (read_record p left f next c) (done GoesOn c)) (λ c waiting taken. takes p orderly left f c waiting taken next)
+      picked_paid (taking_weight f p.types) (λ c. cond (takes_in p c.inputs f) (read_record p left f next c) (done Continues c)) (λ c waiting taken. takes p orderly left f c waiting taken next)
 
   selecting_paid : (left : Left) → IsPaid (select_one p left)
   selecting_paid left =
@@ -182,8 +182,8 @@ module _ (p : Object) (orderly : IsOrderly p) where
       (λ c waiting taken. selects p orderly left c waiting taken (chosen p (waiting_in c.inputs Primary) (waiting_in c.inputs Secondary)))
 
   selected_paid : (left : Left) (primary secondary : Option (List ℕ)) (b : Bool) →
-      IsPaid (either b (without_output (λ c. done GoesOn (with_config (with_all level_indicators true) c))) (take_in p left Primary primary before take_in p left Secondary secondary before select_one p left))
-  selected_paid left primary secondary true = picked_paid 0 (λ c. done GoesOn (with_config (with_all level_indicators true) c)) (λ c waiting taken. levels_alone p 0 c waiting taken)
+      IsPaid (either b (without_output (λ c. done Continues (with_config (with_all level_indicators true) c))) (take_in p left Primary primary before take_in p left Secondary secondary before select_one p left))
+  selected_paid left primary secondary true = picked_paid 0 (λ c. done Continues (with_config (with_all level_indicators true) c)) (λ c waiting taken. levels_alone p 0 c waiting taken)
   selected_paid left primary secondary false =
       both_paid (take_in p left Primary primary) (take_in p left Secondary secondary before select_one p left) (taking_paid left Primary primary)
       (both_paid (take_in p left Secondary secondary) (select_one p left) (taking_paid left Secondary secondary) (selecting_paid left))
@@ -193,7 +193,7 @@ module _ (p : Object) (orderly : IsOrderly p) where
 
   showing_paid : (matches : Inputs → Selected → Bool) → IsPaid (show_match matches)
   showing_paid matches =
-      does_paid (λ c. done GoesOn (with_config (with_one matching_record (if_selected (matches c.inputs) c.selected)) c))
+      does_paid (λ c. done Continues (with_config (with_one matching_record (if_selected (matches c.inputs) c.selected)) c))
       (λ c. (one_still matching_record (if_selected (matches c.inputs) c.selected) c.config, refl, refl))
 
   totals_paid : (left : Left) → IsPaid (total_time p left)
@@ -234,8 +234,8 @@ module _ (p : Object) (orderly : IsOrderly p) where
 
     cycle_paid : IsPaid (CycleOn p left matches primary secondary)
     cycle_paid =
-        both_paid (detail_lines p) (halt_where_asked before set_off p before from_selection) (output_paid times.Detail)
-        (both_paid halt_where_asked (set_off p before from_selection) halt_paid
+        both_paid (detail_lines p) (halt_if_indicated before set_off p before from_selection) (output_paid times.Detail)
+        (both_paid halt_if_indicated (set_off p before from_selection) halt_paid
         (both_paid (set_off p) from_selection off_paid
         (both_paid (select_record p left primary secondary) (after_selection p left matches) (selection_paid left primary secondary)
         (both_paid (total_time p left) from_ending (totals_paid left)
@@ -247,7 +247,7 @@ module _ (p : Object) (orderly : IsOrderly p) where
   starts : (c : Config) (i : Inputs) → Holds p c.world.data → c.cells ≡ map.empty → AreWaiting p i → Rests (begun p c i)
   starts c i h none waiting = record { values = h; no_cell = none; waiting = waiting; taken = tt }
 
-  -- what it puts out, and where the form stands after it
+  -- what it outputs, and where the form stands after it
   pub cycle_pays : (earlier : List Selected) (primary secondary : Option (List ℕ)) (previous : Option Position) (c : Config) (i : Inputs) (e : PhaseEnd) (d : UnderWay) (out : Output) →
       Holds p c.world.data → c.cells ≡ map.empty → AreWaiting p i → StandsNear previous c.world.paper.here → Cycle p earlier primary secondary (begun p c i) e d out →
       PaysForOutput previous (begun p c i).config d.config out
@@ -271,7 +271,7 @@ module _ (p : Object) (orderly : IsOrderly p) where
       (cycle_in_output earlier (next_of (needs_record p c i Primary) rs.primary) (next_of (needs_record p c i Secondary) rs.secondary) previous c i e d out h none waiting near cycle)
   of_cycles (suc n) earlier rs previous c i last out h none waiting near (inr (d, first, cycle, rest)) =
       let one = cycle_paid (left_by p earlier) (has_match p earlier) (next_of (needs_record p c i Primary) rs.primary) (next_of (needs_record p c i Secondary) rs.secondary) previous
-      (begun p c i) GoesOn d first (starts c i h none waiting) near cycle in
+      (begun p c i) Continues d first (starts c i h none waiting) near cycle in
       let there = one.rests refl in
       of_cycles n (with_record d.selected earlier) (left_following p c i rs) (last_position_from previous first.lines) d.config d.inputs last out there.values there.no_cell there.waiting one.pays.near rest
 

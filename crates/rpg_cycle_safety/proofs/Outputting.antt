@@ -1,4 +1,4 @@
--- What outputs and instructions of an accepted program put out is at most 10,000 bytes for each step that they weigh.
+-- Outputs and instructions of an accepted program write at most 10,000 bytes for each step that they weigh.
 use Rattle.std.proofs.Common.{◌≡◌, ℕ, ◌+◌, Bool, false, cond, List, [], ◌∷◌, Option, refl, arith, nat_cmp}
 use Rattle.rpg_program.specs.Effect.{Leaves}
 use Rattle.rpg_program.specs.Forms.{form_at}

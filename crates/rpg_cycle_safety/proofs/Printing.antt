@@ -6,11 +6,11 @@ use Rattle.std.specs.Prelude.{All}
 use Rattle.rpg_decimal.proofs.WholeLemmas.{ten_pos}
 use Rattle.rpg_paper.specs.Paper.{Position, spaced, skipped, turns_overflow_on}
 use Rattle.rpg_program.specs.Effect.{Effect, Leaves, unless_wrong}
-use Rattle.rpg_program.specs.Ends.{End, Fault, GoesOn, Halt, Wrong}
+use Rattle.rpg_program.specs.Ends.{End, Fault, Continues, Halt, Wrong}
 use Rattle.rpg_program.specs.Entries.{position_of}
 use Rattle.rpg_program.specs.Forms.{form_at, is_index_form, kind_of, length_of, may_write}
 use Rattle.rpg_program.specs.LineFaults.{AreRight, field_fault, fits_source, has_room, has_storage, has_word, prints_page, may_change}
-use Rattle.rpg_program.specs.Lines.{Draft, Drafted, Line, after_movement, after_skip, assembled, blank_line, blanked, blanked_all, with_page_counted, drafted, go_on_with, is_asked, laid, line_out, lines_out, next_page, one_out, printed_line, put_on, put_out, remembered, spaced_after, spaced_before, unless_faulty, where_asked, with_field, with_fields}
+use Rattle.rpg_program.specs.Lines.{Draft, Drafted, Line, after_movement, after_skip, assembled, blank_line, blanked, blanked_all, with_page_counted, drafted, go_on_with, is_due, laid, line_out, lines_out, next_page, one_out, printed_line, put_on, write_line_out, remembered, spaced_after, spaced_before, unless_faulty, where_due, with_field, with_fields}
 use Rattle.rpg_program.specs.Rows.{has_entry}
 use Rattle.rpg_program.specs.Values.{Value, Number, Text, number_of}
 use Rattle.rpg_program.specs.World.{Data, Fields, World, set_value, three_hold, value_in}
@@ -148,7 +148,7 @@ module _ (p : Object) where
     abbrev forms : ℕ → Option FieldForm
     forms field = form_at p.fields field
 
-    pub laid_keeps : (d : Draft nat_cmp) (f : LineField ℕ) (position : Option ℕ) → field_fault forms (word_at p) len f ≡ None → Draws w (drafted GoesOn d) →
+    pub laid_keeps : (d : Draft nat_cmp) (f : LineField ℕ) (position : Option ℕ) → field_fault forms (word_at p) len f ≡ None → Draws w (drafted Continues d) →
         IfSome position (λ n. IsFieldEntry p.fields f.operand.field n) →
         Draws w (laid forms (word_at p) d f position)
     laid_keeps d f None fault h i = record { ending = (omega arith, omega arith, λ is. omega (arith, is)); fields = h.fields; blanks = h.blanks }
@@ -158,7 +158,7 @@ module _ (p : Object) where
       blanks = remembers f.is_blanked (f.operand.field, n) d.to_blank h.blanks i (blank_may f.is_blanked (prints_page f.source) _ (field_may forms (word_at p) len f fault));
     }
 
-    pub field_keeps : (d : Draft nat_cmp) (f : LineField ℕ) → field_fault forms (word_at p) len f ≡ None → Draws w (drafted GoesOn d) →
+    pub field_keeps : (d : Draft nat_cmp) (f : LineField ℕ) → field_fault forms (word_at p) len f ≡ None → Draws w (drafted Continues d) →
         Draws w (with_field forms (word_at p) w.on len d f)
     unfolding with_field
     field_keeps d f fault h =
@@ -171,22 +171,22 @@ module _ (p : Object) where
         where_held true h k = h
         where_held false h k = k
 
-    goes_on : (ending : End) (d : Drafted nat_cmp) (go : Draft nat_cmp → Drafted nat_cmp) → IsEffectEnd ending → Draws w d →
-        (Draws w (drafted GoesOn d.draft) → Draws w (go d.draft)) → Draws w (go_on_with ending d go)
-    goes_on GoesOn d go right h next = next (record { ending = tt; fields = h.fields; blanks = h.blanks })
-    goes_on (Halt k) d go right h next = h
-    goes_on (Wrong f) d go right h next = absurd right
+    continues : (ending : End) (d : Drafted nat_cmp) (go : Draft nat_cmp → Drafted nat_cmp) → IsEffectEnd ending → Draws w d →
+        (Draws w (drafted Continues d.draft) → Draws w (go d.draft)) → Draws w (go_on_with ending d go)
+    continues Continues d go right h next = next (record { ending = tt; fields = h.fields; blanks = h.blanks })
+    continues (Halt k) d go right h next = h
+    continues (Wrong f) d go right h next = absurd right
 
-    assembled_keeps : (fs : List (LineField ℕ)) (d : Draft nat_cmp) → AreRight forms (word_at p) len fs → Draws w (drafted GoesOn d) →
+    assembled_keeps : (fs : List (LineField ℕ)) (d : Draft nat_cmp) → AreRight forms (word_at p) len fs → Draws w (drafted Continues d) →
         Draws w (assembled forms (word_at p) w.on len fs d)
     assembled_keeps [] d all h = h
     assembled_keeps (f ∷ fs) d all h =
         let Right = λ (g : LineField ℕ). field_fault forms (word_at p) len g ≡ None in
         let one = field_keeps d f (All-head Right f fs all) h in
-        goes_on (with_field forms (word_at p) w.on len d f).ending (with_field forms (word_at p) w.on len d f) (assembled forms (word_at p) w.on len fs) one.ending one
+        continues (with_field forms (word_at p) w.on len d f).ending (with_field forms (word_at p) w.on len d f) (assembled forms (word_at p) w.on len fs) one.ending one
         (λ k. assembled_keeps fs (with_field forms (word_at p) w.on len d f).draft (All-tail Right f fs all) k)
 
-  -- ---- a line that is put out
+  -- ---- a line that is output
 
   put_keeps : (overflow : Option ℕ) (file : File) (s : Spacing) (text : List ℕ) (w : World nat_cmp) → Holds p w.data → Keeps p (put_on overflow file s text w)
   unfolding put_on
@@ -196,8 +196,8 @@ module _ (p : Object) where
       (λ v k. leaves p _ (same_fields p v.data (spaced_after overflow s v).data k (after overflow s v)))
 
   out_keeps : (overflow : Option ℕ) (l : Line ℕ) (w : World nat_cmp) (ending : End) (d : Draft nat_cmp) → IsEffectEnd ending →
-      Draws w.data (drafted GoesOn d) → Keeps p (put_out (form_at p.fields) (word_at p) overflow l w ending d)
-  out_keeps overflow l w GoesOn d right h =
+      Draws w.data (drafted Continues d) → Keeps p (write_line_out (form_at p.fields) (word_at p) overflow l w ending d)
+  out_keeps overflow l w Continues d right h =
       then_keeps p (put_on overflow l.file l.spacing d.text (with_fields d.fields w)) (λ v. Leaves (with_fields (blanked_all d.to_blank v.data.fields) v))
       (put_keeps overflow l.file l.spacing d.text (with_fields d.fields w) h.fields) (λ v k. leaves p _ (all_blanked d.to_blank v.data k h.blanks))
   out_keeps overflow l w (Halt k) d right h = record { ending = right; holds = h.fields }
@@ -212,9 +212,9 @@ module _ (p : Object) where
         let done = assembled (form_at p.fields) (word_at p) w.data.on len l.fields start in
         let draws = assembled_keeps kept len w.data l.fields start sound.fields (record { ending = tt; fields = h; blanks = All-nil (MayWrite p) }) in
         let out = out_keeps overflow (program_line p l) w done.ending done.draft draws.ending (record { ending = tt; fields = draws.fields; blanks = draws.blanks }) in
-        subst (λ (o : Option Fault). Keeps p (unless_wrong o w (put_out (form_at p.fields) (word_at p) overflow (program_line p l) w done.ending done.draft))) (sym sound.line) out
+        subst (λ (o : Option Fault). Keeps p (unless_wrong o w (write_line_out (form_at p.fields) (word_at p) overflow (program_line p l) w done.ending done.draft))) (sym sound.line) out
 
-    asked_keeps : (b : Bool) (e : Effect nat_cmp) (w : World nat_cmp) → Keeps p e → Holds p w.data → Keeps p (where_asked (form_at p.fields) (word_at p) b e w)
+    asked_keeps : (b : Bool) (e : Effect nat_cmp) (w : World nat_cmp) → Keeps p e → Holds p w.data → Keeps p (where_due (form_at p.fields) (word_at p) b e w)
     asked_keeps true e w k h = k
     asked_keeps false e w k h = leaves p w h
 
@@ -222,7 +222,7 @@ module _ (p : Object) where
         Keeps p (one_out (form_at p.fields) (word_at p) overflow pass (program_line p l) w)
     unfolding one_out
     one_keeps pass l w sound h =
-        asked_keeps (is_asked overflow pass w.data.on l.time l.alternatives) (line_out (form_at p.fields) (word_at p) overflow (program_line p l) w) w (line_keeps l w sound h) h
+        asked_keeps (is_due overflow pass w.data.on l.time l.alternatives) (line_out (form_at p.fields) (word_at p) overflow (program_line p l) w) w (line_keeps l w sound h) h
 
     -- the lines of a passage
     pub lines_keep : (pass : Pass) (ls : List LineRow) (w : World nat_cmp) → All (IsSoundLine p) ls → Holds p w.data →

@@ -1,7 +1,7 @@
 -- A section of an accepted program has a run, which comes to its end or to a halt.
 use Rattle.std.proofs.Common.{◌≡◌, ℕ, zero, suc, ◌+◌, ◌*◌, ◌-◌, ◌<◌, ◌≤◌, Bool, true, false, cond, [], refl, ap, ◌∙◌, subst, arith, le_trans}
 use Rattle.std.specs.FinMap as map
-use Rattle.rpg_program.specs.Ends.{End, GoesOn, Halt, Wrong}
+use Rattle.rpg_program.specs.Ends.{End, Continues, Halt, Wrong}
 use Rattle.rpg_cycle_safety.proofs.Stepping.{leads_well}
 use Rattle.rpg_cycle_safety.specs.Holding.{Holds}
 use Rattle.rpg_cycle_safety.specs.Leading.{EndsWell, HasSectionRun, IsNamedEnd, IsSteady, StepsWell, StandsWell}
@@ -34,17 +34,17 @@ record Stops (p : Object) (c : Config) (safe : IsSafe p c) (enough : ℕ) : Type
   pub runs : run p enough c ≡ Stop ending last output
   pub named : IsNamedEnd ending
   pub values : Holds p last.world.data
-  pub no_cell : ending ≡ GoesOn → last.cells ≡ map.empty
+  pub no_cell : ending ≡ Continues → last.cells ≡ map.empty
   pub spent : last.allowance ≤ c.allowance
   pub bound : last.steps + last.allowance * most p ≤ potential (cost p) (most p) c safe.cells
 
 module _ (p : Object) (orderly : IsOrderly p) where
-  run_once : (n : ℕ) (c : Config) (b : Bool) (x : Outcome) → is_end p c ≡ b → step p c ≡ x → run p (suc n) c ≡ cond b (Stop GoesOn c no_output) (onward x (run p n))
+  run_once : (n : ℕ) (c : Config) (b : Bool) (x : Outcome) → is_end p c ≡ b → step p c ≡ x → run p (suc n) c ≡ cond b (Stop Continues c no_output) (onward x (run p n))
   run_once n c b x e s = rw (e, s) refl
 
   at_end : (n : ℕ) (c : Config) (safe : IsSafe p c) → Holds p c.world.data → is_end p c ≡ true → Stops p c safe (suc n)
   at_end n c safe h e = record {
-    ending = GoesOn;
+    ending = Continues;
     last = c;
     output = no_output;
     runs = run_once n c true (step p c) e refl;
@@ -73,10 +73,10 @@ module _ (p : Object) (orderly : IsOrderly p) where
 
   by_step : (n : ℕ) → RunsFrom n → (c : Config) (safe : IsSafe p c) → work_left p c < suc n → is_end p c ≡ false → (x : Outcome) → step p c ≡ x →
       StepsWell p x → Stops p c safe (suc n)
-  by_step n next c safe l e (Next d o) s good =
+  by_step n next c safe l e (Next d o) s valid =
       let both = safe_and_bounded p c d o orderly safe s in
       let less = less_work p c d o (in_code p c orderly safe.place e) s in
-      let more = next d both.0 good.values (omega (arith, less, l)) in
+      let more = next d both.0 valid.values (omega (arith, less, l)) in
       let falls = both.1 (cost p) (most p) orderly.costs in
       let spent = step_spends c d o s in
       record {
@@ -90,15 +90,15 @@ module _ (p : Object) (orderly : IsOrderly p) where
         spent = le_trans more.spent spent;
         bound = le_trans more.bound falls;
       }
-  by_step n next c safe l e (Stop GoesOn d o) s good = absurd good
-  by_step n next c safe l e (Stop (Wrong f) d o) s good = absurd good
-  by_step n next c safe l e (Stop (Halt k) d o) s good = record {
+  by_step n next c safe l e (Stop Continues d o) s valid = absurd valid
+  by_step n next c safe l e (Stop (Wrong f) d o) s valid = absurd valid
+  by_step n next c safe l e (Stop (Halt k) d o) s valid = record {
     ending = Halt k;
     last = d;
     output = o;
     runs = run_once n c false (Stop (Halt k) d o) e s;
-    named = good.0;
-    values = good.1.values;
+    named = valid.0;
+    values = valid.1.values;
     no_cell = λ is. cc;
     spent = let same = (halted p c d k o s).allowance in omega (arith, same);
     bound = halts_low p c d k o safe s (cost p) (most p) orderly.costs;
@@ -142,18 +142,18 @@ module _ (p : Object) (orderly : IsOrderly p) where
 
   put_well : (o : Output) (x : Outcome) → StandsWell p x → StandsWell p (put_before o x)
   put_well o (Next d more) h = h
-  put_well o (Stop GoesOn d more) h = h
+  put_well o (Stop Continues d more) h = h
   put_well o (Stop (Halt k) d more) h = h
   put_well o (Stop (Wrong f) d more) h = absurd h
 
   onward_well : (x : Outcome) (go : Config → Outcome) → StepsWell p x → ((d : Config) → IsSteady p d → StandsWell p (go d)) → StandsWell p (onward x go)
   onward_well (Next d o) go h next = put_well o (go d) (next d h)
-  onward_well (Stop GoesOn d o) go h next = absurd h
+  onward_well (Stop Continues d o) go h next = absurd h
   onward_well (Stop (Halt k) d o) go h next = h
   onward_well (Stop (Wrong f) d o) go h next = absurd h
 
   one_more : (n : ℕ) (c : Config) (b : Bool) → ((d : Config) → IsSteady p d → StandsWell p (run p n d)) → is_end p c ≡ b → IsSteady p c →
-      StandsWell p (cond b (Stop GoesOn c no_output) (onward (step p c) (run p n)))
+      StandsWell p (cond b (Stop Continues c no_output) (onward (step p c) (run p n)))
   one_more n c true next e h = (h, e)
   one_more n c false next e h = onward_well (step p c) (run p n) (leads_well p orderly c h e) next
 

@@ -11,9 +11,9 @@ use Rattle.rpg_cycle_records.proofs.Recording.{filled_characters}
 use Rattle.rpg_cycle_records.proofs.Trying.{all_there, fit_file}
 use Rattle.rpg_cycle.proofs.Selecting.{all_inside}
 use Rattle.rpg_cycle_records.specs.Earlier.{Left, Selected, control_fields, file_of, last_of_file, levels_of, match_fields, match_value, row_match_fields}
-use Rattle.rpg_cycle.specs.Ends.{PhaseEnd, GoesOn, Halt, Wrong}
+use Rattle.rpg_cycle.specs.Ends.{PhaseEnd, Continues, Halt, Wrong}
 use Rattle.rpg_cycle_records.specs.Fitting.{IsControlIn, IsFilledAs, IsTypeFit, IsTypeOf}
-use Rattle.rpg_cycle_records.specs.Identifying.{Trial, IsOf, IsOfNone, Misplaced, padded, code_holds, identified, is_good_record, has_position, same_file, trial_weight}
+use Rattle.rpg_cycle_records.specs.Identifying.{Trial, IsOf, IsOfNone, Misplaced, padded, code_holds, identified, is_valid_record, has_position, same_file, trial_weight}
 use Rattle.rpg_cycle_records.specs.Levels.{is_in_record}
 use Rattle.rpg_cycle_records.specs.Matching.{exceeds}
 use Rattle.rpg_cycle_records.specs.Paying.{moved_of}
@@ -88,9 +88,9 @@ first : (b c : Bool) → (b && c) ≡ true → b ≡ true
 first true c h = refl
 first false c h = cc
 
-filled_long : (p : Object) (f : InputFile) (text : List ℕ) → is_good_record p f text ≡ true → length (padded p f text) ≡ input_length p f
-filled_long p f text good =
-    let short : length text ≤ input_length p f = leb-true (length text) (input_length p f) (first (leb (length text) (input_length p f)) (list_all is_character text) good) in
+filled_long : (p : Object) (f : InputFile) (text : List ℕ) → is_valid_record p f text ≡ true → length (padded p f text) ≡ input_length p f
+filled_long p f text valid =
+    let short : length text ≤ input_length p f = leb-true (length text) (input_length p f) (first (leb (length text) (input_length p f)) (list_all is_character text) valid) in
     let long = length-append text (replicate (input_length p f - length text) 32) in
     let blanks : length {A = ℕ} (replicate (input_length p f - length text) 32) ≡ input_length p f - length text = length-replicate (input_length p f - length text) 32 in
     omega (arith, short, long, blanks)
@@ -161,7 +161,7 @@ module _ (p : Object) (orderly : IsOrderly p) (left : Left) where
 
       matched : (t : ℕ) (low : Bool) → identified f 0 p.types full ≡ IsOf t →
           Takes (cond low (done (Halt 8) (with_config (charged (length (match_fields p t))) tried))
-          (done GoesOn (with_inputs (with_waiting f (Some (record { type = t; text = full }))) (with_config (charged (length (match_fields p t))) tried))))
+          (done Continues (with_inputs (with_waiting f (Some (record { type = t; text = full }))) (with_config (charged (length (match_fields p t))) tried))))
       matched t low is = by_test low
         where
           still : Still (trial_weight f p.types full + length (match_fields p t)) c.config (charged (length (match_fields p t)) tried.config)
@@ -172,7 +172,7 @@ module _ (p : Object) (orderly : IsOrderly p) (left : Left) where
           few = taken_few f p.types full t (found_own f p.types full t is)
 
           by_test : (b : Bool) → Takes (cond b (done (Halt 8) (with_config (charged (length (match_fields p t))) tried))
-              (done GoesOn (with_inputs (with_waiting f (Some (record { type = t; text = full }))) (with_config (charged (length (match_fields p t))) tried))))
+              (done Continues (with_inputs (with_waiting f (Some (record { type = t; text = full }))) (with_config (charged (length (match_fields p t))) tried))))
           by_test true = stays p (taking_weight f p.types) (trial_weight f p.types full + length (match_fields p t)) c (charged (length (match_fields p t)) tried.config) (Halt 8) (omega arith, omega arith) waiting taken still few
           by_test false = record {
             weight = trial_weight f p.types full + length (match_fields p t);
@@ -195,7 +195,7 @@ module _ (p : Object) (orderly : IsOrderly p) (left : Left) where
           let s : Selected = record { type = t; text = full } in
           let low = exceeds (last_of_file left f) (match_value p s) in
           let there = with_config (charged (length (match_fields p t))) tried in
-          subst (λ (b : Bool). Takes (cond (not b) (done (Wrong effects.Storage) there) (cond low (done (Halt 8) there) (done GoesOn (with_inputs (with_waiting f (Some s)) there)))))
+          subst (λ (b : Bool). Takes (cond (not b) (done (Wrong effects.Storage) there) (cond low (done (Halt 8) there) (done Continues (with_inputs (with_waiting f (Some s)) there)))))
           (sym (in_columns t is)) (matched t low is)
 
       by_trial : (t : Trial) → identified f 0 p.types full ≡ t → Takes (take_type p left f full t tried)
@@ -205,21 +205,21 @@ module _ (p : Object) (orderly : IsOrderly p) (left : Left) where
           (tried_few f p.types full)
       by_trial Misplaced is = absurd (never_misplaced f 0 p.types full (fit_file p f (length full) p.types long types_there) is)
 
-    read_good : (b : Bool) (text : List ℕ) → is_good_record p f text ≡ b → Takes (cond b (identify p left f (padded p f text) c) (done (Halt 7) c))
-    read_good true text good =
-        by_trial (padded p f text) (filled_long p f text good) (filled_characters p f text good) (identified f 0 p.types (padded p f text)) refl
-    read_good false text good = stays p (taking_weight f p.types) 0 c c.config (Halt 7) (omega arith, omega arith) waiting taken (itself c.config) (omega arith)
+    read_valid : (b : Bool) (text : List ℕ) → is_valid_record p f text ≡ b → Takes (cond b (identify p left f (padded p f text) c) (done (Halt 7) c))
+    read_valid true text valid =
+        by_trial (padded p f text) (filled_long p f text valid) (filled_characters p f text valid) (identified f 0 p.types (padded p f text)) refl
+    read_valid false text valid = stays p (taking_weight f p.types) 0 c c.config (Halt 7) (omega arith, omega arith) waiting taken (itself c.config) (omega arith)
 
     reads : (next : Option (List ℕ)) → Takes (read_record p left f next c)
     reads None = record { weight = 0; still = itself c.config; named = tt; waiting = none_waits p c.inputs f waiting; taken = taken; few = omega arith }
-    reads (Some text) = read_good (is_good_record p f text) text refl
+    reads (Some text) = read_valid (is_valid_record p f text) text refl
 
-    by_need : (b : Bool) (next : Option (List ℕ)) → Takes (cond b (read_record p left f next c) (done GoesOn c))
+    by_need : (b : Bool) (next : Option (List ℕ)) → Takes (cond b (read_record p left f next c) (done Continues c))
     by_need true next = reads next
-    by_need false next = stays p (taking_weight f p.types) 0 c c.config GoesOn tt waiting taken (itself c.config) (omega arith)
+    by_need false next = stays p (taking_weight f p.types) 0 c c.config Continues tt waiting taken (itself c.config) (omega arith)
 
     -- a file takes a record in, or its end, or nothing
-    pub takes : (next : Option (List ℕ)) → Takes (cond (takes_in p c.inputs f) (read_record p left f next c) (done GoesOn c))
+    pub takes : (next : Option (List ℕ)) → Takes (cond (takes_in p c.inputs f) (read_record p left f next c) (done Continues c))
     takes next = by_need (takes_in p c.inputs f) next
 
   -- ---- selecting
@@ -243,7 +243,7 @@ module _ (p : Object) (orderly : IsOrderly p) (left : Left) where
         let inside = all_inside (length s.text) fields (subst (λ (len : ℕ). All (IsControlIn len) fields) (sym (filled_as p f s h)) (levels_fit p s.type (slice_get p.types s.type) types_there refl)) in
         let moved = both_moved (slice_get p.types s.type) in
         let few = moved_few p.types s.type in
-        let good : Picks p (moving_weight p.types) c (done GoesOn (record { config = three; inputs = with_waiting f None c.inputs; selected = Some s })) = record {
+        let valid : Picks p (moving_weight p.types) c (done Continues (record { config = three; inputs = with_waiting f None c.inputs; selected = Some s })) = record {
           weight = 0 + length fields + 0;
           still = still;
           named = tt;
@@ -251,20 +251,20 @@ module _ (p : Object) (orderly : IsOrderly p) (left : Left) where
           taken = record { long = filled_as p f s h; characters = h.characters };
           few = omega (arith, moved, few);
         } in
-        subst (λ (b : Bool). Selects (cond b (done GoesOn (record { config = three; inputs = with_waiting f None c.inputs; selected = Some s })) (done (Wrong effects.Storage) (with_config (charged (length fields)) there)))) (sym inside) good
+        subst (λ (b : Bool). Selects (cond b (done Continues (record { config = three; inputs = with_waiting f None c.inputs; selected = Some s })) (done (Wrong effects.Storage) (with_config (charged (length fields)) there)))) (sym inside) valid
 
     from_file : (f : InputFile) (o : Option Selected) → ForSome o (λ s. IsWaitingIn p f s) → Selects (select_waiting p left f o c)
-    from_file f None h = stays p (moving_weight p.types) 0 c c.config GoesOn tt waiting taken (itself c.config) (omega arith)
+    from_file f None h = stays p (moving_weight p.types) 0 c c.config Continues tt waiting taken (itself c.config) (omega arith)
     from_file f (Some s) h = by_levels f s (h s refl)
 
-    -- the record that waits in a file is selected, or LR and all levels go on
+    -- the record that waits in a file is selected, or LR and all levels turn on
     pub selects : (o : Option InputFile) → Selects (select_from p left o c)
-    selects None = stays p (moving_weight p.types) 0 c (with_all level_indicators true (with_one last_record true c.config)) GoesOn tt waiting taken (last_still_on c.config) (omega arith)
+    selects None = stays p (moving_weight p.types) 0 c (with_all level_indicators true (with_one last_record true c.config)) Continues tt waiting taken (last_still_on c.config) (omega arith)
     selects (Some f) = from_file f (waiting_in c.inputs f) (waits_in p c.inputs f waiting)
 
--- L1 to L9 go on, where LR is on
-pub levels_alone : (p : Object) (a : ℕ) (c : UnderWay) → AreWaiting p c.inputs → IsTaken p c.selected → Picks p a c (done GoesOn (with_config (with_all level_indicators true) c))
-levels_alone p a c waiting taken = stays p a 0 c (with_all level_indicators true c.config) GoesOn tt waiting taken (all_still level_indicators true c.config) (omega arith)
+-- L1 to L9 turn on, where LR is on
+pub levels_alone : (p : Object) (a : ℕ) (c : UnderWay) → AreWaiting p c.inputs → IsTaken p c.selected → Picks p a c (done Continues (with_config (with_all level_indicators true) c))
+levels_alone p a c waiting taken = stays p a 0 c (with_all level_indicators true c.config) Continues tt waiting taken (all_still level_indicators true c.config) (omega arith)
 
 -- before the first record nothing waits
 pub unread_waits : (p : Object) → AreWaiting p unread

@@ -1,4 +1,4 @@
--- What lines and outputs put out is at most 10,000 bytes for each step that they weigh.
+-- Lines and outputs write at most 10,000 bytes for each step that they weigh.
 use Rattle.std.proofs.Common.{◌≡◌, ℕ, ◌+◌, ◌-◌, ◌*◌, ◌≤◌, Bool, true, false, cond, List, [], ◌∷◌, ◌++◌, map, length, Option, refl, sym, ap, ◌∙◌, subst, arith, length-append, length-take, nat_cmp}
 use Rattle.std.proofs.lemmas.List.{length-replicate}
 use Rattle.std.proofs.lemmas.List.Elements.{All-head, All-tail}
@@ -7,9 +7,9 @@ use Rattle.std.specs.Prelude.{All}
 use Rattle.rpg_program.proofs.Putting.{disk-append, end_from-lines}
 use Rattle.rpg_program.specs.Effect.{Effect, Leaves, go_on, then_go, unless_wrong}
 use Rattle.rpg_program.specs.Ended.{Ended, on_data}
-use Rattle.rpg_program.specs.Ends.{End, Fault, GoesOn, Halt, Wrong}
+use Rattle.rpg_program.specs.Ends.{End, Fault, Continues, Halt, Wrong}
 use Rattle.rpg_program.specs.Forms.{form_at}
-use Rattle.rpg_program.specs.Lines.{Draft, Line, assembled, blank_line, blanked_all, is_asked, line_out, lines_out, one_out, put_on, put_out, spaced_before, where_asked, with_fields}
+use Rattle.rpg_program.specs.Lines.{Draft, Line, assembled, blank_line, blanked_all, is_due, line_out, lines_out, one_out, put_on, write_line_out, spaced_before, where_due, with_fields}
 use Rattle.rpg_program.specs.Put.{disk_bytes}
 use Rattle.rpg_program.specs.Weights.{line_weight, lines_weight}
 use Rattle.rpg_program.specs.World.{Data, World}
@@ -55,7 +55,7 @@ near_both previous xs ys here near = subst (λ (o : Option Position). StandsNear
 
 -- ---- effects
 
--- no more is put out than so many steps may put out, and the form stands near the line placed last
+-- no more is output than that many steps may output, and the form stands near the line placed last
 pub record PutsFew (previous : Option Position) (n : ℕ) (e : Effect nat_cmp) : Type 0 where
   pub few : bytes_in previous e.lines e.records ≤ n * bytes_of_step
   pub near : StandsNear (last_position_from previous e.lines) e.world.paper.here
@@ -63,7 +63,7 @@ pub record PutsFew (previous : Option Position) (n : ℕ) (e : Effect nat_cmp) :
 pub few_more : (previous : Option Position) (n m : ℕ) (e : Effect nat_cmp) → n ≤ m → PutsFew previous n e → PutsFew previous m e
 few_more previous n m e l h = let few = h.few in record { few = omega (arith, few, l); near = h.near }
 
--- nothing is put out
+-- nothing is output
 pub leaves_few : (previous : Option Position) (w : World nat_cmp) → StandsNear previous w.paper.here → PutsFew previous 0 (Leaves w)
 leaves_few previous w near = record { few = omega arith; near = near }
 
@@ -73,7 +73,7 @@ data_few previous f w near = record { few = omega arith; near = near }
 
 both_few : (previous : Option Position) (n m : ℕ) (ending : End) (e : Effect nat_cmp) (go : World nat_cmp → Effect nat_cmp) → PutsFew previous n e →
     PutsFew (last_position_from previous e.lines) m (go e.world) → PutsFew previous (n + m) (go_on ending e go)
-both_few previous n m GoesOn e go h k =
+both_few previous n m Continues e go h k =
     let both = bytes_both previous e.lines (go e.world).lines e.records (go e.world).records in
     let one = h.few in
     let two = k.few in
@@ -86,7 +86,7 @@ pub then_few : (previous : Option Position) (n m : ℕ) (e : Effect nat_cmp) (go
     PutsFew (last_position_from previous e.lines) m (go e.world) → PutsFew previous (n + m) (then_go e go)
 then_few previous n m e go h k = both_few previous n m e.ending e go h k
 
--- ---- a line that is put out
+-- ---- a line that is output
 
 trimmed_short : (text : List ℕ) → length (trimmed text) ≤ length text
 trimmed_short text = let is = length-take (length text - suffix_len is_blank text) text in omega (arith, is)
@@ -123,8 +123,8 @@ put_few overflow Disk s text previous w short few near = let bytes = record_few 
 
 module _ (p : Object) where
   out_few : (overflow : Option ℕ) (l : Line ℕ) (previous : Option Position) (w : World nat_cmp) (ending : End) (d : Draft nat_cmp) → IsShort l.spacing →
-      length d.text ≤ limit_of l.file → StandsNear previous w.paper.here → PutsFew previous 1 (put_out (form_at p.fields) (word_at p) overflow l w ending d)
-  out_few overflow l previous w GoesOn d short few near =
+      length d.text ≤ limit_of l.file → StandsNear previous w.paper.here → PutsFew previous 1 (write_line_out (form_at p.fields) (word_at p) overflow l w ending d)
+  out_few overflow l previous w Continues d short few near =
       let put = put_on overflow l.file l.spacing d.text (with_fields d.fields w) in
       let one = put_few overflow l.file l.spacing d.text previous (with_fields d.fields w) short few near in
       let v : World nat_cmp = with_fields (blanked_all d.to_blank put.world.data.fields) put.world in
@@ -144,31 +144,31 @@ module _ (p : Object) where
         let len = file_length p l.file in
         let start = blank_line len w in
         let done = assembled (form_at p.fields) (word_at p) w.data.on len l.fields start in
-        let draws : Draws p w.data (record { ending = GoesOn; draft = start }) = record { ending = tt; fields = h; blanks = λ k e low. absurd (omega (arith, low)) } in
+        let draws : Draws p w.data (record { ending = Continues; draft = start }) = record { ending = tt; fields = h; blanks = λ k e low. absurd (omega (arith, low)) } in
         let blanks : length start.text ≡ len = length-replicate len 32 in
         let long = assembled_long p kept len w.data l.fields start sound.fields draws blanks in
         let limit = within_limit kept l.file in
         let short = short_spacing len l.spacing sound.line in
         let out = out_few overflow (program_line p l) previous w done.ending done.draft short (omega (arith, long, limit)) near in
-        subst (λ (o : Option Fault). PutsFew previous 1 (unless_wrong o w (put_out (form_at p.fields) (word_at p) overflow (program_line p l) w done.ending done.draft))) (sym sound.line) out
+        subst (λ (o : Option Fault). PutsFew previous 1 (unless_wrong o w (write_line_out (form_at p.fields) (word_at p) overflow (program_line p l) w done.ending done.draft))) (sym sound.line) out
 
     asked_few : (b : Bool) (n : ℕ) (e : Effect nat_cmp) (previous : Option Position) (w : World nat_cmp) → PutsFew previous n e → StandsNear previous w.paper.here →
-        PutsFew previous n (where_asked (form_at p.fields) (word_at p) b e w)
+        PutsFew previous n (where_due (form_at p.fields) (word_at p) b e w)
     asked_few true n e previous w h near = h
     asked_few false n e previous w h near = few_more previous 0 n (Leaves w) (omega arith) (leaves_few previous w near)
 
-    -- at this passage no lines are put out but those that are meant
+    -- at this passage no lines are output but those that are meant
     module _ (pass : Pass) (is_meant : Time → Bool) (others : (time : Time) → is_meant time ≡ false → may_count time pass ≡ false) where
       one_by : (b : Bool) (l : LineRow) (previous : Option Position) (w : World nat_cmp) → is_meant l.time ≡ b → IsSoundLine p l → Holds p w.data → StandsNear previous w.paper.here →
           PutsFew previous (cond b (line_weight (program_line p l)) 0) (one_out (form_at p.fields) (word_at p) overflow pass (program_line p l) w)
       unfolding one_out
       one_by true l previous w meant sound h near =
           let line = line_out (form_at p.fields) (word_at p) overflow (program_line p l) w in
-          asked_few (is_asked overflow pass w.data.on l.time l.alternatives) (line_weight (program_line p l)) line previous w
+          asked_few (is_due overflow pass w.data.on l.time l.alternatives) (line_weight (program_line p l)) line previous w
           (few_more previous 1 (line_weight (program_line p l)) line (omega arith) (line_few l previous w sound h near)) near
       one_by false l previous w meant sound h near =
           let line = line_out (form_at p.fields) (word_at p) overflow (program_line p l) w in
-          subst (λ (b : Bool). PutsFew previous 0 (where_asked (form_at p.fields) (word_at p) b line w)) (sym (none_asked overflow pass w.data.on l.time l.alternatives (others l.time meant)))
+          subst (λ (b : Bool). PutsFew previous 0 (where_due (form_at p.fields) (word_at p) b line w)) (sym (none_asked overflow pass w.data.on l.time l.alternatives (others l.time meant)))
           (leaves_few previous w near)
 
       -- the lines of a passage

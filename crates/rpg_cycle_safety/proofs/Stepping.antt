@@ -1,8 +1,8 @@
--- Each step of an accepted program goes on at a steady configuration, or halts.
+-- Each step of an accepted program continues at a steady configuration, or halts.
 use Rattle.std.proofs.Common.{◌≡◌, ℕ, Bool, true, false, ◌&&◌, cond, eqb, Option, None, Some, refl, sym, subst, arith, le_trans}
 use Rattle.std.specs.Ordering.{nat_cmp}
 use Rattle.rpg_program.specs.Effect.{Effect}
-use Rattle.rpg_program.specs.Ends.{End, GoesOn, Halt, Wrong}
+use Rattle.rpg_program.specs.Ends.{End, Continues, Halt, Wrong}
 use Rattle.rpg_program.specs.declared.operation.Instruction.{Instruction}
 use Rattle.rpg_program.specs.ObjectInstructions.{weight}
 use Rattle.rpg_cycle_safety.proofs.Instructing.{instruction_keeps}
@@ -26,7 +26,7 @@ module _ (p : Object) (orderly : IsOrderly p) (c : Config) (steady : IsSteady p 
   -- as an effect ends
   as_ended : (ending : End) (m a : Config) (e : Effect nat_cmp) → IsSafe p m → IsEffectEnd ending → Holds p e.world.data →
       step p c ≡ outcome_of ending m a e.world (output_of e) → StepsWell p (outcome_of ending m a e.world (output_of e))
-  as_ended GoesOn m a e safe right h is = record { values = h; control = safe_after p c (record a { world = e.world }) (output_of e) orderly steady.control is }
+  as_ended Continues m a e safe right h is = record { values = h; control = safe_after p c (record a { world = e.world }) (output_of e) orderly steady.control is }
   as_ended (Halt k) m a e safe right h is = ((right.0, le_trans right.1 (omega arith), right.2), record { values = h; control = record { place = safe.place; cells = safe.cells; chain = safe.chain } })
   as_ended (Wrong f) m a e safe right h is = absurd right
 

@@ -1,9 +1,9 @@
--- What all cycles of a run put out together.
+-- What all cycles of a run output together.
 use Rattle.std.proofs.Common.{◌≡◌, ℕ, zero, suc, ◌+◌, ◌*◌, ◌≤◌, ◌<◌, ◌^◌, ℤ, unsigned_abs, List, [], ◌∷◌, length, Option, None, refl, sym, ap, ◌∙◌, subst, arith, length-append, nat_cmp}
 use Rattle.std.specs.FinMap as map
 use Rattle.rpg_cycle_records.specs.Earlier.{Selected, with_record}
 use Rattle.rpg_cycle_records.specs.Waiting.{Inputs, unread}
-use Rattle.rpg_cycle.specs.Ends.{PhaseEnd, GoesOn, EndOfJob, Halt, Wrong}
+use Rattle.rpg_cycle.specs.Ends.{PhaseEnd, Continues, EndOfJob, Halt, Wrong}
 use Rattle.rpg_cycle.specs.Phases.{UnderWay, needs_record}
 use Rattle.rpg_cycle.specs.Runs.{Course, IsRun, Records, RunsIn, ends_or, last_cycle, last_feed, left_following, next_of, with_cycle}
 use Rattle.rpg_cycle.specs.Starting.{job_first_world, job_start}
@@ -50,8 +50,8 @@ module _ (p : Object) (orderly : IsOrderly p) where
       (one_more (output_size previous (with_more out rest.output)) (output_size previous out) (output_size (last_position_from previous out.lines) rest.output) rest.cycles (bound p * bytes_of_step) both stays.few few)
 
   ended_few : (e : PhaseEnd) (previous : Option Position) (d : UnderWay) (out : Output) (Rest : UnderWay → Course → Type 0) (course : Course) → StaysInOutput p previous out →
-      (e ≡ GoesOn → (rest : Course) → Rest d rest → IsFew (last_position_from previous out.lines) rest) → ends_or e d out Rest course → IsFew previous course
-  ended_few GoesOn previous d out Rest course stays next (rest, runs, is) = rest_few previous d out course rest stays (next refl rest runs) is
+      (e ≡ Continues → (rest : Course) → Rest d rest → IsFew (last_position_from previous out.lines) rest) → ends_or e d out Rest course → IsFew previous course
+  ended_few Continues previous d out Rest course stays next (rest, runs, is) = rest_few previous d out course rest stays (next refl rest runs) is
   ended_few EndOfJob previous d out Rest course stays next is = last_few previous EndOfJob d out course stays is
   ended_few (Halt k) previous d out Rest course stays next is = last_few previous (Halt k) d out course stays is
   ended_few (Wrong f) previous d out Rest course stays next is = last_few previous (Wrong f) d out course stays is

@@ -3,9 +3,9 @@ use Rattle.std.proofs.Common.{◌≡◌, ℕ, zero, suc, ◌+◌, Bool, true, fa
 use Rattle.std.specs.FinMap as map
 use Rattle.rpg_cycle_records.specs.Earlier.{Left, Selected, left_by, with_record}
 use Rattle.rpg_cycle_records.specs.Waiting.{Inputs, chosen, has_match, takes_in, unread, waiting_in}
-use Rattle.rpg_cycle.specs.Ends.{PhaseEnd, GoesOn, EndOfJob, Halt, Wrong, phase_end}
+use Rattle.rpg_cycle.specs.Ends.{PhaseEnd, Continues, EndOfJob, Halt, Wrong, phase_end}
 use Rattle.rpg_cycle.specs.Indicators.{any_on, halt_indicators, is_on, last_record, level_indicators, matching_record, with_all, with_one}
-use Rattle.rpg_cycle.specs.Phases.{CycleOn, Done, Phase, UnderWay, all_off, begun, by_machine, detail_calculations, detail_lines, without_output, done, either, end_where_last, fill_fields, fill_from, from_there, halt_where_asked, has_no_overflow, if_selected, is_bypassed, needs_record, output, overflow_lines, nothing_done, read_record, section, select_from, select_one, select_record, set_off, show_match, take_in, total_time, unless, with_config, ◌before◌}
+use Rattle.rpg_cycle.specs.Phases.{CycleOn, Done, Phase, UnderWay, all_off, begun, by_machine, detail_calculations, detail_lines, without_output, done, either, end_where_last, fill_fields, fill_from, from_there, halt_if_indicated, has_no_overflow, if_selected, is_bypassed, needs_record, output, overflow_lines, nothing_done, read_record, section, select_from, select_one, select_record, set_off, show_match, take_in, total_time, unless, with_config, ◌before◌}
 use Rattle.rpg_cycle.specs.Staging.{after_selection}
 use Rattle.rpg_cycle.specs.Runs.{Records, left_following, next_of}
 use Rattle.rpg_cycle.specs.Starting.{job_first_world, job_start}
@@ -50,7 +50,7 @@ use Rattle.rpg_program.specs.declared.section.Section.TheVariants as sections
 module _ (p : Object) (orderly : IsOrderly p) where
   -- ---- between two phases
 
-  -- the place is one of detail or total calculations, no subroutine runs, and a record that was selected is good
+  -- the place is one of detail or total calculations, no subroutine runs, and a record that was selected is valid
   record Rests (c : UnderWay) : Type 0 where
     pub values : Holds p c.config.world.data
     pub ended : has_end c.config.section ≡ true
@@ -81,7 +81,7 @@ module _ (p : Object) (orderly : IsOrderly p) where
 
   record Leads (e : PhaseEnd) (d : UnderWay) : Type 0 where
     pub steady : IsSteady p d.config
-    pub rests : e ≡ GoesOn → Rests d
+    pub rests : e ≡ Continues → Rests d
 
   -- from wherever the machine rests
   abbrev IsSafePhase : Phase → Type 0
@@ -90,7 +90,7 @@ module _ (p : Object) (orderly : IsOrderly p) where
   resting : (e : PhaseEnd) (d : UnderWay) → Rests d → Leads e d
   resting e d r = record { steady = steady_there d r; rests = λ goes. r }
 
-  stopped : (k e : PhaseEnd) (m d : UnderWay) → (k ≡ GoesOn → ⊥) → Leads k m → e ≡ k → d ≡ m → Leads e d
+  stopped : (k e : PhaseEnd) (m d : UnderWay) → (k ≡ Continues → ⊥) → Leads k m → e ≡ k → d ≡ m → Leads e d
   stopped k e m d stops l is there = record {
     steady = subst (λ (y : UnderWay). IsSteady p y.config) (sym there) l.steady;
     rests = λ goes. absurd (stops (sym is ∙ goes));
@@ -106,7 +106,7 @@ module _ (p : Object) (orderly : IsOrderly p) where
       (record { values = k.holds; ended = r.ended; place = r.place; no_cell = r.no_cell; waiting = r.waiting; taken = r.taken }))
 
   from_safely : (Q : Phase) → IsSafePhase Q → (f : PhaseEnd) (m : UnderWay) (put : Output) (e : PhaseEnd) (d : UnderWay) (out : Output) → Leads f m → from_there Q f m put e d out → Leads e d
-  from_safely Q q GoesOn m put e d out l (more, h, is) = q m e d more (l.rests refl) h
+  from_safely Q q Continues m put e d out l (more, h, is) = q m e d more (l.rests refl) h
   from_safely Q q EndOfJob m put e d out l (is, there, same) = stopped EndOfJob e m d (λ no. cc) l is there
   from_safely Q q (Halt k) m put e d out l (is, there, same) = stopped (Halt k) e m d (λ no. cc) l is there
   from_safely Q q (Wrong f) m put e d out l (is, there, same) = stopped (Wrong f) e m d (λ no. cc) l is there
@@ -115,7 +115,7 @@ module _ (p : Object) (orderly : IsOrderly p) where
   both_safe P Q first second c e d out r (f, m, put, h, rest) = from_safely Q second f m put e d out (first c f m put r h) rest
 
   either_safe : (b : Bool) (P : Phase) → IsSafePhase P → IsSafePhase (either b nothing_done P)
-  either_safe true P h = λ c e d out r k. does_safely (done GoesOn) c e d out r k
+  either_safe true P h = λ c e d out r k. does_safely (done Continues) c e d out r k
   either_safe false P h = h
 
   unless_safe : (test : Config → Bool) (P : Phase) → IsSafePhase P → IsSafePhase (unless test P)
@@ -124,7 +124,7 @@ module _ (p : Object) (orderly : IsOrderly p) where
   -- ---- sections
 
   ended_well : (last : effects.End) (c : UnderWay) (e : PhaseEnd) (d : UnderWay) (out : Output) → Rests c → e ≡ phase_end last → d.inputs ≡ c.inputs → d.selected ≡ c.selected → StandsWell p (Stop last d.config out) → Leads e d
-  ended_well effects.GoesOn c e d out r is files same (steady, at_end) =
+  ended_well effects.Continues c e d out r is files same (steady, at_end) =
       resting e d (record {
         values = steady.values;
         ended = (and_true (has_end d.config.section) _ at_end).0;
@@ -133,7 +133,7 @@ module _ (p : Object) (orderly : IsOrderly p) where
         waiting = subst (λ (i : Inputs). AreWaiting p i) (sym files) r.waiting;
         taken = subst (λ (o : Option Selected). IsTaken p o) (sym same) r.taken;
       })
-  ended_well (effects.Halt k) c e d out r is files same (named, steady) = record { steady = steady; rests = λ goes. absurd (let never : Halt k ≡ GoesOn = sym is ∙ goes in cc) }
+  ended_well (effects.Halt k) c e d out r is files same (named, steady) = record { steady = steady; rests = λ goes. absurd (let never : Halt k ≡ Continues = sym is ∙ goes in cc) }
   ended_well (effects.Wrong f) c e d out r is files same h = absurd h
 
   section_safe : (s : Section) → has_end s ≡ true → IsSafePhase (section p s)
@@ -147,12 +147,12 @@ module _ (p : Object) (orderly : IsOrderly p) where
   output_safe time c e d out r h =
       effect_safely (output_weight p time) (output_effect p time) c e d out r (output_keeps p orderly.program orderly.sound time c.config.world r.values) h
 
-  halt_safe : IsSafePhase halt_where_asked
-  halt_safe c e d out r h = does_safely (λ c. done (cond (any_on c.config halt_indicators) (Halt 6) GoesOn) c) c e d out r h
+  halt_safe : IsSafePhase halt_if_indicated
+  halt_safe c e d out r h = does_safely (λ c. done (cond (any_on c.config halt_indicators) (Halt 6) Continues) c) c e d out r h
 
   off_safe : IsSafePhase (set_off p)
   off_safe c e d out r h =
-      does_safely (λ c. done GoesOn (with_config (all_off p) c)) c e d out (rests_still 0 c (with_config (all_off p) c) (off_still p c.config) r.waiting r.taken r) h
+      does_safely (λ c. done Continues (with_config (all_off p) c)) c e d out (rests_still 0 c (with_config (all_off p) c) (off_still p c.config) r.waiting r.taken r) h
 
   -- a step of phase 4
   picked_safely : (a : ℕ) (f : UnderWay → Done) → ((c : UnderWay) → AreWaiting p c.inputs → IsTaken p c.selected → Picks p a c (f c)) → IsSafePhase (without_output f)
@@ -162,7 +162,7 @@ module _ (p : Object) (orderly : IsOrderly p) where
 
   taking_safe : (left : Left) (f : InputFile) (next : Option (List ℕ)) → IsSafePhase (take_in p left f next)
   taking_safe left f next =
-      picked_safely (taking_weight f p.types) (λ c. cond (takes_in p c.inputs f) (read_record p left f next c) (done GoesOn c)) (λ c waiting taken. takes p orderly left f c waiting taken next)
+      picked_safely (taking_weight f p.types) (λ c. cond (takes_in p c.inputs f) (read_record p left f next c) (done Continues c)) (λ c waiting taken. takes p orderly left f c waiting taken next)
 
   selecting_safe : (left : Left) → IsSafePhase (select_one p left)
   selecting_safe left =
@@ -170,8 +170,8 @@ module _ (p : Object) (orderly : IsOrderly p) where
       (λ c waiting taken. selects p orderly left c waiting taken (chosen p (waiting_in c.inputs Primary) (waiting_in c.inputs Secondary)))
 
   selected_safe : (left : Left) (primary secondary : Option (List ℕ)) (b : Bool) →
-      IsSafePhase (either b (without_output (λ c. done GoesOn (with_config (with_all level_indicators true) c))) (take_in p left Primary primary before take_in p left Secondary secondary before select_one p left))
-  selected_safe left primary secondary true = picked_safely 0 (λ c. done GoesOn (with_config (with_all level_indicators true) c)) (λ c waiting taken. levels_alone p 0 c waiting taken)
+      IsSafePhase (either b (without_output (λ c. done Continues (with_config (with_all level_indicators true) c))) (take_in p left Primary primary before take_in p left Secondary secondary before select_one p left))
+  selected_safe left primary secondary true = picked_safely 0 (λ c. done Continues (with_config (with_all level_indicators true) c)) (λ c waiting taken. levels_alone p 0 c waiting taken)
   selected_safe left primary secondary false =
       both_safe (take_in p left Primary primary) (take_in p left Secondary secondary before select_one p left) (taking_safe left Primary primary)
       (both_safe (take_in p left Secondary secondary) (select_one p left) (taking_safe left Secondary secondary) (selecting_safe left))
@@ -182,7 +182,7 @@ module _ (p : Object) (orderly : IsOrderly p) where
   showing_safe : (matches : Inputs → Selected → Bool) → IsSafePhase (show_match matches)
   showing_safe matches c e d out r h =
       let on = if_selected (matches c.inputs) c.selected in
-      does_safely (λ c. done GoesOn (with_config (with_one matching_record (if_selected (matches c.inputs) c.selected)) c)) c e d out
+      does_safely (λ c. done Continues (with_config (with_one matching_record (if_selected (matches c.inputs) c.selected)) c)) c e d out
       (rests_still 0 c (with_config (with_one matching_record on) c) (one_still matching_record on c.config) r.waiting r.taken r) h
 
   totals_safe : (left : Left) → IsSafePhase (total_time p left)
@@ -198,7 +198,7 @@ module _ (p : Object) (orderly : IsOrderly p) where
 
   filled_safely : (config : Config) (i : Inputs) (s : Option Selected) (e : PhaseEnd) (d : UnderWay) (out : Output) → Rests (record { config = config; inputs = i; selected = s }) →
       fill_from p s (record { config = config; inputs = i; selected = s }) e d out → Leads e d
-  filled_safely config i None e d out r h = does_safely (done GoesOn) (record { config = config; inputs = i; selected = None }) e d out r h
+  filled_safely config i None e d out r h = does_safely (done Continues) (record { config = config; inputs = i; selected = None }) e d out r h
   filled_safely config i (Some s) e d out r h =
       let inputs = inputs_at p s.type in
       let right = subst (λ (len : ℕ). All (λ f. input_fault (form_at p.fields) len f ≡ None) inputs) (sym r.taken.long) (inputs_right p s.type orderly.sound) in
@@ -221,14 +221,14 @@ module _ (p : Object) (orderly : IsOrderly p) where
 
   along_safe : (P : Phase) (V W : Way) → IsSafePhase P → IsSafeWay V → IsSafeWay W → IsSafeWay (along P V W)
   along_safe P V W h v w c x r (inl k) = v c x r k
-  along_safe P V W h v w c x r (inr (m, out, k, l)) = w m x ((h c GoesOn m out r k).rests refl) l
+  along_safe P V W h v w c x r (inr (m, out, k, l)) = w m x ((h c Continues m out r k).rests refl) l
 
   onto_safe : (P : Phase) (W : Way) → IsSafePhase P → IsSafeWay W → IsSafeWay (P onto W)
   onto_safe P W h w = along_safe P (ways_to_end P) W h (ends_safe P h) w
 
   standing_steady : (o : Outcome) → StandsWell p o → IsSteady p (config_left o)
   standing_steady (Next c o) h = h
-  standing_steady (Stop effects.GoesOn c o) h = h.0
+  standing_steady (Stop effects.Continues c o) h = h.0
   standing_steady (Stop (effects.Halt k) c o) h = h.1
   standing_steady (Stop (effects.Wrong f) c o) h = absurd h
 
@@ -256,8 +256,8 @@ module _ (p : Object) (orderly : IsOrderly p) where
 
     cycle_safe : IsSafePhase (CycleOn p left matches primary secondary)
     cycle_safe =
-        both_safe (detail_lines p) (halt_where_asked before set_off p before from_selection) (output_safe times.Detail)
-        (both_safe halt_where_asked (set_off p before from_selection) halt_safe
+        both_safe (detail_lines p) (halt_if_indicated before set_off p before from_selection) (output_safe times.Detail)
+        (both_safe halt_if_indicated (set_off p before from_selection) halt_safe
         (both_safe (set_off p) from_selection off_safe
         (both_safe (select_record p left primary secondary) (after_selection p left matches) (selection_safe left primary secondary)
         (both_safe (total_time p left) from_ending (totals_safe left)
@@ -280,8 +280,8 @@ module _ (p : Object) (orderly : IsOrderly p) where
 
     phases_safe : IsSafeWay (phases_way p left matches primary secondary)
     phases_safe =
-        onto_safe (detail_lines p) (halt_where_asked onto off_way) (output_safe times.Detail)
-        (onto_safe halt_where_asked off_way halt_safe
+        onto_safe (detail_lines p) (halt_if_indicated onto off_way) (output_safe times.Detail)
+        (onto_safe halt_if_indicated off_way halt_safe
         (onto_safe (set_off p) (select_record p left primary secondary onto totals_way) off_safe
         (onto_safe (select_record p left primary secondary) totals_way (selection_safe left primary secondary)
         (along_safe (total_time p left) (total_way p left) ending_way (totals_safe left) (total_way_safe left)

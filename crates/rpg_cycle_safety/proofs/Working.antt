@@ -3,7 +3,7 @@ use Rattle.std.proofs.Common.{◌≡◌, ℕ, ◌+◌, ◌*◌, ◌≤◌, Bool,
 use Rattle.std.specs.FinMap as map
 use Rattle.rpg_cycle_records.specs.Earlier.{Selected}
 use Rattle.rpg_cycle_records.specs.Fitting.{IsFilledAs}
-use Rattle.rpg_cycle.specs.Ends.{PhaseEnd, GoesOn, EndOfJob, Halt, Wrong, phase_end}
+use Rattle.rpg_cycle.specs.Ends.{PhaseEnd, Continues, EndOfJob, Halt, Wrong, phase_end}
 use Rattle.rpg_cycle.specs.Phases.{Done, Phase, UnderWay, by_machine, without_output, done, either, has_no_overflow, nothing_done, unless, ◌before◌}
 use Rattle.rpg_program.specs.Effect.{Effect}
 use Rattle.rpg_program.specs.Ends as effects
@@ -58,7 +58,7 @@ module _ (p : Object) where
     pub values : Holds p d.config.world.data
     pub waiting : AreWaiting p d.inputs
     pub few : reach p d.config ≤ n
-    pub ready : e ≡ GoesOn → Ready owed n d
+    pub ready : e ≡ Continues → Ready owed n d
 
   pub record Outcome (P : Phase) (owed : Owed) (n : ℕ) (c : UnderWay) : Type 0 where
     pub ending : PhaseEnd
@@ -77,12 +77,12 @@ module _ (p : Object) where
   comes_more : (owed : Owed) (n m : ℕ) (e : PhaseEnd) (d : UnderWay) → n ≤ m → Comes owed n e d → Comes owed m e d
   comes_more owed n m e d l r = let few = r.few in record { named = r.named; values = r.values; waiting = r.waiting; few = omega (arith, few, l); ready = λ is. ready_more owed n m d l (r.ready is) }
 
-  -- goes on from there
-  pub goes : (owed : Owed) (n : ℕ) (d : UnderWay) → Ready owed n d → Comes owed n GoesOn d
+  -- continues from there
+  pub goes : (owed : Owed) (n : ℕ) (d : UnderWay) → Ready owed n d → Comes owed n Continues d
   goes owed n d r = let few = r.few in record { named = tt; values = r.values; waiting = r.waiting; few = omega (arith, few); ready = λ is. r }
 
   -- ends there
-  pub ends : (owed : Owed) (n : ℕ) (e : PhaseEnd) (d : UnderWay) → IsCycleEnd e → (e ≡ GoesOn → ⊥) → Holds p d.config.world.data → AreWaiting p d.inputs → reach p d.config ≤ n →
+  pub ends : (owed : Owed) (n : ℕ) (e : PhaseEnd) (d : UnderWay) → IsCycleEnd e → (e ≡ Continues → ⊥) → Holds p d.config.world.data → AreWaiting p d.inputs → reach p d.config ≤ n →
       Comes owed n e d
   ends owed n e d named stops values waiting few = record { named = named; values = values; waiting = waiting; few = few; ready = λ is. absurd (stops is) }
 
@@ -90,12 +90,12 @@ module _ (p : Object) where
 
   module _ (P Q : Phase) (x y z : Owed) (a b n : ℕ) (c : UnderWay) where
     then_by : (e : PhaseEnd) (m : UnderWay) (put : Output) → P c e m put → Comes y (n + a) e m → Works Q y z b → Outcome (P before Q) z (n + (a + b)) c
-    then_by GoesOn m put h comes second =
+    then_by Continues m put h comes second =
         let q = second (n + a) m (comes.ready refl) in record {
           ending = q.ending;
           leads = q.leads;
           output = with_more put q.output;
-          phase = (GoesOn, m, put, h, (q.output, q.phase, refl));
+          phase = (Continues, m, put, h, (q.output, q.phase, refl));
           comes = comes_more z (n + a + b) (n + (a + b)) q.ending q.leads (omega arith) q.comes;
         }
     then_by EndOfJob m put h comes second = record {
@@ -123,7 +123,7 @@ module _ (p : Object) where
   does_work f x y a h n c r = record { ending = (f c).end; leads = (f c).leads; output = no_output; phase = (refl, refl, refl); comes = h n c r }
 
   pub pass_works : (x : Owed) (a : ℕ) → Works nothing_done x x a
-  pass_works x a = does_work (done GoesOn) x x a (λ n c r. goes x (n + a) c (ready_more x n (n + a) c (omega arith) r))
+  pass_works x a = does_work (done Continues) x x a (λ n c r. goes x (n + a) c (ready_more x n (n + a) c (omega arith) r))
 
   either_works : (P : Phase) (x : Owed) (a : ℕ) → Works P x x a → (b : Bool) → Works (either b nothing_done P) x x a
   either_works P x a h true = pass_works x a
@@ -149,11 +149,11 @@ module _ (p : Object) where
     pub act : P c last leads output
     pub named : IsCycleEnd (phase_end last)
     pub values : Holds p leads.world.data
-    pub no_cell : last ≡ effects.GoesOn → leads.cells ≡ map.empty
+    pub no_cell : last ≡ effects.Continues → leads.cells ≡ map.empty
     pub few : reach p leads ≤ reach p c + a
 
-  pub going : (last : effects.End) → phase_end last ≡ GoesOn → last ≡ effects.GoesOn
-  going effects.GoesOn h = refl
+  pub going : (last : effects.End) → phase_end last ≡ Continues → last ≡ effects.Continues
+  going effects.Continues h = refl
   going (effects.Halt k) h = cc
   going (effects.Wrong f) h = cc
 
@@ -177,7 +177,7 @@ module _ (p : Object) where
       }
 
   right_named : (e : effects.End) → IsEffectEnd e → IsCycleEnd (phase_end e)
-  right_named effects.GoesOn h = tt
+  right_named effects.Continues h = tt
   right_named (effects.Halt k) h = (h.0, omega (arith, h.1))
   right_named (effects.Wrong f) h = absurd h
 

@@ -4,7 +4,7 @@ use Rattle.std.specs.FinMap as maps
 use Rattle.std.specs.Prelude.{All}
 use Rattle.rpg_program.specs.Effect.{Effect, Leaves, go_on, then_go}
 use Rattle.rpg_program.specs.Ended.{Ended, Gives, followed_by, followed_if, on_data, or_halt}
-use Rattle.rpg_program.specs.Ends.{End, GoesOn, Halt, Wrong}
+use Rattle.rpg_program.specs.Ends.{End, Continues, Halt, Wrong}
 use Rattle.rpg_program.specs.Forms.{entries_of, form_at, is_constant, is_index_form, is_plain, is_plain_form, is_writable, length_of, may_write}
 use Rattle.rpg_program.specs.Values.{Value, Number, Text, characters_of}
 use Rattle.rpg_program.specs.World.{Data, Fields, World, characters_at, set_current, set_value}
@@ -107,7 +107,7 @@ module _ (p : Object) where
 
   -- ---- what is done to data
 
-  -- it goes on with data of which all of this holds
+  -- it continues with data of which all of this holds
   pub gives : (d : Data nat_cmp) → Holds p d → KeepsData p (Gives d)
   gives d h = record { ending = tt; holds = h }
 
@@ -118,7 +118,7 @@ module _ (p : Object) where
 
   continues : (ending : End) (e : Ended nat_cmp) (go : Data nat_cmp → Ended nat_cmp) → IsEffectEnd ending → KeepsData p e →
       ((d : Data nat_cmp) → Holds p d → KeepsData p (go d)) → KeepsData p (followed_if ending e go)
-  continues GoesOn e go right h next = next e.data h.holds
+  continues Continues e go right h next = next e.data h.holds
   continues (Halt k) e go right h next = h
   continues (Wrong f) e go right h next = absurd right
 
@@ -133,13 +133,13 @@ module _ (p : Object) where
 
   -- ---- effects
 
-  -- it goes on at a world of which all of this holds
+  -- it continues at a world of which all of this holds
   pub leaves : (w : World nat_cmp) → Holds p w.data → Keeps p (Leaves w)
   leaves w h = record { ending = tt; holds = h }
 
   follows : (ending : End) (e : Effect nat_cmp) (go : World nat_cmp → Effect nat_cmp) → IsEffectEnd ending → Keeps p e →
       ((w : World nat_cmp) → Holds p w.data → Keeps p (go w)) → Keeps p (go_on ending e go)
-  follows GoesOn e go right h next = let more = next e.world h.holds in record { ending = more.ending; holds = more.holds }
+  follows Continues e go right h next = let more = next e.world h.holds in record { ending = more.ending; holds = more.holds }
   follows (Halt k) e go right h next = h
   follows (Wrong f) e go right h next = absurd right
 

@@ -5,7 +5,7 @@ use Rattle.std.specs.Ordering.{nat_cmp}
 use Rattle.rpg_cycle_records.specs.Earlier.{Selected}
 use Rattle.rpg_cycle_records.specs.Waiting.{Inputs}
 use Rattle.rpg_cycle.specs.Counting.{records_count}
-use Rattle.rpg_cycle.specs.Ends.{PhaseEnd, GoesOn, EndOfJob, Halt, Wrong}
+use Rattle.rpg_cycle.specs.Ends.{PhaseEnd, Continues, EndOfJob, Halt, Wrong}
 use Rattle.rpg_cycle.specs.Phases.{Cycle, Phase, UnderWay, begun, needs_record}
 use Rattle.rpg_cycle.specs.Runs.{Course, IsRun, Records, next_of}
 use Rattle.rpg_program.specs.Put.{Bytes}
@@ -19,14 +19,14 @@ use Rattle.rpg_verify.specs.Bound.{bound}
 
 -- how a cycle may end: nothing is wrong; it continues, reaches the end of the job, or halts with a number from 1 to 8
 abbrev pub IsCycleEnd : PhaseEnd → Type 0
-IsCycleEnd GoesOn = Unit {0}
+IsCycleEnd Continues = Unit {0}
 IsCycleEnd EndOfJob = Unit {0}
 IsCycleEnd (Halt k) = (1 ≤ k) × (k ≤ 8)
 IsCycleEnd (Wrong f) = ⊥
 
--- how a run may end: it doesn't go on
+-- how a run may end: it doesn't continue
 abbrev pub IsJobEnd : PhaseEnd → Type 0
-IsJobEnd GoesOn = ⊥
+IsJobEnd Continues = ⊥
 IsJobEnd EndOfJob = Unit {0}
 IsJobEnd (Halt k) = IsCycleEnd (Halt k)
 IsJobEnd (Wrong f) = ⊥
@@ -35,7 +35,7 @@ IsJobEnd (Wrong f) = ⊥
 pub record CyclesWell (p : Object) (e : PhaseEnd) (d : UnderWay) : Type 0 where
   pub ending : IsCycleEnd e
   pub values : Holds p d.config.world.data
-  pub no_cell : e ≡ GoesOn → d.config.cells ≡ map.empty
+  pub no_cell : e ≡ Continues → d.config.cells ≡ map.empty
   pub waiting : AreWaiting p d.inputs
   pub few : d.config.steps ≤ bound p
 

@@ -3,7 +3,7 @@ use Rattle.std.specs.Prelude.{◌≡◌, ◌≤◌}
 use Rattle.std.specs.Ordering.{nat_cmp}
 use Rattle.rpg_program.specs.Effect.{Effect}
 use Rattle.rpg_program.specs.Ended.{Ended}
-use Rattle.rpg_program.specs.Ends.{End, GoesOn, Halt, Wrong}
+use Rattle.rpg_program.specs.Ends.{End, Continues, Halt, Wrong}
 use Rattle.rpg_program.specs.World.{Data}
 use Rattle.rpg_program.specs.Object.{Object}
 use Rattle.rpg_memory.specs.Fits.{Fits, KeepsConstants}
@@ -15,7 +15,7 @@ pub record Holds (p : Object) (d : Data nat_cmp) : Type 0 where
 
 -- nothing is wrong: it continues, or halts at a zero divisor (1), a bad index (2) or a bad digit (4)
 abbrev pub IsEffectEnd : End → Type 0
-IsEffectEnd GoesOn = Unit {0}
+IsEffectEnd Continues = Unit {0}
 IsEffectEnd (Halt k) = (1 ≤ k) × (k ≤ 4) × (k ≡ 3 → ⊥)
 IsEffectEnd (Wrong f) = ⊥
 

@@ -1,7 +1,7 @@
 -- What holds of a configuration throughout a run of an accepted program, and the possible results of a step and of a section's run.
 use Rattle.std.specs.Prelude.{◌≡◌, ◌+◌, ◌*◌, ◌≤◌, true}
 use Rattle.std.specs.FinMap as map
-use Rattle.rpg_program.specs.Ends.{End, GoesOn, Halt, Wrong}
+use Rattle.rpg_program.specs.Ends.{End, Continues, Halt, Wrong}
 use Rattle.rpg_cycle_safety.specs.Holding.{Holds}
 use Rattle.rpg_machine.specs.Chain.{IsSafe}
 use Rattle.rpg_machine.specs.Config.{Config, Output}
@@ -20,21 +20,21 @@ pub record IsSteady (p : Object) (c : Config) : Type 0 where
 
 -- nothing is wrong: it continues, or halts as an effect does, or at a spent allowance (5)
 abbrev pub IsNamedEnd : End → Type 0
-IsNamedEnd GoesOn = Unit {0}
+IsNamedEnd Continues = Unit {0}
 IsNamedEnd (Halt k) = (1 ≤ k) × (k ≤ 5) × (k ≡ 3 → ⊥)
 IsNamedEnd (Wrong f) = ⊥
 
 -- a step continues or halts, at such a configuration; at a section's end there is no step
 abbrev pub StepsWell : Object → Outcome → Type 0
 StepsWell p (Next d o) = IsSteady p d
-StepsWell p (Stop GoesOn d o) = ⊥
+StepsWell p (Stop Continues d o) = ⊥
 StepsWell p (Stop (Halt k) d o) = IsNamedEnd (Halt k) × IsSteady p d
 StepsWell p (Stop (Wrong f) d o) = ⊥
 
 -- the progress of a run: at such a configuration, at one that is its end, or at one where it halted
 abbrev pub StandsWell : Object → Outcome → Type 0
 StandsWell p (Next d o) = IsSteady p d
-StandsWell p (Stop GoesOn d o) = IsSteady p d × (is_end p d ≡ true)
+StandsWell p (Stop Continues d o) = IsSteady p d × (is_end p d ≡ true)
 StandsWell p (Stop (Halt k) d o) = IsNamedEnd (Halt k) × IsSteady p d
 StandsWell p (Stop (Wrong f) d o) = ⊥
 
@@ -43,7 +43,7 @@ StandsWell p (Stop (Wrong f) d o) = ⊥
 pub record EndsWell (p : Object) (section : Section) (c : Config) (e : End) (d : Config) : Type 0 where
   pub ending : IsNamedEnd e
   pub values : Holds p d.world.data
-  pub no_cell : e ≡ GoesOn → d.cells ≡ map.empty
+  pub no_cell : e ≡ Continues → d.cells ≡ map.empty
   pub spent : d.allowance ≤ c.allowance
   pub bound : d.steps + d.allowance * most p ≤ c.steps + cost p (record { section = section; number = first_place p section }) + c.allowance * most p
 

@@ -3,7 +3,7 @@ use Rattle.std.specs.Prelude.{◌≡◌, ℕ, ◌+◌, ◌*◌, ◌≤◌, ◌�
 use Rattle.std.specs.Ordering.{nat_cmp}
 use Rattle.rpg_cycle_records.specs.Earlier.{Selected, with_record}
 use Rattle.rpg_cycle_records.specs.Waiting.{Inputs, unread}
-use Rattle.rpg_cycle.specs.Ends.{PhaseEnd, GoesOn}
+use Rattle.rpg_cycle.specs.Ends.{PhaseEnd, Continues}
 use Rattle.rpg_cycle.specs.Job.{AtWork}
 use Rattle.rpg_cycle.specs.Phases.{UnderWay, begun}
 use Rattle.rpg_cycle.specs.Runs.{Records, left_following}
@@ -55,7 +55,7 @@ abbrev pub IsOfCycles : ℕ → Object → List Selected → Records → Option 
 IsOfCycles zero p earlier rs previous c i last out = ⊥
 IsOfCycles (suc n) p earlier rs previous c i last out =
     IsOfCycle p earlier rs previous c i last out
-    ⊎ ((d : UnderWay) × (first : Output) × next_cycle p earlier rs c i (begun p c i) GoesOn d first
+    ⊎ ((d : UnderWay) × (first : Output) × next_cycle p earlier rs c i (begun p c i) Continues d first
     × IsOfCycles n p (with_record d.selected earlier) (left_following p c i rs) (last_position_from previous first.lines) d.config d.inputs last out)
 
 -- the output of a cycle in the whole run of a program over records, and the line placed last before it

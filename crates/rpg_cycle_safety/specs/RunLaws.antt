@@ -107,8 +107,8 @@ JobsStayInOutput =
     → DoesCycle old earlier previous primary secondary e new → pending new ≤ bound old.program * bytes_of_step + 1
 
 -- a run outputs at most this much for each of its cycles, plus that line feed
-abbrev pub RunsPutOutFew : Type 0
-RunsPutOutFew =
+abbrev pub RunsOutputFew : Type 0
+RunsOutputFew =
     (p : Object) (text : List ℕ) (date : ℤ) (fields : Fields nat_cmp) (records : Records) (course : Course) (bytes : Bytes)
     → IsProgram p → IsAccepted p → date_in text ≡ Some date → Holds p (job_first_world fields).data
     → IsRun p date fields records course bytes → length bytes.print + length bytes.disk ≤ course.cycles * (bound p * bytes_of_step) + 1

@@ -55,7 +55,7 @@ SectionsEndWell =
     → IsProgram p → IsAccepted p → has_end section ≡ true → c.cells ≡ map.empty → Holds p c.world.data
     → RunsTo p section c e d o → EndsWell p section c e d
 
--- and after any number of steps it is at a good place
+-- and after any number of steps it is at a valid place
 abbrev pub SectionsStandWell : Type 0
 SectionsStandWell =
     (p : Object) (section : Section) (n : ℕ) (c : Config)

@@ -3,8 +3,8 @@ use Rattle.std.specs.Prelude.{◌≡◌, ℕ, zero, suc, Bool, false, ◌⊎◌,
 use Rattle.std.specs.Ordering.{nat_cmp}
 use Rattle.rpg_cycle_records.specs.Earlier.{Left, Selected, left_by, with_record}
 use Rattle.rpg_cycle_records.specs.Waiting.{Inputs, has_match, unread}
-use Rattle.rpg_cycle.specs.Ends.{PhaseEnd, GoesOn}
-use Rattle.rpg_cycle.specs.Phases.{Phase, UnderWay, begun, detail_lines, end_where_last, fill_fields, halt_where_asked, is_bypassed, needs_record, output, overflow_lines, section, select_record, set_off, show_match, total_time}
+use Rattle.rpg_cycle.specs.Ends.{PhaseEnd, Continues}
+use Rattle.rpg_cycle.specs.Phases.{Phase, UnderWay, begun, detail_lines, end_where_last, fill_fields, halt_if_indicated, is_bypassed, needs_record, output, overflow_lines, section, select_record, set_off, show_match, total_time}
 use Rattle.rpg_cycle.specs.Runs.{Records, left_following, next_of}
 use Rattle.rpg_cycle.specs.Starting.{job_start}
 use Rattle.rpg_program.specs.World.{Fields}
@@ -37,7 +37,7 @@ within p s c x = (n : ℕ) × (x ≡ config_left (run p n (at_first p s c.config
 
 -- those of a phase and, if it continues, those of what follows
 abbrev pub along : Phase → Way → Way → Way
-along P V W c x = V c x ⊎ ((m : UnderWay) × (out : Output) × P c GoesOn m out × W m x)
+along P V W c x = V c x ⊎ ((m : UnderWay) × (out : Output) × P c Continues m out × W m x)
 
 -- where a phase leads, and what follows
 infixr 5 ◌onto◌
@@ -55,7 +55,7 @@ total_way p left c x =
 abbrev pub phases_way : Object → Left → (Inputs → Selected → Bool) → Option (List ℕ) → Option (List ℕ) → Way
 phases_way p left matches primary secondary =
     detail_lines p
-    onto halt_where_asked
+    onto halt_if_indicated
     onto set_off p
     onto select_record p left primary secondary
     onto along (total_time p left) (total_way p left)

@@ -1,6 +1,6 @@
 //! Laws of cycles and of whole runs. The functions do nothing: they are called only for their contracts.
 ghost use Rattle.rpg_cycle_records.specs.Waiting.{unread};
-ghost use Rattle.rpg_cycle_safety.specs.RunLaws.{CyclesAreOne, CyclesAreThere, CyclesEndWell, CyclesPayForOutput, JobsStayInOutput, RunsAreSteady, RunsAreThere, RunsEndWell, RunsPutOutFew, RunsStayInOutput, SectionsPayForOutput};
+ghost use Rattle.rpg_cycle_safety.specs.RunLaws.{CyclesAreOne, CyclesAreThere, CyclesEndWell, CyclesPayForOutput, JobsStayInOutput, RunsAreSteady, RunsAreThere, RunsEndWell, RunsOutputFew, RunsStayInOutput, SectionsPayForOutput};
 ghost use Rattle.rpg_cycle_safety.specs.Waiting.{AreWaiting};
 ghost use Rattle.rpg_program.specs.Object.{Object};
 
@@ -38,5 +38,5 @@ pub fn outputs_stay_in_bound()
     ensures cycle { CyclesPayForOutput }
     ensures run { RunsStayInOutput }
     ensures job { JobsStayInOutput }
-    ensures whole { RunsPutOutFew }
+    ensures whole { RunsOutputFew }
 {}

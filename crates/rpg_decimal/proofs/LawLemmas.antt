@@ -14,7 +14,7 @@ use Rattle.rpg_decimal.specs.declared.moves.Source.TheVariants.{Number, Text}
 use Rattle.rpg_decimal_words.specs.Move.{overlay_right, overlay_left, number_moved_right, number_moved_left}
 use Rattle.rpg_decimal_words.specs.Place.{place_value, lowest_digits, signed_number}
 use Rattle.rpg_decimal.proofs.PlaceLemmas.{place_value-below, place_digit, length-digits, get_or-digits, get_or-digits-below, digits-from_right, place_value-digits}
-use Rattle.rpg_decimal.proofs.ZonedLemmas.{good_from_numeric, numeric_from_good, Spells-zoned, digit_stands, is_minus-letter, last_of_push, last_character-pos, number_some}
+use Rattle.rpg_decimal.proofs.ZonedLemmas.{valid_from_numeric, numeric_from_valid, Spells-zoned, digit_stands, is_minus-letter, last_of_push, last_character-pos, number_some}
 use Rattle.rpg_decimal.proofs.WholeLemmas.{unsigned_abs-neg}
 
 -- ---- numbers with a sign
@@ -164,7 +164,7 @@ spelled_by_places text n h =
     let long = length-map text digit_of in
     let size : unsigned_abs n ≡ place_value ds = ap unsigned_abs h.value ∙ size-signed b ds in
     record {
-      good = good_from_numeric text h.good;
+      valid = valid_from_numeric text h.valid;
       fits = rw (size, sym (ap (λ j. 10 ^ j) long)) (place_value-below ds (characters-below text));
       digits = λ i l.
           let at : length ds - 1 - i < length text = omega arith in
@@ -186,7 +186,7 @@ by_places_spelled text n h =
     character_digit text i inside ∙ ap (λ j. digit_of (get_or text j 0)) (sym at) ∙ h.digits (k - 1 - i) (omega arith) ∙ sym (get_or-digits k (unsigned_abs n) i inside)) in
     let size : place_value ds ≡ unsigned_abs n = ap place_value same ∙ place_value-digits k (unsigned_abs n) ∙ mod-eq_of_lt h.fits in
     record {
-      good = numeric_from_good text h.good;
+      valid = numeric_from_valid text h.valid;
       value = h.sign ∙ sym (ap (λ m. cond b (neg_ℤ (pos m)) (pos m)) size);
     }
 
@@ -268,12 +268,12 @@ plain_alone text n some p =
 spelled_in : (text : List ℕ) (n : ℤ) → number_in text ≡ Some n → Spells text n
 spelled_in text n h =
     elim (cases_Bool (is_numeric text)) [
-      | inl good ↦ let here = number_some text good in record { good = good; value = cc }
+      | inl valid ↦ let here = number_some text valid in record { valid = valid; value = cc }
       | inr bad ↦ let none : number_in text ≡ None = ap (λ b. cond b (Some (spelled_number text)) None) bad in absurd cc
     ]
 
 in_spelled : (text : List ℕ) (n : ℤ) → Spells text n → number_in text ≡ Some n
-in_spelled text n h = number_some text h.good ∙ ap Some (sym h.value)
+in_spelled text n h = number_some text h.valid ∙ ap Some (sym h.value)
 
 pub read_either : (text : List ℕ) (n : ℤ) → (number_in text ≡ Some n) ↔ Spells text n
 read_either text n = (spelled_in text n, in_spelled text n)

@@ -9,7 +9,7 @@ use Rattle.rpg_decimal_words.specs.Move.{overlay_right, overlay_left}
 use Rattle.rpg_decimal_words.specs.Place.{place_value, lowest_digits, signed_number}
 use Rattle.rpg_decimal_words.specs.Whole.{with_sign_of}
 use Rattle.rpg_decimal_words.specs.Zoned.{may_stand, is_numeric, IsFirstBad}
-use Rattle.rpg_decimal.proofs.ZonedLemmas.{good_from_numeric}
+use Rattle.rpg_decimal.proofs.ZonedLemmas.{valid_from_numeric}
 use Rattle.rpg_decimal.proofs.PlaceLemmas.{place_value-append, place_value-digits, length-digits}
 use Rattle.rpg_decimal.proofs.WholeLemmas.{ten_pos}
 
@@ -110,10 +110,10 @@ front-overlay_right s o i h =
 
 -- a bad place lies in the source
 pub bad_in_source : (s o : List ℕ) (spot : ℕ) → is_numeric o ≡ true → IsFirstBad (overlay_right s o) spot → length o ≤ spot + length s
-bad_in_source s o spot good bad =
+bad_in_source s o spot valid bad =
     elim (cases_lt (spot + length s) (length o)) [
       | inl before ↦
-          let here = good_from_numeric o good spot (omega arith) in
+          let here = valid_from_numeric o valid spot (omega arith) in
           let same : may_stand (spot + 1 == length (overlay_right s o)) (slice_index (overlay_right s o) spot) ≡ may_stand (spot + 1 == length o) (slice_index o spot) =
           ap₂ (λ n c. may_stand (spot + 1 == n) c) (length-overlay_right s o) (front-overlay_right s o spot before) in
           absurd (bad.bad (same ∙ here))

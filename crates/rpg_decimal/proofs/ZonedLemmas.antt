@@ -8,32 +8,32 @@ use Rattle.std.proofs.lemmas.List.{get_or_push, length_push, length-map, set_at}
 use Rattle.std.specs.Int.{is_negative}
 use Rattle.std.specs.Result.{result_ok}
 use Rattle.rpg_decimal_words.specs.Place.{place_value, lowest_digits, signed_number}
-use Rattle.rpg_decimal_words.specs.Zoned.{may_stand, IsGoodAt, is_numeric, is_digit, is_minus, digit_of, minus_letter, last_of, spelled_number, number_in, last_character, zoned_text, Spells, IsFirstBad}
+use Rattle.rpg_decimal_words.specs.Zoned.{may_stand, IsValidAt, is_numeric, is_digit, is_minus, digit_of, minus_letter, last_of, spelled_number, number_in, last_character, zoned_text, Spells, IsFirstBad}
 use Rattle.rpg_decimal.proofs.PlaceLemmas.{place_value_push, place_value-digits, length-digits}
 
--- ---- each place is good, by places and from left to right
+-- ---- each place is valid, by places and from left to right
 
-good_first : (c : ℕ) (cs : List ℕ) → may_stand (0 + 1 == length (c ∷ cs)) c ≡ may_stand (length cs == 0) c
-good_first c [] = refl
-good_first c (d ∷ cs) = ap (λ b. may_stand b c) (grind (arith, nat_tests))
+valid_first : (c : ℕ) (cs : List ℕ) → may_stand (0 + 1 == length (c ∷ cs)) c ≡ may_stand (length cs == 0) c
+valid_first c [] = refl
+valid_first c (d ∷ cs) = ap (λ b. may_stand b c) (grind (arith, nat_tests))
 
-good_next : (c : ℕ) (cs : List ℕ) (i : ℕ) → may_stand ((i + 1) + 1 == length (c ∷ cs)) (slice_index (c ∷ cs) (i + 1)) ≡ may_stand (i + 1 == length cs) (slice_index cs i)
-good_next c cs i =
+valid_next : (c : ℕ) (cs : List ℕ) (i : ℕ) → may_stand ((i + 1) + 1 == length (c ∷ cs)) (slice_index (c ∷ cs) (i + 1)) ≡ may_stand (i + 1 == length cs) (slice_index cs i)
+valid_next c cs i =
     let e : (nat_eq ((i + 1) + 1) (suc (length cs))) ≡ nat_eq (i + 1) (length cs) = grind (arith, nat_tests) in
     let f : slice_index (c ∷ cs) (i + 1) ≡ slice_index cs i = rw add-one refl in
     ap₂ may_stand e f
 
-pub numeric_from_good : (text : List ℕ) → ((i : ℕ) → i < length text → IsGoodAt text i) → is_numeric text ≡ true
-numeric_from_good [] good = refl
-numeric_from_good (c ∷ cs) good =
-    ap₂ (◌&&◌) (sym (good_first c cs) ∙ good 0 (omega arith)) (numeric_from_good cs (λ i h. sym (good_next c cs i) ∙ good (i + 1) (omega arith)))
+pub numeric_from_valid : (text : List ℕ) → ((i : ℕ) → i < length text → IsValidAt text i) → is_numeric text ≡ true
+numeric_from_valid [] valid = refl
+numeric_from_valid (c ∷ cs) valid =
+    ap₂ (◌&&◌) (sym (valid_first c cs) ∙ valid 0 (omega arith)) (numeric_from_valid cs (λ i h. sym (valid_next c cs i) ∙ valid (i + 1) (omega arith)))
 
-pub good_from_numeric : (text : List ℕ) → is_numeric text ≡ true → (i : ℕ) → i < length text → IsGoodAt text i
-good_from_numeric [] h i l = absurd (omega arith)
-good_from_numeric (c ∷ cs) h zero l = good_first c cs ∙ (and_parts (may_stand (nat_eq (length cs) 0) c) (is_numeric cs) h).0
-good_from_numeric (c ∷ cs) h (suc i) l =
-    let next = good_from_numeric cs ((and_parts (may_stand (nat_eq (length cs) 0) c) (is_numeric cs) h).1) i (omega arith) in
-    subst (IsGoodAt (c ∷ cs)) (add-one i) (good_next c cs i ∙ next)
+pub valid_from_numeric : (text : List ℕ) → is_numeric text ≡ true → (i : ℕ) → i < length text → IsValidAt text i
+valid_from_numeric [] h i l = absurd (omega arith)
+valid_from_numeric (c ∷ cs) h zero l = valid_first c cs ∙ (and_parts (may_stand (nat_eq (length cs) 0) c) (is_numeric cs) h).0
+valid_from_numeric (c ∷ cs) h (suc i) l =
+    let next = valid_from_numeric cs ((and_parts (may_stand (nat_eq (length cs) 0) c) (is_numeric cs) h).1) i (omega arith) in
+    subst (IsValidAt (c ∷ cs)) (add-one i) (valid_next c cs i ∙ next)
 
 -- ---- what a text spells
 
@@ -43,7 +43,7 @@ none_from_err (Err e) h = refl
 
 pub number_none : (text : List ℕ) (spot : ℕ) → IsFirstBad text spot → number_in text ≡ None
 number_none text spot h =
-    ap (λ b. cond b (Some (spelled_number text)) None) (false_from_ne_true (is_numeric text) (λ t. h.bad (good_from_numeric text t spot h.inside)))
+    ap (λ b. cond b (Some (spelled_number text)) None) (false_from_ne_true (is_numeric text) (λ t. h.bad (valid_from_numeric text t spot h.inside)))
 
 pub number_some : (text : List ℕ) → is_numeric text ≡ true → number_in text ≡ Some (spelled_number text)
 number_some text h = ap (λ b. cond b (Some (spelled_number text)) None) h
@@ -132,7 +132,7 @@ numeric-zoned k (pos a) =
 numeric-zoned k (negsuc a) = numeric-digits (k - 1) (suc a / 10) (minus_letter (suc a % 10)) (letter_stands (suc a % 10) (omega arith))
 
 pub Spells-zoned : (k : ℕ) (n : ℤ) → 1 ≤ k → unsigned_abs n < 10 ^ k → Spells (zoned_text k n) n
-Spells-zoned k n low h = record { good = numeric-zoned k n; value = sym (spelled-zoned k n low h) }
+Spells-zoned k n low h = record { valid = numeric-zoned k n; value = sym (spelled-zoned k n low h) }
 
 -- the digits of a size, its last one apart
 last_apart : (k m : ℕ) → map (λ d. 48 + d) (lowest_digits (suc k) m) ≡ map (λ d. 48 + d) (lowest_digits k (m / 10)) ++ (48 + m % 10) ∷ []

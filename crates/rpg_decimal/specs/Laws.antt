@@ -1,7 +1,7 @@
 -- The definitions, place by place.
 use Rattle.std.specs.Prelude.{◌≡◌, ◌≢◌, ℕ, ◌+◌, ◌-◌, ◌/◌, ◌%◌, ◌^◌, ◌<◌, ℤ, pos, neg_ℤ, unsigned_abs, List, length, slice_index, nat_lt, if◌then◌else◌, IsTrue, EachIndex}
 use Rattle.std.specs.Int.{is_negative}
-use Rattle.rpg_decimal_words.specs.Zoned.{digit_of, is_digit, is_minus, last_of, IsGoodAt, Spells}
+use Rattle.rpg_decimal_words.specs.Zoned.{digit_of, is_digit, is_minus, last_of, IsValidAt, Spells}
 
 -- the place of a list, counted from the right
 abbrev pub from_right : List ℕ → ℕ → ℕ
@@ -35,7 +35,7 @@ pub record MovesDigitsFromLeft (k : ℕ) (n : ℤ) (len : ℕ) (old moved : ℤ)
 
 -- each character is valid and has the digit of n at its place, and the last one has its sign
 pub record SpellsByPlaces (text : List ℕ) (n : ℤ) : Type 0 where
-  pub good : EachIndex text (IsGoodAt text)
+  pub valid : EachIndex text (IsValidAt text)
   pub fits : unsigned_abs n < 10 ^ length text
   pub digits : (i : ℕ) → i < length text → digit_of (from_right text i) ≡ digit_at n i
   pub sign : n ≡ (if is_minus (last_of text) then neg_ℤ (pos (unsigned_abs n)) else pos (unsigned_abs n))

@@ -3,7 +3,7 @@ ghost use Rattle.std.specs.Prelude.{◌≡◌, ◌+◌, ◌-◌, ◌/◌, ◌%�
 ghost use Rattle.std.specs.Int.{is_negative};
 ghost use Rattle.std.specs.Result.{result_ok};
 ghost use Rattle.rpg_decimal_words.specs.Place.{lowest_digits, place_value};
-ghost use Rattle.rpg_decimal_words.specs.Zoned.{digit_of, is_minus, may_stand, last_character, number_in, zoned_text, IsGoodAt, Spells, IsFirstBad};
+ghost use Rattle.rpg_decimal_words.specs.Zoned.{digit_of, is_minus, may_stand, last_character, number_in, zoned_text, IsValidAt, Spells, IsFirstBad};
 
 use crate::pairs::pair_of;
 use thiserror::Error;
@@ -83,7 +83,7 @@ fn read_digits(text: &[u8]) -> Result<u64, BadDigit>
     requires { length text.now ≤ 15 }
     ensures value { IfOk result (λ size. size ≡ place_value (map digit_of text.now)) }
     ensures fits { IfOk result (λ size. size < 10 ^ length text.now) }
-    ensures good { OnOk result (EachIndex text.now (IsGoodAt text.now)) }
+    ensures valid { OnOk result (EachIndex text.now (IsValidAt text.now)) }
     ensures bad { IfErr result (λ e. IsFirstBad text.now e.spot) }
 {
     let mut size = 0u64;

@@ -11,6 +11,6 @@ abbrev pub lowest_digits : ℕ → ℕ → List ℕ
 lowest_digits zero n = []
 lowest_digits (suc k) n = (n / 10 ^ k % 10) ∷ lowest_digits k n
 
--- the number of these digits, below zero if asked; minus zero is zero
+-- the number of these digits, negative if required; minus zero is zero
 abbrev pub signed_number : Bool → List ℕ → ℤ
 signed_number negative ds = if negative then neg_ℤ (pos (place_value ds)) else pos (place_value ds)

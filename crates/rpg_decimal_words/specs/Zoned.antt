@@ -28,8 +28,8 @@ abbrev pub may_stand : Bool → ℕ → Bool
 may_stand last c = c == 32 || is_digit c || (last && (is_plus c || is_minus c))
 
 -- the character is allowed at its place in a number
-abbrev pub IsGoodAt : List ℕ → ℕ → Type 0
-IsGoodAt text i = IsTrue (may_stand (i + 1 == length text) (slice_index text i))
+abbrev pub IsValidAt : List ℕ → ℕ → Type 0
+IsValidAt text i = IsTrue (may_stand (i + 1 == length text) (slice_index text i))
 
 -- the last character
 abbrev pub last_of : List ℕ → ℕ
@@ -46,7 +46,7 @@ is_numeric (c ∷ cs) = may_stand (length cs == 0) c && is_numeric cs
 
 -- the text spells n
 pub record Spells (text : List ℕ) (n : ℤ) : Type 0 where
-  pub good : IsTrue (is_numeric text)
+  pub valid : IsTrue (is_numeric text)
   pub value : n ≡ spelled_number text
 
 -- the number that the text spells, if it spells one
@@ -56,8 +56,8 @@ number_in text = if is_numeric text then Some (spelled_number text) else None
 -- the first place of the text that no number has
 pub record IsFirstBad (text : List ℕ) (spot : ℕ) : Type 0 where
   pub inside : spot < length text
-  pub bad : ¬ IsGoodAt text spot
-  pub good_before : (i : ℕ) → i < spot → IsGoodAt text i
+  pub bad : ¬ IsValidAt text spot
+  pub valid_before : (i : ℕ) → i < spot → IsValidAt text i
 
 -- the digit d under a minus sign
 abbrev pub minus_letter : ℕ → ℕ

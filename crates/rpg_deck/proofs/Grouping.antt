@@ -2,9 +2,9 @@
 use Rattle.std.proofs.Common.{◌≡◌, ℕ, ◌<◌, ◌≤◌, Bool, true, false, not, cond, List, [], ◌∷◌, ◌++◌, map, Option, None, Some, refl, sym, ap, ◌∙◌, arith, append_assoc, append-nil}
 use Rattle.std.specs.List.{cons_option}
 use Rattle.std.specs.Option.{option_map, option_map_or, option_to_list}
-use Rattle.rpg_cards.specs.Calculations.{CalculationGroup, alone, calculation_of, calculations, calculations_from, goes_on, group_with, joined_group}
+use Rattle.rpg_cards.specs.Calculations.{CalculationGroup, alone, calculation_of, calculations, calculations_from, continues, group_with, joined_group}
 use Rattle.rpg_cards.specs.Cards.{calculation_on}
-use Rattle.rpg_cards.specs.Deeds.{Calculation}
+use Rattle.rpg_cards.specs.Statements.{Calculation}
 use Rattle.rpg_cards.specs.Groups.{joins}
 use Rattle.rpg_cards.specs.Keys.{Key}
 use Rattle.rpg_cards.specs.declared.spec_card.SpecCard.{SpecCard}
@@ -63,21 +63,21 @@ none_done : (low : ℕ) (cs : List SpecCard) → 4 < low → IsInOrder low cs �
 none_done low [] l ordered o = refl
 none_done low (c ∷ cs) l ordered o =
     let here : 4 < place c.spec = omega arith in
-    ap (λ k. emitted (cond (goes_on (cs ++ [])) None (option_map (group_with o) k)) ++ calculations_from (option_map (group_with o) k) cs []) (none_later c.spec here)
-    ∙ ap (λ xs. xs ++ calculations_from None cs []) (nothing (goes_on (cs ++ []))) ∙ none_done (place c.spec) cs here ordered.1 None
+    ap (λ k. emitted (cond (continues (cs ++ [])) None (option_map (group_with o) k)) ++ calculations_from (option_map (group_with o) k) cs []) (none_later c.spec here)
+    ∙ ap (λ xs. xs ++ calculations_from None cs []) (nothing (continues (cs ++ []))) ∙ none_done (place c.spec) cs here ordered.1 None
 
 -- ---- among them
 
 -- an open group, where it ends, and those after it
 abbrev done : CalculationGroup → List SpecCard → List (Calculation Key)
-done g cs = emitted (cond (goes_on cs) None (Some g)) ++ calculations_from (Some g) cs []
+done g cs = emitted (cond (continues cs) None (Some g)) ++ calculations_from (Some g) cs []
 
 abbrev meant : CalculationGroup → List (Card CalculationSpec) → List (Calculation Key)
 meant g cards = calculation_of (with_cards g (strays begins_calculation cards)) ∷ map calculation_in (groups_begun begins_calculation cards)
 
 -- a C card with those after it
-opened : (g : CalculationGroup) (cs : List SpecCard) → emitted (cond (goes_on (cs ++ [])) None (Some g)) ++ calculations_from (Some g) cs [] ≡ done g cs
-opened g cs = ap (λ ds. emitted (cond (goes_on ds) None (Some g)) ++ calculations_from (Some g) cs []) (append-nil cs)
+opened : (g : CalculationGroup) (cs : List SpecCard) → emitted (cond (continues (cs ++ [])) None (Some g)) ++ calculations_from (Some g) cs [] ≡ done g cs
+opened g cs = ap (λ ds. emitted (cond (continues ds) None (Some g)) ++ calculations_from (Some g) cs []) (append-nil cs)
 
 from_open : (low : ℕ) (cs : List SpecCard) → 4 ≤ low → IsInOrder low cs → (g : CalculationGroup) → done g cs ≡ meant g (ks cs)
 from_open low [] l ordered g = ap (λ fs. calculation_of (record { first = g.first; followers = fs }) ∷ []) (sym (append-nil g.followers))
@@ -86,7 +86,7 @@ from_open low (c ∷ cs) l ordered g =
     by (calculation_on c.spec) (λ is. no_more (place c.spec) cs (later c.spec here is) ordered.1) (λ is. none_done (place c.spec) cs (later c.spec here is) ordered.1 None) refl (from_open (place c.spec) cs here ordered.1)
   where
     inner : (k : CalculationSpec) (b : Bool) → ((h : CalculationGroup) → done h cs ≡ meant h (ks cs))
-        → emitted (cond b None (Some g)) ++ (emitted (cond (goes_on (cs ++ [])) None (Some (cond b (joined_group g k) (alone k)))) ++ calculations_from (Some (cond b (joined_group g k) (alone k))) cs [])
+        → emitted (cond b None (Some g)) ++ (emitted (cond (continues (cs ++ [])) None (Some (cond b (joined_group g k) (alone k)))) ++ calculations_from (Some (cond b (joined_group g k) (alone k))) cs [])
         ≡ calculation_of (with_cards g (cond (not b) [] (numbered c k ∷ strays begins_calculation (ks cs))))
         ∷ map calculation_in (cond (not b) (record { first = numbered c k; followers = strays begins_calculation (ks cs) } ∷ groups_begun begins_calculation (ks cs)) (groups_begun begins_calculation (ks cs)))
     inner k true rest =
@@ -97,10 +97,10 @@ from_open low (c ∷ cs) l ordered g =
         ∙ ap (λ fs. calculation_of (record { first = g.first; followers = fs }) ∷ meant (alone k) (ks cs)) (sym (append-nil g.followers))
 
     by : (o : Option CalculationSpec) → (calculation_on c.spec ≡ None → ks cs ≡ []) → (calculation_on c.spec ≡ None → calculations_from None cs [] ≡ []) → calculation_on c.spec ≡ o → ((h : CalculationGroup) → done h cs ≡ meant h (ks cs))
-        → emitted (cond (option_map_or (λ k. joins k.control_level) o false) None (Some g)) ++ (emitted (cond (goes_on (cs ++ [])) None (option_map (group_with (Some g)) o)) ++ calculations_from (option_map (group_with (Some g)) o) cs [])
+        → emitted (cond (option_map_or (λ k. joins k.control_level) o false) None (Some g)) ++ (emitted (cond (continues (cs ++ [])) None (option_map (group_with (Some g)) o)) ++ calculations_from (option_map (group_with (Some g)) o) cs [])
         ≡ meant g (cons_option (option_map (numbered c) o) (ks cs))
     by None none empty is rest =
-        ap (λ xs. calculation_of g ∷ (xs ++ calculations_from None cs [])) (nothing (goes_on (cs ++ [])))
+        ap (λ xs. calculation_of g ∷ (xs ++ calculations_from None cs [])) (nothing (continues (cs ++ [])))
         ∙ ap (λ xs. calculation_of g ∷ xs) (empty is)
         ∙ ap (λ fs. calculation_of (record { first = g.first; followers = fs }) ∷ []) (sym (append-nil g.followers))
         ∙ sym (ap (λ cards. meant g cards) (none is))
@@ -123,8 +123,8 @@ from_front low (c ∷ cs) ordered =
     at_c (spec.Data x) k is = absurd cc
 
     by : (o : Option CalculationSpec) → ((k : CalculationSpec) → calculation_on c.spec ≡ Some k → (h : CalculationGroup) → done h cs ≡ meant h (ks cs)) → calculation_on c.spec ≡ o → calculations_from None cs [] ≡ map calculation_in (all_groups begins_calculation (ks cs))
-        → emitted (cond (goes_on (cs ++ [])) None (option_map (group_with None) o)) ++ calculations_from (option_map (group_with None) o) cs [] ≡ map calculation_in (all_groups begins_calculation (cons_option (option_map (numbered c) o) (ks cs)))
-    by None open_one is rest = ap (λ xs. xs ++ calculations_from None cs []) (nothing (goes_on (cs ++ []))) ∙ rest
+        → emitted (cond (continues (cs ++ [])) None (option_map (group_with None) o)) ++ calculations_from (option_map (group_with None) o) cs [] ≡ map calculation_in (all_groups begins_calculation (cons_option (option_map (numbered c) o) (ks cs)))
+    by None open_one is rest = ap (λ xs. xs ++ calculations_from None cs []) (nothing (continues (cs ++ []))) ∙ rest
     by (Some k) open_one is rest = opened (alone k) cs ∙ open_one k is (alone k)
 
 -- the law

@@ -5,7 +5,7 @@ use Rattle.std.specs.List.{cons_option, filter_map, last_or}
 use Rattle.std.specs.Option.{option_and_then, option_map, option_map_or, option_to_list}
 use Rattle.rpg_cards.specs.Calculations as flat
 use Rattle.rpg_cards.specs.Calls.{call_at, called_subroutine, calls, calls_after, subroutine_in}
-use Rattle.rpg_cards.specs.Deeds.{Calculation, deed_of}
+use Rattle.rpg_cards.specs.Statements.{Calculation, statement_of}
 use Rattle.rpg_cards.specs.Keys.{Key}
 use Rattle.rpg_cards.specs.Labels as old
 use Rattle.rpg_cards.specs.Labels.{begins_subroutine, begun_count, brackets, ends, is_begsr, is_inside_subroutine, labels_after, section_of}
@@ -15,21 +15,21 @@ use Rattle.rpg_cards.specs.declared.labels.Section.{Section}
 use Rattle.rpg_cards.specs.declared.labels.Section.TheVariants.{Outside, Subroutine}
 use Rattle.rpg_deck.proofs.LastCard.{last_map, unwrap_map}
 use Rattle.rpg_deck.specs.Steps as new
-use Rattle.rpg_deck.specs.Steps.{CalculationCards, SubroutineState, before_calculations, group_deed, label_of, operation_card, subroutine_state_after, steps_from}
+use Rattle.rpg_deck.specs.Steps.{CalculationCards, SubroutineState, before_calculations, group_statement, label_of, operation_card, subroutine_state_after, steps_from}
 use Rattle.rpg_deck.specs.Same.{calculation_in}
 use Rattle.rpg_sheet_specs.specs.declared.calculation.ControlLevel.{ControlLevel}
 use Rattle.rpg_sheet_specs.specs.declared.calculation.ControlLevel.TheVariants as control
 
 -- ---- the operation
 
-pub same_deed : (g : CalculationCards) → (calculation_in g).deed ≡ group_deed g
-same_deed g = ap deed_of (ap (λ o. unwrap_or o g.first.spec) (last_map (λ c. c.spec) g.followers None) ∙ unwrap_map (λ c. c.spec) (last_or None g.followers) g.first)
+pub same_statement : (g : CalculationCards) → (calculation_in g).statement ≡ group_statement g
+same_statement g = ap statement_of (ap (λ o. unwrap_or o g.first.spec) (last_map (λ c. c.spec) g.followers None) ∙ unwrap_map (λ c. c.spec) (last_or None g.followers) g.first)
 
 pub same_begins : (g : CalculationCards) → begins_subroutine (calculation_in g) ≡ new.opens_subroutine g
-same_begins g = ap (λ d. is_subroutine g.first.spec.control_level && is_begsr d) (same_deed g)
+same_begins g = ap (λ d. is_subroutine g.first.spec.control_level && is_begsr d) (same_statement g)
 
 pub same_ends : (g : CalculationCards) → ends (calculation_in g) ≡ new.closes_subroutine g
-same_ends g = ap (λ d. is_subroutine g.first.spec.control_level && old.is_endsr d) (same_deed g)
+same_ends g = ap (λ d. is_subroutine g.first.spec.control_level && old.is_endsr d) (same_statement g)
 
 -- ---- what is carried
 
@@ -87,7 +87,7 @@ matches_next p before g m = record {
 -- ---- sections
 
 pub same_section : (p : SubroutineState) (before : List (Calculation Key)) (g : CalculationCards) → Matches p before → section_of before (calculation_in g) ≡ new.section_of_group p g
-same_section p before g m = ap (λ d. old.section_by before (is_subroutine g.first.spec.control_level && is_begsr d) g.first.spec.control_level) (same_deed g) ∙ by g.first.spec.control_level (is_begsr (group_deed g))
+same_section p before g m = ap (λ d. old.section_by before (is_subroutine g.first.spec.control_level && is_begsr d) g.first.spec.control_level) (same_statement g) ∙ by g.first.spec.control_level (is_begsr (group_statement g))
   where
     inside : (i : Bool) (o : Option ℕ) → o ≡ open_one (begun_count before) i → cond i (Subroutine (begun_count before - 1)) Outside ≡ option_map_or Subroutine o Outside
     inside true o is = sym (ap (λ o. option_map_or Subroutine o Outside) is)
@@ -112,8 +112,8 @@ labels_from [] p before m = refl
 labels_from (g ∷ gs) p before m =
     listed (old.label_at before (calculation_in g)) (labels_after (before ++ calculation_in g ∷ []) (map calculation_in gs))
     ∙ ap (λ ls. cons_option (old.label_at before (calculation_in g)) ls) (labels_from gs (subroutine_state_after p g) (before ++ calculation_in g ∷ []) (matches_next p before g m))
-    ∙ ap (λ s. cons_option (option_map (λ n. record { named = n; section = s }) (old.gives (calculation_in g).deed)) (new.labels_of_steps (steps_from (subroutine_state_after p g) gs))) (same_section p before g m)
-    ∙ ap (λ d. cons_option (option_map (λ n. record { named = n; section = new.section_of_group p g }) (old.gives d)) (new.labels_of_steps (steps_from (subroutine_state_after p g) gs))) (same_deed g)
+    ∙ ap (λ s. cons_option (option_map (λ n. record { named = n; section = s }) (old.defined_name (calculation_in g).statement)) (new.labels_of_steps (steps_from (subroutine_state_after p g) gs))) (same_section p before g m)
+    ∙ ap (λ d. cons_option (option_map (λ n. record { named = n; section = new.section_of_group p g }) (old.defined_name d)) (new.labels_of_steps (steps_from (subroutine_state_after p g) gs))) (same_statement g)
 
 -- the law
 pub labels-are : (gs : List CalculationCards) → old.labels (map calculation_in gs) ≡ new.labels_of_steps (steps_from before_calculations gs)
@@ -128,8 +128,8 @@ calls_from given (g ∷ gs) p before m =
   where
     here : call_at given before (calculation_in g) ≡ new.call_of given (record { section = new.section_of_group p g; group = g })
     here =
-        ap (λ s. option_and_then (λ caller. option_map (λ callee. (caller, callee)) (option_and_then (called_subroutine given) (old.wants (calculation_in g).deed))) (subroutine_in s)) (same_section p before g m)
-        ∙ ap (λ d. option_and_then (λ caller. option_map (λ callee. (caller, callee)) (option_and_then (called_subroutine given) (old.wants d))) (subroutine_in (new.section_of_group p g))) (same_deed g)
+        ap (λ s. option_and_then (λ caller. option_map (λ callee. (caller, callee)) (option_and_then (called_subroutine given) (old.target_name (calculation_in g).statement))) (subroutine_in s)) (same_section p before g m)
+        ∙ ap (λ d. option_and_then (λ caller. option_map (λ callee. (caller, callee)) (option_and_then (called_subroutine given) (old.target_name d))) (subroutine_in (new.section_of_group p g))) (same_statement g)
 
 pub calls-are : (gs : List CalculationCards) → calls (map calculation_in gs) ≡ new.calls_of_steps (steps_from before_calculations gs)
 calls-are gs = calls_from (old.labels (map calculation_in gs)) gs before_calculations [] (record { begun = refl; own = refl }) ∙ ap (λ ls. filter_map (new.call_of ls) (steps_from before_calculations gs)) (labels-are gs)

@@ -3,7 +3,7 @@ use Rattle.std.specs.Prelude.{ℕ, List, [], ◌∷◌, Option, map}
 use Rattle.std.specs.Option.{option_and_then, option_or}
 use Rattle.rpg_cards.specs.Calculations as flat
 use Rattle.rpg_cards.specs.Cards.{output_record_in, type_in}
-use Rattle.rpg_cards.specs.Deeds.{Calculation}
+use Rattle.rpg_cards.specs.Statements.{Calculation}
 use Rattle.rpg_cards.specs.Groups as flat_groups
 use Rattle.rpg_cards.specs.Keys.{Key}
 use Rattle.rpg_deck.specs.Cut.{GroupOfCards}

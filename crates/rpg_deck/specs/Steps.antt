@@ -3,9 +3,9 @@ use Rattle.std.specs.Prelude.{ℕ, suc, Bool, ◌&&◌, List, [], ◌∷◌, Opt
 use Rattle.std.specs.List.{filter_map, last_or}
 use Rattle.std.specs.Option.{option_and_then, option_map, option_map_or}
 use Rattle.rpg_cards.specs.Calls.{called_subroutine, subroutine_in}
-use Rattle.rpg_cards.specs.Deeds.{Deed, deed_of}
+use Rattle.rpg_cards.specs.Statements.{Statement, statement_of}
 use Rattle.rpg_cards.specs.Keys.{Key}
-use Rattle.rpg_cards.specs.Labels.{gives, is_begsr, is_endsr, wants}
+use Rattle.rpg_cards.specs.Labels.{defined_name, is_begsr, is_endsr, target_name}
 use Rattle.rpg_cards.specs.Sections.{is_subroutine}
 use Rattle.rpg_cards.specs.declared.labels.Label.{Label}
 use Rattle.rpg_cards.specs.declared.labels.Section.{Section}
@@ -30,16 +30,16 @@ abbrev pub control_of : CalculationCards → ControlLevel
 control_of g = g.first.spec.control_level
 
 -- what the operation does
-abbrev pub group_deed : CalculationCards → Deed Key
-group_deed g = deed_of (operation_card g).spec
+abbrev pub group_statement : CalculationCards → Statement Key
+group_statement g = statement_of (operation_card g).spec
 
 -- a BEGSR with SR in columns 7 and 8
 abbrev pub opens_subroutine : CalculationCards → Bool
-opens_subroutine g = is_subroutine (control_of g) && is_begsr (group_deed g)
+opens_subroutine g = is_subroutine (control_of g) && is_begsr (group_statement g)
 
 -- an ENDSR with SR in columns 7 and 8
 abbrev pub closes_subroutine : CalculationCards → Bool
-closes_subroutine g = is_subroutine (control_of g) && is_endsr (group_deed g)
+closes_subroutine g = is_subroutine (control_of g) && is_endsr (group_statement g)
 
 -- ---- where it stands
 
@@ -59,7 +59,7 @@ before_calculations = record { begun = 0; own = None }
 
 -- SR: the subroutine that the calculation begins, otherwise the open one
 abbrev pub subroutine_section : SubroutineState → CalculationCards → Section
-subroutine_section p g = if is_begsr (group_deed g) then Subroutine p.begun else option_map_or Subroutine p.own Outside
+subroutine_section p g = if is_begsr (group_statement g) then Subroutine p.begun else option_map_or Subroutine p.own Outside
 
 -- the section by columns 7 and 8, if SR means that one
 abbrev pub section_by_level : ControlLevel → Section → Section
@@ -96,12 +96,12 @@ steps_in t = steps t.calculations
 -- ---- labels and calls
 
 -- what a step does
-abbrev pub deed : Step → Deed Key
-deed s = group_deed s.group
+abbrev pub statement : Step → Statement Key
+statement s = group_statement s.group
 
--- the label or the name of a subroutine that a step gives
+-- the label or the name of a subroutine that a step defines
 abbrev pub label_of : Step → Option Label
-label_of s = option_map (λ n. record { named = n; section = s.section }) (gives (deed s))
+label_of s = option_map (λ n. record { named = n; section = s.section }) (defined_name (statement s))
 
 -- all that are given
 abbrev pub labels_of_steps : List Step → List Label
@@ -109,7 +109,7 @@ labels_of_steps ss = filter_map label_of ss
 
 -- the call of a step in a subroutine, as caller and callee, by these labels
 abbrev pub call_of : List Label → Step → Option (ℕ × ℕ)
-call_of given s = option_and_then (λ caller. option_map (λ callee. (caller, callee)) (option_and_then (called_subroutine given) (wants (deed s)))) (subroutine_in s.section)
+call_of given s = option_and_then (λ caller. option_map (λ callee. (caller, callee)) (option_and_then (called_subroutine given) (target_name (statement s)))) (subroutine_in s.section)
 
 -- all calls
 abbrev pub calls_of_steps : List Step → List (ℕ × ℕ)

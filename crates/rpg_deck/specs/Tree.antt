@@ -58,7 +58,7 @@ is_deck_card c = is_deck c.spec
 
 -- ---- the tree
 
--- the cards of a source by sheet, each with the cards that go on with it
+-- the cards of a source by sheet, each with the cards that continue it
 pub record Tree : Type 0 where
   pub headers : List (Card HeaderSpec)
   pub files : List (Card FileSpec)

@@ -8,13 +8,13 @@ use Rattle.rpg_faults_tree.proofs.Each.{AreBroken, broken-same}
 use Rattle.rpg_faults_tree.specs.Rules.{leaving_cards, lost_cards, misplaced_cards, recursive_cards, wrongly_rounding_cards}
 use Rattle.rpg_faults.specs.Rules.{rule}
 use Rattle.rpg_faults.specs.declared.code.FaultCode.TheVariants.{F10, F12, F13, F14, F15}
-use Rattle.rpg_faults_flow.specs.Flow.{calls_itself, goes_apart, goes_nowhere}
+use Rattle.rpg_faults_flow.specs.Flow.{calls_itself, leaves_its_section, lacks_target}
 use Rattle.rpg_faults_flow.specs.Order.{breaks_order}
 use Rattle.rpg_faults_flow.specs.Rounding.{bad_rounding}
 use Rattle.rpg_faults_flow.specs.Strays.{is_stray}
 
 module _ (before : List SpecCard) (c : SpecCard) (after : List SpecCard) where
-  rule-f10 : goes_nowhere (before ++ c ∷ after) before c after ≡ rule F10 before c after
+  rule-f10 : lacks_target (before ++ c ∷ after) before c after ≡ rule F10 before c after
   unfolding rule
   rule-f10 = refl
 
@@ -22,7 +22,7 @@ module _ (before : List SpecCard) (c : SpecCard) (after : List SpecCard) where
   unfolding rule
   rule-f12 = refl
 
-  rule-f13 : goes_apart (before ++ c ∷ after) before c after ≡ rule F13 before c after
+  rule-f13 : leaves_its_section (before ++ c ∷ after) before c after ≡ rule F13 before c after
   unfolding rule
   rule-f13 = refl
 
@@ -36,13 +36,13 @@ module _ (before : List SpecCard) (c : SpecCard) (after : List SpecCard) where
 
 module _ (cards : List SpecCard) (ordered : IsInOrder 0 cards) where
   pub f10-broken : AreBroken (rule F10) cards (lost_cards (tree cards))
-  f10-broken = broken-same (λ b c a. goes_nowhere (b ++ c ∷ a) b c a) (rule F10) cards (lost_cards (tree cards)) (λ b c a split. rule-f10 b c a) (nowhere-broken cards ordered)
+  f10-broken = broken-same (λ b c a. lacks_target (b ++ c ∷ a) b c a) (rule F10) cards (lost_cards (tree cards)) (λ b c a split. rule-f10 b c a) (nowhere-broken cards ordered)
 
   pub f12-broken : AreBroken (rule F12) cards (misplaced_cards (tree cards))
   f12-broken = broken-same (λ b c a. breaks_order b c a || is_stray b c) (rule F12) cards (misplaced_cards (tree cards)) (λ b c a split. rule-f12 b c a) (order-broken cards ordered)
 
   pub f13-broken : AreBroken (rule F13) cards (leaving_cards (tree cards))
-  f13-broken = broken-same (λ b c a. goes_apart (b ++ c ∷ a) b c a) (rule F13) cards (leaving_cards (tree cards)) (λ b c a split. rule-f13 b c a) (apart-broken cards ordered)
+  f13-broken = broken-same (λ b c a. leaves_its_section (b ++ c ∷ a) b c a) (rule F13) cards (leaving_cards (tree cards)) (λ b c a split. rule-f13 b c a) (apart-broken cards ordered)
 
   pub f14-broken : AreBroken (rule F14) cards (recursive_cards (tree cards))
   f14-broken = broken-same (λ b c a. calls_itself (b ++ c ∷ a) b c a) (rule F14) cards (recursive_cards (tree cards)) (λ b c a split. rule-f14 b c a) (recursion-broken cards ordered)

@@ -8,12 +8,12 @@ use Rattle.rpg_edit_marks.specs.declared.code.Fill.{Fill}
 use Rattle.rpg_edit_marks.specs.declared.how.How.TheVariants as hows
 use Rattle.rpg_program.specs.Editing.{how_of, text_of, width_as}
 use Rattle.rpg_program.specs.Effect.{Effect, Leaves, go_on, quiet, then_go, unless_wrong}
-use Rattle.rpg_program.specs.Ends.{End, Fault, GoesOn, Halt, Kind, Storage, Wrong}
+use Rattle.rpg_program.specs.Ends.{End, Fault, Continues, Halt, Kind, Storage, Wrong}
 use Rattle.rpg_program.specs.Entries.{position_of}
 use Rattle.rpg_program.specs.Forms.{has_field, is_array, is_index_form, is_text_constant, kind_of, length_of, may_write, same_kind}
 use Rattle.rpg_edit_marks.specs.Code.{is_blank_fill}
 use Rattle.rpg_program.specs.LineFaults.{KeepsFieldRules, field_fault, fits_editing, fits_source, fits_word, has_kinds, has_storage, has_word, prints_page, line_fault}
-use Rattle.rpg_program.specs.Lines.{Draft, Drafted, Line, after_movement, after_skip, after_space, assembled, blank_line, blanked, blanked_all, with_page_counted, drafted, exception_output, go_on_with, is_asked, laid, laid_over, line_out, lines_out, next_page, one_out, printed_line, put_on, put_out, remembered, spaced_before, unless_faulty, where_asked, with_field, with_fields}
+use Rattle.rpg_program.specs.Lines.{Draft, Drafted, Line, after_movement, after_skip, after_space, assembled, blank_line, blanked, blanked_all, with_page_counted, drafted, exception_output, go_on_with, is_due, laid, laid_over, line_out, lines_out, next_page, one_out, printed_line, put_on, write_line_out, remembered, spaced_before, unless_faulty, where_due, with_field, with_fields}
 use Rattle.rpg_program.specs.Rows.{has_entry, has_index, has_operand, is_one, is_one_entry, is_shaped}
 use Rattle.rpg_program.specs.Showing.{turned_on}
 use Rattle.rpg_program.specs.Values.{Number, number_of}
@@ -54,7 +54,7 @@ module _ {K L : Type 0} {R : K → K → Ordering} {S : L → L → Ordering} {o
   then_same d e go went one next = subst (λ x. SameEffect old at (then_go d go) (go_on x e went)) (sym one.ending) (by_end d.ending refl)
     where
       by_end : (x : End) → d.ending ≡ x → SameEffect old at (go_on x d go) (go_on x e went)
-      by_end GoesOn is =
+      by_end Continues is =
           let two = next d.world e.world one.world in
           record { ending = two.ending; world = two.world; lines = λ i. one.lines i ++ two.lines i; records = λ i. one.records i ++ two.records i }
       by_end (Halt k) is = one
@@ -152,7 +152,7 @@ module _ {K L : Type 0} {R : K → K → Ordering} {S : L → L → Ordering} {o
   unfolding field_fault
   fault_same len f = λ i. cond (not (storage_same len f i)) (Some Storage) (cond (not (kinds_same f i)) (Some Kind) None)
 
-  -- what the rules ask of a field is asked of the renamed one
+  -- what the rules require of a field holds of the renamed one
   pub keeps_same : (len : ℕ) (f : LineField K) → KeepsFieldRules old words len f → KeepsFieldRules new new_words len (renamed_field at f)
   keeps_same len f k =
       let form = r.forms f.operand.field in
@@ -228,16 +228,16 @@ module _ {K L : Type 0} {R : K → K → Ordering} {S : L → L → Ordering} {o
           (subst (λ p. SameDrafted (laid old words d f (position_of old d.fields f.operand)) (laid new new_words e (renamed_field at f) p)) (sym (position_same r d.fields e.fields a.fields f.operand there))
           (laid_same f there (position_of old d.fields f.operand) d e a)))
 
-      by_condition : (b : Bool) → SameDrafted (cond b (unless_faulty (field_fault old words len f) d (laid old words d f (position_of old d.fields f.operand))) (drafted GoesOn d)) (cond b (unless_faulty (field_fault new new_words len (renamed_field at f)) e (laid new new_words e (renamed_field at f) (position_of new e.fields (renamed_operand at f.operand)))) (drafted GoesOn e))
+      by_condition : (b : Bool) → SameDrafted (cond b (unless_faulty (field_fault old words len f) d (laid old words d f (position_of old d.fields f.operand))) (drafted Continues d)) (cond b (unless_faulty (field_fault new new_words len (renamed_field at f)) e (laid new new_words e (renamed_field at f) (position_of new e.fields (renamed_operand at f.operand)))) (drafted Continues e))
       by_condition true = body
       by_condition false = record { ending = refl; draft = a }
 
   go_on_same : (x : End) (d : Drafted R) (e : Drafted S) (go : Draft R → Drafted R) (went : Draft S → Drafted S) → SameDrafted d e → ((b : Draft R) (c : Draft S) → SameDraft b c → SameDrafted (go b) (went c)) → SameDrafted (go_on_with x d go) (go_on_with x e went)
-  go_on_same GoesOn d e go went one next = next d.draft e.draft one.draft
+  go_on_same Continues d e go went one next = next d.draft e.draft one.draft
   go_on_same (Halt k) d e go went one next = one
   go_on_same (Wrong f) d e go went one next = one
 
-  -- what it puts out is named
+  -- what it outputs is named
   abbrev pub IsThere : LineField K → Type 0
   IsThere f = IsNamed old f.operand
 
@@ -258,13 +258,13 @@ module _ {K L : Type 0} {R : K → K → Ordering} {S : L → L → Ordering} {o
   fields_agree : (v : World R) (w : World S) → Agree old at v w → (x : Fields R) (y : Fields S) → AgreeFields old at x y → Agree old at (with_fields x v) (with_fields y w)
   fields_agree v w a x y b = record { «data» = record { fields = b; on = a.data.on; remainder = a.data.remainder }; paper = a.paper }
 
-  put_out_same : (overflow : Option ℕ) (l : Line K) (v : World R) (w : World S) → Agree old at v w → (x : End) (d : Draft R) (e : Draft S) → SameDraft d e → SameEffect old at (put_out old words overflow l v x d) (put_out new new_words overflow (renamed_line at l) w x e)
-  put_out_same overflow l v w a GoesOn d e b =
+  output_same : (overflow : Option ℕ) (l : Line K) (v : World R) (w : World S) → Agree old at v w → (x : End) (d : Draft R) (e : Draft S) → SameDraft d e → SameEffect old at (write_line_out old words overflow l v x d) (write_line_out new new_words overflow (renamed_line at l) w x e)
+  output_same overflow l v w a Continues d e b =
       then_same _ _ _ _ (put_same overflow l.file l.spacing d.text e.text b.text _ _ (fields_agree v w a d.fields e.fields b.fields))
       (λ x y c. leaves_same _ _ (fields_agree x y c _ _
       (subst (λ z. AgreeFields old at (blanked_all d.to_blank x.data.fields) (blanked_all z y.data.fields)) (sym b.to_blank) (blanked_agrees d.to_blank b.there x.data.fields y.data.fields c.data.fields))))
-  put_out_same overflow l v w a (Halt k) d e b = quiet_same _ _ _ (fields_agree v w a d.fields e.fields b.fields)
-  put_out_same overflow l v w a (Wrong f) d e b = quiet_same _ _ _ (fields_agree v w a d.fields e.fields b.fields)
+  output_same overflow l v w a (Halt k) d e b = quiet_same _ _ _ (fields_agree v w a d.fields e.fields b.fields)
+  output_same overflow l v w a (Wrong f) d e b = quiet_same _ _ _ (fields_agree v w a d.fields e.fields b.fields)
 
   line_same : (overflow : Option ℕ) (l : Line K) → All IsThere l.fields → (v : World R) (w : World S) → Agree old at v w → SameEffect old at (line_out old words overflow l v) (line_out new new_words overflow (renamed_line at l) w)
   unfolding line_out
@@ -274,23 +274,23 @@ module _ {K L : Type 0} {R : K → K → Ordering} {S : L → L → Ordering} {o
       done = subst (λ on. SameDrafted (assembled old words v.data.on l.len l.fields (blank_line l.len v)) (assembled new new_words on l.len (map (renamed_field at) l.fields) (blank_line l.len w))) (sym a.data.on)
           (assembled_same v.data.on l.len l.fields there _ _ (record { fields = a.data.fields; text = refl; to_blank = refl; there = All-nil IsEntry }))
 
-      put : SameEffect old at (let one = assembled old words v.data.on l.len l.fields (blank_line l.len v) in put_out old words overflow l v one.ending one.draft)
-          (let one = assembled new new_words w.data.on l.len (map (renamed_field at) l.fields) (blank_line l.len w) in put_out new new_words overflow (renamed_line at l) w one.ending one.draft)
-      put = subst (λ x. SameEffect old at (put_out old words overflow l v (assembled old words v.data.on l.len l.fields (blank_line l.len v)).ending (assembled old words v.data.on l.len l.fields (blank_line l.len v)).draft) (put_out new new_words overflow (renamed_line at l) w x (assembled new new_words w.data.on l.len (map (renamed_field at) l.fields) (blank_line l.len w)).draft)) (sym done.ending)
-          (put_out_same overflow l v w a _ _ _ done.draft)
+      put : SameEffect old at (let one = assembled old words v.data.on l.len l.fields (blank_line l.len v) in write_line_out old words overflow l v one.ending one.draft)
+          (let one = assembled new new_words w.data.on l.len (map (renamed_field at) l.fields) (blank_line l.len w) in write_line_out new new_words overflow (renamed_line at l) w one.ending one.draft)
+      put = subst (λ x. SameEffect old at (write_line_out old words overflow l v (assembled old words v.data.on l.len l.fields (blank_line l.len v)).ending (assembled old words v.data.on l.len l.fields (blank_line l.len v)).draft) (write_line_out new new_words overflow (renamed_line at l) w x (assembled new new_words w.data.on l.len (map (renamed_field at) l.fields) (blank_line l.len w)).draft)) (sym done.ending)
+          (output_same overflow l v w a _ _ _ done.draft)
 
-      by_fault : (x : Option Fault) → SameEffect old at (unless_wrong x v (let one = assembled old words v.data.on l.len l.fields (blank_line l.len v) in put_out old words overflow l v one.ending one.draft))
-          (unless_wrong x w (let one = assembled new new_words w.data.on l.len (map (renamed_field at) l.fields) (blank_line l.len w) in put_out new new_words overflow (renamed_line at l) w one.ending one.draft))
+      by_fault : (x : Option Fault) → SameEffect old at (unless_wrong x v (let one = assembled old words v.data.on l.len l.fields (blank_line l.len v) in write_line_out old words overflow l v one.ending one.draft))
+          (unless_wrong x w (let one = assembled new new_words w.data.on l.len (map (renamed_field at) l.fields) (blank_line l.len w) in write_line_out new new_words overflow (renamed_line at l) w one.ending one.draft))
       by_fault None = put
       by_fault (Some f) = quiet_same _ v w a
 
   one_out_same : (overflow : Option ℕ) (pass : Pass) (l : Line K) → All IsThere l.fields → (v : World R) (w : World S) → Agree old at v w → SameEffect old at (one_out old words overflow pass l v) (one_out new new_words overflow pass (renamed_line at l) w)
   unfolding one_out
   one_out_same overflow pass l there v w a =
-      subst (λ on. SameEffect old at (one_out old words overflow pass l v) (where_asked new new_words (is_asked overflow pass on l.time l.alternatives) (line_out new new_words overflow (renamed_line at l) w) w)) (sym a.data.on)
-      (by_asked (is_asked overflow pass v.data.on l.time l.alternatives))
+      subst (λ on. SameEffect old at (one_out old words overflow pass l v) (where_due new new_words (is_due overflow pass on l.time l.alternatives) (line_out new new_words overflow (renamed_line at l) w) w)) (sym a.data.on)
+      (by_asked (is_due overflow pass v.data.on l.time l.alternatives))
     where
-      by_asked : (b : Bool) → SameEffect old at (where_asked old words b (line_out old words overflow l v) v) (where_asked new new_words b (line_out new new_words overflow (renamed_line at l) w) w)
+      by_asked : (b : Bool) → SameEffect old at (where_due old words b (line_out old words overflow l v) v) (where_due new new_words b (line_out new new_words overflow (renamed_line at l) w) w)
       by_asked true = line_same overflow l there v w a
       by_asked false = leaves_same v w a
 

@@ -10,7 +10,7 @@ use Rattle.rpg_decimal_words.specs.Fraction.{Fraction, fraction_cmp, with_decima
 use Rattle.rpg_decimal_words.specs.Order.{text_cmp}
 use Rattle.rpg_decimal_words.specs.Zoned.{number_in, zoned_text}
 use Rattle.rpg_program.specs.Act.{act, assigned, number_over, text_over, computed, divided, entry_at, exact, found_in, index_set, stored_value, left_over, looked_up, made_current, made_current_if_any, moved, number_after, order_by, with_found, position_fault, remainder_after, source_text, store, sum_to, summed}
-use Rattle.rpg_program.specs.Ends.{End, Fault, GoesOn, Halt, Storage, Wrong}
+use Rattle.rpg_program.specs.Ends.{End, Fault, Continues, Halt, Storage, Wrong}
 use Rattle.rpg_program.specs.Entries.{entry_of, in_range, position_by, position_of}
 use Rattle.rpg_program.specs.Forms.{decimals_of, entries_of, has_field, is_table_form, kind_of, length_of}
 use Rattle.rpg_program.specs.Operate.{has_entries, operate, resolved, with_operands}
@@ -104,7 +104,7 @@ module _ {K L : Type 0} {R : K → K → Ordering} {S : L → L → Ordering} {o
   followed_same d e go went one next = subst (λ x. SameEnd old at (followed_by d go) (followed_if x e went)) (sym one.ending) (by_end d.ending)
     where
       by_end : (x : End) → SameEnd old at (followed_if x d go) (followed_if x e went)
-      by_end GoesOn = next d.data e.data one.data
+      by_end Continues = next d.data e.data one.data
       by_end (Halt k) = one
       by_end (Wrong f) = one
 

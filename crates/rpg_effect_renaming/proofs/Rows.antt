@@ -40,7 +40,7 @@ module _ {K L : Type 0} {R : K → K → Ordering} {S : L → L → Ordering} {o
   row_same (Move side b c) = λ i. record { factor1 = None; factor2 = use_of shapes.One (kind_of (r.forms b.field i)) (renamed_operand at b); result = use_of shapes.One (kind_of (r.forms c.field i)) (renamed_operand at c); marks = Unmarked }
   row_same (SetIndicators on s) = refl
 
-  -- ---- what is asked of an operand
+  -- ---- what an operand has to be
 
   blank_same : (x : Index K) → is_blank_index (renamed_index at x) ≡ is_blank_index x
   blank_same Blank = refl

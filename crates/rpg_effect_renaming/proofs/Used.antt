@@ -62,7 +62,7 @@ module _ {K : Type 0} (forms : K → Option FieldForm) where
   none_first true c x y h = refl
   none_first false c x y h = cc
 
-  -- a line's field with which nothing is wrong puts out what has a form
+  -- a line's field with which nothing is wrong outputs what has a form
   pub field_named : (words : K → List ℕ) (len : ℕ) (f : LineField K) → field_fault forms words len f ≡ None → IsNamed forms f.operand
   unfolding field_fault
   field_named words len f h =

@@ -4,7 +4,7 @@ use Rattle.std.proofs.Math.Seq.{take-append-add, take-length}
 use Rattle.std.proofs.lemmas.List.{take-append-le}
 use Rattle.std.specs.Io.KnownBytes.{Appends}
 use Rattle.std.proofs.KnownBytes.{Appends-trans}
-use Rattle.rpg_cycle.specs.Ends.{PhaseEnd, GoesOn, EndOfJob, Halt, Wrong}
+use Rattle.rpg_cycle.specs.Ends.{PhaseEnd, Continues, EndOfJob, Halt, Wrong}
 use Rattle.rpg_cycle.specs.Job.{feed_at, with_feed}
 use Rattle.rpg_cycle.specs.Runs.{last_feed, printed, stored}
 use Rattle.rpg_cycle.specs.Stages.{stage_at}
@@ -15,7 +15,7 @@ use Rattle.rpg_program.specs.Put.{Bytes, disk_bytes, line_of, with_output}
 use Rattle.rpg_files.specs.Sending.{AppendsFirst}
 use Rattle.rpg_machine.specs.Config.{Output, with_more}
 use Rattle.rpg_machine.specs.Running.{feed_after, no_bytes}
-use Rattle.rpg_engine.proofs.Courses.{GoesOnWith, IsLast, more_none}
+use Rattle.rpg_engine.proofs.Courses.{ContinuesWith, IsLast, more_none}
 use Rattle.rpg_engine.proofs.Outputs.{same_bytes}
 use Rattle.rpg_engine.specs.Outputs.{bytes_for, bytes_with}
 use Rattle.rpg_engine.specs.Reporting.{bytes_of}
@@ -41,11 +41,11 @@ feed_is (x ∷ xs) = sym (feed_of_lines x xs None)
 paper_both : (a b : List Placed) → paper (a ++ b) ≡ paper a ++ bytes_from (last_position a) b
 paper_both a b = bytes_from-append None a b
 
--- what a cycle put out, with the last line's feed where the job ended
+-- what a cycle output, with the last line's feed where the job ended
 abbrev pub put_by : PhaseEnd → Output → Output → Bytes
 put_by e out o = with_feed (feed_at (stage_at e) (line_of (last_position_from (last_position out.lines) o.lines))) (with_output (last_position out.lines) o.lines o.records no_bytes)
 
--- all that was put out by then
+-- all that was output by then
 abbrev pub put_with : PhaseEnd → Output → Output → Bytes
 put_with e out o = bytes_with (paper out.lines ++ (put_by e out o).print) (disk_bytes out.records ++ (put_by e out o).disk)
 
@@ -64,26 +64,26 @@ ends_with_feed out o =
     ∙ ap (λ bytes. paper (out.lines ++ o.lines) ++ bytes) (sym (feed_is (out.lines ++ o.lines)))
 
 print_ends : (e : PhaseEnd) (out o : Output) → IsLast e → paper out.lines ++ (put_by e out o).print ≡ printed (with_more out o)
-print_ends GoesOn out o last = absurd last
+print_ends Continues out o last = absurd last
 print_ends EndOfJob out o last = ends_with_feed out o
 print_ends (Halt k) out o last = ends_with_feed out o
 print_ends (Wrong f) out o last = ends_with_feed out o
 
-disk_goes_on : (e : PhaseEnd) (out o : Output) → disk_bytes out.records ++ (put_by e out o).disk ≡ disk_bytes (out.records ++ o.records)
-disk_goes_on e out o = sym (disk-append out.records o.records)
+disk_continues : (e : PhaseEnd) (out o : Output) → disk_bytes out.records ++ (put_by e out o).disk ≡ disk_bytes (out.records ++ o.records)
+disk_continues e out o = sym (disk-append out.records o.records)
 
-print_goes_on : (out o : Output) → paper out.lines ++ (put_by GoesOn out o).print ≡ paper (out.lines ++ o.lines)
-print_goes_on out o = ap (λ bytes. paper out.lines ++ bytes) (append-nil (bytes_from (last_position out.lines) o.lines)) ∙ sym (paper_both out.lines o.lines)
+print_continues : (out o : Output) → paper out.lines ++ (put_by Continues out o).print ≡ paper (out.lines ++ o.lines)
+print_continues out o = ap (λ bytes. paper out.lines ++ bytes) (append-nil (bytes_from (last_position out.lines) o.lines)) ∙ sym (paper_both out.lines o.lines)
 
--- after a cycle that goes on this is what was put out in all
-pub put_on : (out o : Output) (e : PhaseEnd) → e ≡ GoesOn → put_with e out o ≡ bytes_of (with_more out o)
-put_on out o e on = ap (λ (x : PhaseEnd). put_with x out o) on ∙ same_bytes _ _ _ _ (print_goes_on out o) (disk_goes_on GoesOn out o)
+-- after a cycle that continues this is what was output in all
+pub put_on : (out o : Output) (e : PhaseEnd) → e ≡ Continues → put_with e out o ≡ bytes_of (with_more out o)
+put_on out o e on = ap (λ (x : PhaseEnd). put_with x out o) on ∙ same_bytes _ _ _ _ (print_continues out o) (disk_continues Continues out o)
 
 -- after one that ended the job these are all bytes of the run
 pub put_last : (e : PhaseEnd) (out o : Output) → IsLast e → put_with e out o ≡ bytes_with (printed (with_more out o)) (stored (with_more out o))
-put_last e out o last = same_bytes _ _ _ _ (print_ends e out o last) (disk_goes_on e out o)
+put_last e out o last = same_bytes _ _ _ _ (print_ends e out o last) (disk_continues e out o)
 
--- ---- a run begins with what was put out
+-- ---- a run begins with what was output
 
 print_begins : (out more : Output) → BeginsWith (printed (with_more out more)) (paper out.lines)
 print_begins out more = record {
@@ -95,29 +95,29 @@ print_begins out more = record {
 with_last : (front : List ℕ) (whole : Output) (out o : Output) → whole ≡ with_more out o → front ≡ printed (with_more out o) → BeginsWith (printed whole) front
 with_last front whole out o is ends = record { more = []; is = ap printed is ∙ sym ends ∙ sym (append-nil front) }
 
-with_none : (e : PhaseEnd) (whole out : Output) → GoesOnWith e whole out → IsLast e → whole ≡ out
+with_none : (e : PhaseEnd) (whole out : Output) → ContinuesWith e whole out → IsLast e → whole ≡ out
 with_none e whole out is last = is.output ∙ ap (with_more out) (is.last last) ∙ more_none out
 
-printed_begins : (e : PhaseEnd) (whole out o : Output) → GoesOnWith e whole (with_more out o) → BeginsWith (printed whole) (paper out.lines ++ (put_by e out o).print)
-printed_begins GoesOn whole out o is =
+printed_begins : (e : PhaseEnd) (whole out o : Output) → ContinuesWith e whole (with_more out o) → BeginsWith (printed whole) (paper out.lines ++ (put_by e out o).print)
+printed_begins Continues whole out o is =
     let begins = print_begins (with_more out o) is.more in
-    record { more = begins.more; is = ap printed is.output ∙ begins.is ∙ ap (λ front. front ++ begins.more) (sym (print_goes_on out o)) }
+    record { more = begins.more; is = ap printed is.output ∙ begins.is ∙ ap (λ front. front ++ begins.more) (sym (print_continues out o)) }
 printed_begins EndOfJob whole out o is = with_last _ whole out o (with_none EndOfJob whole (with_more out o) is tt) (print_ends EndOfJob out o tt)
 printed_begins (Halt k) whole out o is = with_last _ whole out o (with_none (Halt k) whole (with_more out o) is tt) (print_ends (Halt k) out o tt)
 printed_begins (Wrong f) whole out o is = with_last _ whole out o (with_none (Wrong f) whole (with_more out o) is tt) (print_ends (Wrong f) out o tt)
 
-stored_begins : (e : PhaseEnd) (whole out o : Output) → GoesOnWith e whole (with_more out o) → BeginsWith (stored whole) (disk_bytes out.records ++ (put_by e out o).disk)
+stored_begins : (e : PhaseEnd) (whole out o : Output) → ContinuesWith e whole (with_more out o) → BeginsWith (stored whole) (disk_bytes out.records ++ (put_by e out o).disk)
 stored_begins e whole out o is = record {
   more = disk_bytes is.more.records;
-  is = ap stored is.output ∙ disk-append (out.records ++ o.records) is.more.records ∙ ap (λ front. front ++ disk_bytes is.more.records) (sym (disk_goes_on e out o));
+  is = ap stored is.output ∙ disk-append (out.records ++ o.records) is.more.records ∙ ap (λ front. front ++ disk_bytes is.more.records) (sym (disk_continues e out o));
 }
 
 begins_as : (bytes all front : List ℕ) → bytes ≡ all → BeginsWith all front → BeginsWith bytes front
 begins_as bytes all front is begins = record { more = begins.more; is = is ∙ begins.is }
 
--- a run's bytes begin with those that were put out by the end of a cycle
+-- a run's bytes begin with those that were output by the end of a cycle
 module _ (whole out : Output) (bytes : Bytes) (print : bytes.print ≡ printed whole) (disk : bytes.disk ≡ stored whole) where
-  pub put_begins : (e : PhaseEnd) (o : Output) → GoesOnWith e whole (with_more out o) → (file : OutputFile) → BeginsWith (bytes_for file bytes) (bytes_for file (put_with e out o))
+  pub put_begins : (e : PhaseEnd) (o : Output) → ContinuesWith e whole (with_more out o) → (file : OutputFile) → BeginsWith (bytes_for file bytes) (bytes_for file (put_with e out o))
   put_begins e o is Print = begins_as bytes.print (printed whole) _ print (printed_begins e whole out o is)
   put_begins e o is Disk = begins_as bytes.disk (stored whole) _ disk (stored_begins e whole out o is)
 

@@ -5,13 +5,13 @@ use Rattle.rpg_cycle.proofs.OneRun.{cycle_fixed}
 use Rattle.rpg_cycle_records.specs.Earlier.{Selected, left_by, with_record}
 use Rattle.rpg_cycle_records.specs.Waiting.{Inputs, has_match, unread}
 use Rattle.rpg_program.specs.declared.input.InputFile.TheVariants.{Primary, Secondary}
-use Rattle.rpg_cycle.specs.Ends.{PhaseEnd, GoesOn, EndOfJob, Halt, Wrong}
+use Rattle.rpg_cycle.specs.Ends.{PhaseEnd, Continues, EndOfJob, Halt, Wrong}
 use Rattle.rpg_cycle.specs.Phases.{Cycle, UnderWay, begun, needs_record}
 use Rattle.rpg_cycle.specs.Runs.{Course, Records, Runs, RunsIn, ends_or, last_cycle, left_following, next_of, with_cycle}
 use Rattle.rpg_paper.specs.Paper.{Placed}
 use Rattle.rpg_machine.specs.Config.{Config, Output, no_output, with_more}
 use Rattle.rpg_program.specs.Object.{Object}
-use Rattle.rpg_engine.specs.Reporting.{GoesOnFor}
+use Rattle.rpg_engine.specs.Reporting.{ContinuesFor}
 
 -- a course with cycles before it
 abbrev pub following : ℕ → ℕ → Output → Course → Course
@@ -62,19 +62,19 @@ abbrev pub stand : List Selected → Records → Config → Inputs → Stand
 stand earlier rest now i = record { earlier = earlier; rest = rest; now = now; inputs = i }
 
 -- so many cycles went on, put this out and led there
-abbrev pub GoesOnTo : ℕ → Object → List Selected → Records → Config → Inputs → Output → Stand → Type 0
-GoesOnTo n p earlier rs c i out there = GoesOnFor n p earlier rs c i out (λ e r d j. stand e r d j ≡ there)
+abbrev pub ContinuesTo : ℕ → Object → List Selected → Records → Config → Inputs → Output → Stand → Type 0
+ContinuesTo n p earlier rs c i out there = ContinuesFor n p earlier rs c i out (λ e r d j. stand e r d j ≡ there)
 
--- one cycle more goes on from there
-record GoesOnOnce (p : Object) (s : Stand) (o : Output) (Then : List Selected → Records → Config → Inputs → Type 0) : Type 0 where
+-- one cycle more continues from there
+record ContinuesOnce (p : Object) (s : Stand) (o : Output) (Then : List Selected → Records → Config → Inputs → Type 0) : Type 0 where
   d : UnderWay
-  cycle : Cycle p s.earlier (next_of (needs_record p s.now s.inputs Primary) s.rest.primary) (next_of (needs_record p s.now s.inputs Secondary) s.rest.secondary) (begun p s.now s.inputs) GoesOn d o
+  cycle : Cycle p s.earlier (next_of (needs_record p s.now s.inputs Primary) s.rest.primary) (next_of (needs_record p s.now s.inputs Secondary) s.rest.secondary) (begun p s.now s.inputs) Continues d o
   then : Then (with_record d.selected s.earlier) (left_following p s.now s.inputs s.rest) d.config d.inputs
 
 go_on_more : (n : ℕ) (p : Object) (earlier : List Selected) (rs : Records) (c : Config) (i : Inputs) (out o : Output) (there : Stand) (Then : List Selected → Records → Config → Inputs → Type 0)
-    → GoesOnOnce p there o Then → GoesOnTo n p earlier rs c i out there → GoesOnFor (suc n) p earlier rs c i (with_more out o) Then
+    → ContinuesOnce p there o Then → ContinuesTo n p earlier rs c i out there → ContinuesFor (suc n) p earlier rs c i (with_more out o) Then
 go_on_more zero p earlier rs c i out o there Then once (none, at) =
-    let here : GoesOnOnce p (stand earlier rs c i) o Then = subst (λ (s : Stand). GoesOnOnce p s o Then) (sym at) once in
+    let here : ContinuesOnce p (stand earlier rs c i) o Then = subst (λ (s : Stand). ContinuesOnce p s o Then) (sym at) once in
     (here.d, o, no_output, here.cycle, ap (λ (x : Output). with_more x o) none ∙ sym (more_none o), (refl, here.then))
 go_on_more (suc n) p earlier rs c i out o there Then once (d, first, more, cycle, is, rest) = (
   d,
@@ -86,18 +86,18 @@ go_on_more (suc n) p earlier rs c i out o there Then once (d, first, more, cycle
 )
 
 -- what holds there holds of what they led to
-pub goes_on_to : (n : ℕ) (p : Object) (earlier : List Selected) (rs : Records) (c : Config) (i : Inputs) (out : Output) (there : Stand) (Then : List Selected → Records → Config → Inputs → Type 0)
-    → Then there.earlier there.rest there.now there.inputs → GoesOnTo n p earlier rs c i out there → GoesOnFor n p earlier rs c i out Then
-goes_on_to zero p earlier rs c i out there Then holds (none, at) = (none, subst (λ (s : Stand). Then s.earlier s.rest s.now s.inputs) (sym at) holds)
-goes_on_to (suc n) p earlier rs c i out there Then holds (d, first, more, cycle, is, rest) =
-    (d, first, more, cycle, is, goes_on_to n p (with_record d.selected earlier) (left_following p c i rs) d.config d.inputs more there Then holds rest)
+pub continues_to : (n : ℕ) (p : Object) (earlier : List Selected) (rs : Records) (c : Config) (i : Inputs) (out : Output) (there : Stand) (Then : List Selected → Records → Config → Inputs → Type 0)
+    → Then there.earlier there.rest there.now there.inputs → ContinuesTo n p earlier rs c i out there → ContinuesFor n p earlier rs c i out Then
+continues_to zero p earlier rs c i out there Then holds (none, at) = (none, subst (λ (s : Stand). Then s.earlier s.rest s.now s.inputs) (sym at) holds)
+continues_to (suc n) p earlier rs c i out there Then holds (d, first, more, cycle, is, rest) =
+    (d, first, more, cycle, is, continues_to n p (with_record d.selected earlier) (left_following p c i rs) d.config d.inputs more there Then holds rest)
 
 -- ---- a run under way
 
 -- From the start over all records, so many cycles were done, after which these earlier records, this configuration, these files and these
 -- records are left: all these cycles went on, a course of what is left is one of all, and each course of all comes from one of what is left.
 pub record IsUnderWay (p : Object) (start : Config) (all : Records) (earlier : List Selected) (now : Config) (i : Inputs) (rest : Records) (cycles most : ℕ) (out : Output) : Type 0 where
-  pub gone : GoesOnTo cycles p [] all start unread out (stand earlier rest now i)
+  pub gone : ContinuesTo cycles p [] all start unread out (stand earlier rest now i)
   pub forth : (course : Course) → Runs p earlier rest now i course → Runs p [] all start unread (following cycles most out course)
   pub back : (course : Course) → Runs p [] all start unread course → (later : Course) × Runs p earlier rest now i later × (course ≡ following cycles most out later)
 
@@ -110,10 +110,10 @@ begins p start all = record {
 
 -- ---- one more cycle
 
--- a cycle with the first of these records in each file that needs one; where it goes on, the others are left
+-- a cycle with the first of these records in each file that needs one; where it continues, the others are left
 pub record HeadCycle (p : Object) (earlier : List Selected) (c : Config) (i : Inputs) (e : PhaseEnd) (d : UnderWay) (out : Output) (rs after : Records) : Type 0 where
   pub cycle : Cycle p earlier (next_of (needs_record p c i Primary) rs.primary) (next_of (needs_record p c i Secondary) rs.secondary) (begun p c i) e d out
-  pub left : e ≡ GoesOn → after ≡ left_following p c i rs
+  pub left : e ≡ Continues → after ≡ left_following p c i rs
 
 -- what follows the first cycle of a run
 abbrev Rest : Object → List Selected → Config → Inputs → Records → UnderWay → Course → Type 0
@@ -128,7 +128,7 @@ record HasFirst (p : Object) (earlier : List Selected) (c : Config) (i : Inputs)
   ends : ends_or e d out (Rest p earlier c i rs) course
 
 by_count : (p : Object) (e : PhaseEnd) (d : UnderWay) (out : Output) (P Q : UnderWay → Course → Type 0) (course : Course) → ((rest : Course) → P d rest → Q d rest) → ends_or e d out P course → ends_or e d out Q course
-by_count p GoesOn d out P Q course f h = (h.0, f h.0 h.1, h.2)
+by_count p Continues d out P Q course f h = (h.0, f h.0 h.1, h.2)
 by_count p EndOfJob d out P Q course f h = h
 by_count p (Halt k) d out P Q course f h = h
 by_count p (Wrong k) d out P Q course f h = h
@@ -167,19 +167,19 @@ runs_first : (p : Object) (earlier : List Selected) (now : Config) (i : Inputs) 
 runs_first p earlier now i rs after e d o n later head ends = own_count p (suc n) earlier rs now i later (e, d, o, head.cycle, ends)
 
 pub one_more : (p : Object) (start : Config) (all : Records) (earlier : List Selected) (now : Config) (i : Inputs) (rest after : Records) (cycles most greater : ℕ) (out : Output) (d : UnderWay) (o : Output)
-    → IsUnderWay p start all earlier now i rest cycles most out → HeadCycle p earlier now i GoesOn d o rest after → greater ≡ max most d.config.steps
+    → IsUnderWay p start all earlier now i rest cycles most out → HeadCycle p earlier now i Continues d o rest after → greater ≡ max most d.config.steps
     → IsUnderWay p start all (with_record d.selected earlier) d.config d.inputs after (cycles + 1) greater (with_more out o)
 one_more p start all earlier now i rest after cycles most greater out d o u head g = record {
-  gone = subst (λ (k : ℕ). GoesOnTo k p [] all start unread (with_more out o) (stand (with_record d.selected earlier) after d.config d.inputs)) (sym (add-one cycles))
+  gone = subst (λ (k : ℕ). ContinuesTo k p [] all start unread (with_more out o) (stand (with_record d.selected earlier) after d.config d.inputs)) (sym (add-one cycles))
       (go_on_more cycles p [] all start unread out o (stand earlier rest now i) (λ e r x j. stand e r x j ≡ stand (with_record d.selected earlier) after d.config d.inputs)
       (record { d = d; cycle = head.cycle; then = ap (λ (rs : Records). stand (with_record d.selected earlier) rs d.config d.inputs) (sym (head.left refl)) }) u.gone);
   forth = λ course runs.
       subst (λ c. Runs p [] all start unread c) (one_after cycles most greater d.config out o course g)
-      (u.forth (with_cycle d.config o course) (runs_first p earlier now i rest after GoesOn d o course.cycles (with_cycle d.config o course) head
+      (u.forth (with_cycle d.config o course) (runs_first p earlier now i rest after Continues d o course.cycles (with_cycle d.config o course) head
       (course, subst (λ (rs : Records). Runs p (with_record d.selected earlier) rs d.config d.inputs course) (head.left refl) runs, refl)));
   back = λ course runs.
       let later = u.back course runs in
-      let more = first_is p earlier now i rest after GoesOn d o later.0 head later.1 in (
+      let more = first_is p earlier now i rest after Continues d o later.0 head later.1 in (
         more.0,
         subst (λ (rs : Records). Runs p (with_record d.selected earlier) rs d.config d.inputs more.0) (sym (head.left refl)) more.1,
         later.2 ∙ ap (following cycles most out) more.2 ∙ one_after cycles most greater d.config out o more.0 g,
@@ -189,13 +189,13 @@ one_more p start all earlier now i rest after cycles most greater out d o u head
 -- ---- the last cycle
 
 abbrev pub IsLast : PhaseEnd → Type 0
-IsLast GoesOn = ⊥
+IsLast Continues = ⊥
 IsLast EndOfJob = Unit {0}
 IsLast (Halt k) = Unit {0}
 IsLast (Wrong f) = Unit {0}
 
 ends_here : (e : PhaseEnd) (d : UnderWay) (o : Output) (Rest : UnderWay → Course → Type 0) → IsLast e → ends_or e d o Rest (last_cycle e d o)
-ends_here GoesOn d o Rest last = absurd last
+ends_here Continues d o Rest last = absurd last
 ends_here EndOfJob d o Rest last = refl
 ends_here (Halt k) d o Rest last = refl
 ends_here (Wrong f) d o Rest last = refl
@@ -207,23 +207,23 @@ pub ends : (p : Object) (start : Config) (all : Records) (earlier : List Selecte
 ends p start all earlier now i rest after cycles most out e d o u head last =
     u.forth (last_cycle e d o) (runs_first p earlier now i rest after e d o 0 (last_cycle e d o) head (ends_here e d o _ last))
 
--- ---- what each run puts out
+-- ---- what each run outputs
 
--- more is put out after it, nothing where the cycle is the last
-pub record GoesOnWith (e : PhaseEnd) (all out : Output) : Type 0 where
+-- more is output after it, nothing where the cycle is the last
+pub record ContinuesWith (e : PhaseEnd) (all out : Output) : Type 0 where
   pub more : Output
   pub output : all ≡ with_more out more
   pub last : IsLast e → more ≡ no_output
 
-with_first : (e : PhaseEnd) (d : UnderWay) (o : Output) (Rest : UnderWay → Course → Type 0) (later : Course) → ends_or e d o Rest later → GoesOnWith e later.output o
-with_first GoesOn d o Rest later is = record { more = is.0.output; output = ap (λ (c : Course). c.output) is.2; last = λ last. absurd last }
+with_first : (e : PhaseEnd) (d : UnderWay) (o : Output) (Rest : UnderWay → Course → Type 0) (later : Course) → ends_or e d o Rest later → ContinuesWith e later.output o
+with_first Continues d o Rest later is = record { more = is.0.output; output = ap (λ (c : Course). c.output) is.2; last = λ last. absurd last }
 with_first EndOfJob d o Rest later is = record { more = no_output; output = ap (λ (c : Course). c.output) is ∙ sym (more_none o); last = λ last. refl }
 with_first (Halt k) d o Rest later is = record { more = no_output; output = ap (λ (c : Course). c.output) is ∙ sym (more_none o); last = λ last. refl }
 with_first (Wrong f) d o Rest later is = record { more = no_output; output = ap (λ (c : Course). c.output) is ∙ sym (more_none o); last = λ last. refl }
 
 -- a run's output begins with that of the cycles done and of one more
 pub begins_with : (p : Object) (start : Config) (all : Records) (earlier : List Selected) (now : Config) (i : Inputs) (rest after : Records) (cycles most : ℕ) (out : Output) (e : PhaseEnd) (d : UnderWay) (o : Output) (course : Course)
-    → IsUnderWay p start all earlier now i rest cycles most out → HeadCycle p earlier now i e d o rest after → Runs p [] all start unread course → GoesOnWith e course.output (with_more out o)
+    → IsUnderWay p start all earlier now i rest cycles most out → HeadCycle p earlier now i e d o rest after → Runs p [] all start unread course → ContinuesWith e course.output (with_more out o)
 begins_with p start all earlier now i rest after cycles most out e d o course u head runs =
     let later = u.back course runs in
     let first = with_first e d o (Rest p earlier now i rest) later.0 (first_is p earlier now i rest after e d o later.0 head later.1) in

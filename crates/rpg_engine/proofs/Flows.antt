@@ -1,6 +1,6 @@
 -- A run under way, with what its writers have had of its output and what waits at the job.
 use Rattle.std.proofs.Common.{◌≡◌, ℕ, ◌+◌, List, [], max, false, Option, None, sym, ap, ◌∙◌, subst}
-use Rattle.rpg_cycle.specs.Ends.{PhaseEnd, GoesOn}
+use Rattle.rpg_cycle.specs.Ends.{PhaseEnd, Continues}
 use Rattle.rpg_cycle.specs.Job.{AtWork}
 use Rattle.rpg_cycle_records.specs.Earlier.{left_by}
 use Rattle.rpg_cycle_records.specs.Waiting.{unread}
@@ -15,10 +15,10 @@ use Rattle.rpg_engine.specs.declared.files.OutputFile.{OutputFile}
 use Rattle.rpg_engine.proofs.Bytes.{put_for, put_on, put_with}
 use Rattle.rpg_engine.proofs.Outputs.{none_for}
 use Rattle.rpg_engine.proofs.Sent.{IsSent, goes_out, none_gone_yet, put_more}
-use Rattle.rpg_engine.proofs.Streams.{Streams, output_is, stream_begins, stream_goes_on, stream_sends}
+use Rattle.rpg_engine.proofs.Streams.{Streams, output_is, stream_begins, stream_continues, stream_sends}
 use Rattle.rpg_engine.proofs.Taking.{Source, TakesNext}
 
--- each file has had a first part of all that was put out for it since the files stood so, and the rest waits; no writer has failed
+-- each file has had a first part of all that was output for it since the files stood so, and the rest waits; no writer has failed
 pub record Flows (first : AtWork) (given others : Option (List ℕ)) (job : AtWork) (a b : Source) (cycles most : ℕ) (start now : States) : Type 0 where
   pub streams : Streams first given others job a b cycles most
   pub sent : (file : OutputFile) → IsSent (start file) (now file) (bytes_for file job.output) (bytes_for file (bytes_of streams.out))
@@ -47,7 +47,7 @@ module _ (first job : AtWork) (given others : Option (List ℕ)) (a b : Source) 
             (goes_out (start file) (now file) (bytes_for file job.output) (bytes_for file (bytes_of f.streams.out)) (f.sent file) (later file) (bytes_for file mid.output) (sends.out file));
       }
 
-  -- after one more cycle: what it was, and what went out and waits of all that was put out
+  -- after one more cycle: what it was, and what went out and waits of all that was output
   pub record IsCycled (mid : AtWork) (a' b' : Source) : Type 0 where
     pub ending : PhaseEnd
     pub takes : TakesNext f.streams.earlier (last_position f.streams.out.lines) job a b ending mid a' b'
@@ -62,10 +62,10 @@ module _ (first job : AtWork) (given others : Option (List ℕ)) (a b : Source) 
         (output_is job mid f.streams.earlier f.streams.out took.1.x took.1.y took.0 took.1.does file));
   }
 
-  pub flow_goes_on : (mid : AtWork) (a' b' : Source) (k : IsCycled mid a' b') (greater : ℕ) → k.ending ≡ GoesOn → greater ≡ max most mid.config.steps
+  pub flow_continues : (mid : AtWork) (a' b' : Source) (k : IsCycled mid a' b') (greater : ℕ) → k.ending ≡ Continues → greater ≡ max most mid.config.steps
       → Flows first given others mid a' b' (cycles + 1) greater start now
-  flow_goes_on mid a' b' k greater on most_is =
-      let more = stream_goes_on first job mid given others a b a' b' cycles most greater k.ending f.streams k.takes on most_is in
+  flow_continues mid a' b' k greater on most_is =
+      let more = stream_continues first job mid given others a b a' b' cycles most greater k.ending f.streams k.takes on most_is in
       record {
         streams = more.0;
         sent = λ file. subst (λ (o : Output). IsSent (start file) (now file) (bytes_for file mid.output) (bytes_for file (bytes_of o))) (sym more.1)

@@ -16,9 +16,9 @@ use Rattle.rpg_cycle.specs.Starting.{date_in}
 use Rattle.rpg_cycle.specs.Job.{AtWork, Starts, first_fields, job_started}
 use Rattle.rpg_verify_rules.specs.Accepted.{IsAccepted}
 use Rattle.rpg_engine.specs.Objects.{HasObjectFault, IsRefused, SpellsProgram}
-use Rattle.rpg_engine.specs.Refusing.{HasDay, IsToldOf, IsToldOfDate, MayRun, start_fault}
+use Rattle.rpg_engine.specs.Refusing.{HasDay, IsReportOf, IsReportOfDate, MayRun, start_fault}
 use Rattle.rpg_engine.specs.Streaming.{IsRunFault, StopsEarly}
-use Rattle.rpg_engine.specs.Reporting.{HasParts, HasSent, IsPutOutBy, MayBePutOut, Reports}
+use Rattle.rpg_engine.specs.Reporting.{HasParts, HasSent, IsOutputBy, MayBeOutput, Reports}
 use Rattle.rpg_engine.specs.Running.{IsObjectRun, IsProgramRun, RunsOnDay}
 use Rattle.rpg_cycle.specs.declared.ends.StartFault.{StartFault}
 use Rattle.rpg_cycle.specs.declared.ends.StartFault.TheVariants as starting
@@ -36,9 +36,9 @@ none_sent a bytes = (0, (omega arith, Appends-nil a))
 none_read : (a : Option (List ℕ)) → WasRead a a
 none_read a = record { read = []; ended = false; consumed = Consumes-nil a; at_end = λ is. absurd cc }
 
--- before the first cycle nothing was put out
+-- before the first cycle nothing was output
 at_once : (a b : Option (List ℕ)) (held : Contents) (e : RunFault) (none_failed : Type 0) (p : Object) (day : ℤ) → ((file : InputFile) (why : ReadFault) → e ≡ faults.Read file why → ⊥)
-    → ((bytes : Bytes) → HasParts e held held bytes) → ((primary secondary : List ℕ) → IsPutOutBy 0 p day primary secondary no_bytes → MayBePutOut e p day primary secondary no_bytes)
+    → ((bytes : Bytes) → HasParts e held held bytes) → ((primary secondary : List ℕ) → IsOutputBy 0 p day primary secondary no_bytes → MayBeOutput e p day primary secondary no_bytes)
     → HasSent e none_failed held held no_bytes → OfFronts a a b b (StopsEarly p day e none_failed held held)
 at_once a b held e none_failed p day other parts may sent = record {
   primary = none_read a;
@@ -47,7 +47,7 @@ at_once a b held e none_failed p day other parts may sent = record {
     stops = λ more others_more can can_too. record {
       parts = λ course bytes run. parts bytes;
       bytes = no_bytes;
-      put_out = may _ _ (no_output, (refl, tt), refl);
+      write_line_out = may _ _ (no_output, (refl, tt), refl);
       sent = sent;
     };
     needs = λ file why is. absurd (other file why is);
@@ -70,9 +70,9 @@ not_started a b held none_failed starting.BadDate p day =
 not_started a b held none_failed starting.NoMemory p day = no_room a b held none_failed p day
 
 -- what is reported of one
-pub start_told : (fault : StartFault) (date : List ℕ) → (fault ≡ starting.BadDate → date_in date ≡ None) → IsToldOfDate {X = Report} (Err (start_fault fault)) date
-start_told starting.BadDate date none = none refl
-start_told starting.NoMemory date none = tt
+pub start_reported : (fault : StartFault) (date : List ℕ) → (fault ≡ starting.BadDate → date_in date ≡ None) → IsReportOfDate {X = Report} (Err (start_fault fault)) date
+start_reported starting.BadDate date none = none refl
+start_reported starting.NoMemory date none = tt
 
 -- ---- a job that began
 
@@ -114,13 +114,13 @@ parts_same date p day job a a' b b' c c' d d' before after fault none_failed e f
     fronts_same a a' b b' c c' d d' (StopsEarly p day fault none_failed before after) e f g h
     (same_job date p day job (λ r x. OfFronts a b c d (StopsEarly r x fault none_failed before after)) holds starts dated)
 
-pub told_of_run : {X : Type 0} (result : Result X RunFault) (date : List ℕ) → HasDay date → IfErr result IsRunFault → IsToldOfDate result date
-told_of_run (Ok x) date has only = has
-told_of_run (Err (faults.Object fault)) date has only = absurd only
-told_of_run (Err faults.BadDate) date has only = absurd only
-told_of_run (Err (faults.Read file fault)) date has only = has
-told_of_run (Err (faults.Write file sent)) date has only = has
-told_of_run (Err (faults.NoMemory cycles)) date has only = tt
+pub reported_of_run : {X : Type 0} (result : Result X RunFault) (date : List ℕ) → HasDay date → IfErr result IsRunFault → IsReportOfDate result date
+reported_of_run (Ok x) date has only = has
+reported_of_run (Err (faults.Object fault)) date has only = absurd only
+reported_of_run (Err faults.BadDate) date has only = absurd only
+reported_of_run (Err (faults.Read file fault)) date has only = has
+reported_of_run (Err (faults.Write file sent)) date has only = has
+reported_of_run (Err (faults.NoMemory cycles)) date has only = tt
 
 pub on_err : {X E : Type 0} (r : Result X E) (P Q : E → Type 0) → ((e : E) → P e → Q e) → IfErr r P → IfErr r Q
 on_err (Ok x) P Q f h = tt
@@ -135,13 +135,13 @@ on_ok (Err e) P Q f h = tt
 may_run : (object date : List ℕ) (p : Object) → SpellsProgram object p → IsAccepted p → HasDay date → MayRun object date
 may_run object date p spells accepted has = (p, has.0, record { spells = spells; accepted = accepted; dated = has.1 })
 
-pub told_of_program : {X : Type 0} (result : Result X RunFault) (object date : List ℕ) (p : Object) → SpellsProgram object p → IsAccepted p → IsToldOfDate result date → IsToldOf result object date
-told_of_program (Ok x) object date p spells accepted has = may_run object date p spells accepted has
-told_of_program (Err (faults.Object fault)) object date p spells accepted told = absurd told
-told_of_program (Err faults.BadDate) object date p spells accepted none = (p, spells, accepted, none)
-told_of_program (Err (faults.Read file fault)) object date p spells accepted has = may_run object date p spells accepted has
-told_of_program (Err (faults.Write file sent)) object date p spells accepted has = may_run object date p spells accepted has
-told_of_program (Err (faults.NoMemory cycles)) object date p spells accepted told = tt
+pub reported_of_program : {X : Type 0} (result : Result X RunFault) (object date : List ℕ) (p : Object) → SpellsProgram object p → IsAccepted p → IsReportOfDate result date → IsReportOf result object date
+reported_of_program (Ok x) object date p spells accepted has = may_run object date p spells accepted has
+reported_of_program (Err (faults.Object fault)) object date p spells accepted reported = absurd reported
+reported_of_program (Err faults.BadDate) object date p spells accepted none = (p, spells, accepted, none)
+reported_of_program (Err (faults.Read file fault)) object date p spells accepted has = may_run object date p spells accepted has
+reported_of_program (Err (faults.Write file sent)) object date p spells accepted has = may_run object date p spells accepted has
+reported_of_program (Err (faults.NoMemory cycles)) object date p spells accepted reported = tt
 
 -- where there is no job of the bytes and the date, the date is none
 undated : (date : List ℕ) (day : Option ℤ) → date_in date ≡ day → ¬ HasDay date → date_in date ≡ None
@@ -157,7 +157,7 @@ pub object_run : {R S P D : Type 0} (remaining : R → Option (List ℕ)) (other
     → SpellsProgram object q → IsAccepted q → ((r : Object) → SpellsProgram object r → q ≡ r)
     → IsProgramRun remaining others contents stored q date old new before after result → IsObjectRun remaining others contents stored object date old new before after result
 object_run remaining others contents stored object date q old new before after result spells accepted only ran = record {
-  refused = told_of_program result object date q spells accepted ran.refused;
+  refused = reported_of_program result object date q spells accepted ran.refused;
   untouched = λ none. ran.untouched (no_day object date q spells accepted none);
   alone = λ p spelled none. ran.alone (ap (λ (r : Object). r.secondary_length) (only p spelled) ∙ none);
   run = λ p day job. subst (λ (r : Object). RunsOnDay remaining others contents stored r day old new before after result) (only p job.spells) (ran.run day job.dated);

@@ -1,4 +1,4 @@
--- What went out of all that was put out for a file, and what waits.
+-- What went out of all that was output for a file, and what waits.
 use Rattle.std.proofs.Common.{◌≡◌, ℕ, ◌+◌, ◌<◌, List, [], ◌++◌, length, take, Option, refl, sym, ap, ◌∙◌, subst, append_assoc, append-nil, arith, length-append}
 use Rattle.std.proofs.Math.Seq.{take-length}
 use Rattle.std.proofs.lemmas.List.{take-append-le}
@@ -67,7 +67,7 @@ module _ (start now : FileState) (waiting all : List ℕ) (s : IsSent start now 
   first_sent c whole n begins part =
       subst (λ (k : ℕ). AppendsFirst start.has c (k + n) whole) (sym s.count) (part_sent start.has now.has c whole s.gone waiting n (after_gone whole begins) s.out part)
 
-  -- and no more than all that was put out
+  -- and no more than all that was output
   strictly_sent : (n : ℕ) → n < length waiting → now.sent + n < length all
   strictly_sent n few = let long = length-append s.gone waiting in let same = ap length s.order in omega (arith, s.count, long, same, few)
 

@@ -4,7 +4,7 @@ use Rattle.std.proofs.lemmas.Bool.{cases_Bool}
 use Rattle.std.specs.Io.KnownBytes.{Appends}
 use Rattle.std.specs.declared.cmp.Ordering.{Ordering}
 use Rattle.std.specs.declared.cmp.Ordering.TheVariants.{Equal}
-use Rattle.rpg_cycle.specs.Ends.{EndOfJob, GoesOn, Halt, PhaseEnd, Wrong}
+use Rattle.rpg_cycle.specs.Ends.{EndOfJob, Continues, Halt, PhaseEnd, Wrong}
 use Rattle.rpg_cycle.specs.Job.{AtWork, first_fields, job_needs_record, job_started}
 use Rattle.rpg_cycle.specs.Phases.{UnderWay, needs_record}
 use Rattle.rpg_cycle.specs.Runs.{Course, Records, Runs, first_if_any, last_cycle, printed, stored}
@@ -12,7 +12,7 @@ use Rattle.rpg_cycle.specs.Stages.{is_going, job_end}
 use Rattle.rpg_cycle.specs.Starting.{job_start}
 use Rattle.rpg_cycle.specs.declared.ends.JobEnd.{JobEnd}
 use Rattle.rpg_cycle_records.specs.Earlier.{Selected, with_record}
-use Rattle.rpg_cycle_records.specs.Identifying.{is_good_record}
+use Rattle.rpg_cycle_records.specs.Identifying.{is_valid_record}
 use Rattle.rpg_cycle_records.specs.Waiting.{Inputs, unread}
 use Rattle.rpg_paper.specs.Paper.{last_position}
 use Rattle.rpg_program.specs.Put.{Bytes}
@@ -33,20 +33,20 @@ use Rattle.rpg_program.specs.declared.section.Place.{Place}
 use Rattle.rpg_verify.specs.Bound.{bound}
 use Rattle.rpg_engine.specs.Inputs.{OfFronts, OfInputs, bytes_of_input, records_of}
 use Rattle.rpg_engine.specs.Outputs.{Contents, HaveAll, HaveParts, bytes_for, bytes_with, order}
-use Rattle.rpg_engine.specs.Reporting.{AreSameOrBad, IsBad, GoesOnFor, HasParts, HasSent, IsPutOut, IsPutOutBy, IsRunOver, IsUnread, MayBePutOut, Reports, WaitsFor, WentOn, bytes_of, records_of_file}
+use Rattle.rpg_engine.specs.Reporting.{AreSameOrBad, IsBad, ContinuesFor, HasParts, HasSent, IsOutput, IsOutputBy, IsRunOver, IsUnread, MayBeOutput, Reports, WaitsFor, WentOn, bytes_of, records_of_file}
 use Rattle.rpg_engine.specs.Sending.{FailsToSend, FileState, IsFileAfterFault, IsSendingOf, States, StopsWith, held_in}
-use Rattle.rpg_engine.specs.Streaming.{Asks, FailsToRead, HasAnswered, IsRunFault, StopsEarly, TakesNone, ended_stage, record_with}
+use Rattle.rpg_engine.specs.Streaming.{ReadsIfNeeded, FailsToRead, HasAnswered, IsRunFault, StopsEarly, TakesNone, ended_stage, record_with}
 use Rattle.rpg_engine.specs.declared.fault.CycleFault.{CycleFault}
 use Rattle.rpg_engine.specs.declared.fault.CycleFault.TheVariants as stops
 use Rattle.rpg_engine.specs.declared.fault.RunFault.{RunFault}
 use Rattle.rpg_engine.specs.declared.fault.RunFault.TheVariants as faults
 use Rattle.rpg_engine.specs.declared.files.OutputFile.{OutputFile}
 use Rattle.rpg_engine.proofs.Bytes.{BeginsWith, put_begins, put_last, put_on, put_with, so_far}
-use Rattle.rpg_engine.proofs.Courses.{GoesOnWith, HeadCycle, IsLast, IsUnderWay, following, begins_with, ends, goes_on_to, one_more, some_cycles, stand}
+use Rattle.rpg_engine.proofs.Courses.{ContinuesWith, HeadCycle, IsLast, IsUnderWay, following, begins_with, ends, continues_to, one_more, some_cycles, stand}
 use Rattle.rpg_engine.proofs.Outputs.{none_for, own_order}
 use Rattle.rpg_engine.proofs.Sent.{IsSent, all_sent, begins_whole, counted_sent, left_parts, left_up_to, rest_sent, still_sent, waiting_sent}
 use Rattle.rpg_engine.proofs.Streams.{SinceStart, Stands, Streams, head, is_last, more_read, reads_on, rest, steps_are, under_way_still, was_ended, was_read}
-use Rattle.rpg_engine.proofs.Taking.{Source, TakesNext, no_character, source_of, stands_still, told_of}
+use Rattle.rpg_engine.proofs.Taking.{Source, TakesNext, no_character, source_of, stands_still, reported_of}
 
 -- ---- the start
 
@@ -111,17 +111,17 @@ module _ {R : Type 0} (remaining : R → Option (List ℕ)) where
 
   abbrev pub asked : (is_needed : Bool) (old new : RecordReader R) → HasAnswered remaining is_needed old new → Moves (input_of remaining old) (input_of remaining new)
   asked false old new (answer, asks) = still old new (asks.unneeded refl).1
-  asked true old new (answer, asks) = told_of (input_of remaining old) (input_of remaining new) _ (λ x y. Unit {0}) (λ x y is. tt) (asks.needed refl).0.input
+  asked true old new (answer, asks) = reported_of (input_of remaining old) (input_of remaining new) _ (λ x y. Unit {0}) (λ x y is. tt) (asks.needed refl).0.input
 
   abbrev pub failed : (is_needed : Bool) (fault : ReadFault) (old new : RecordReader R) → FailsToRead remaining is_needed fault old new → Moves (input_of remaining old) (input_of remaining new)
-  failed is_needed fault old new fails = told_of (input_of remaining old) (input_of remaining new) _ (λ x y. Unit {0}) (λ x y is. tt) fails.1.input
+  failed is_needed fault old new fails = reported_of (input_of remaining old) (input_of remaining new) _ (λ x y. Unit {0}) (λ x y is. tt) fails.1.input
 
-  -- a reader that failed was asked
-  pub failed_ask : (is_needed : Bool) (fault : ReadFault) (old new : RecordReader R) → Asks remaining is_needed old (Err fault) new → FailsToRead remaining is_needed fault old new
+  -- a reader that failed was read
+  pub failed_ask : (is_needed : Bool) (fault : ReadFault) (old new : RecordReader R) → ReadsIfNeeded remaining is_needed old (Err fault) new → FailsToRead remaining is_needed fault old new
   failed_ask true fault old new asks = (refl, (asks.needed refl).0)
   failed_ask false fault old new asks = absurd (let no = (asks.unneeded refl).0 in cc)
 
-  -- the first record that a reader which was asked has to come, whatever follows
+  -- the first record that a reader returned has to come, whatever follows
   known_first : (p : Object) (f : InputFile) (is_needed : Bool) (old new : RecordReader R) (x : HasAnswered remaining is_needed old new) → limit_of old ≡ input_length p f → is_needed ≡ true
       → (more : List ℕ) → CanFollow (input_of remaining new).ended more
       → AreSameOrBad p f (record_with new x.0) (first_if_any (records ((input_of remaining old).buffered ++ ((asked is_needed old new x).read ++ more))))
@@ -129,7 +129,7 @@ module _ {R : Type 0} (remaining : R → Option (List ℕ)) where
   known_first p f true old new (next.Record, asks) limit is more can = let gives = (asks.needed refl).0.input.fact more can in inl (sym (ap first_if_any gives.2))
   known_first p f true old new (next.Bad, asks) limit is more can =
       let bad = ((asks.needed refl).0.input.fact more can).1 in
-      let bad_too : is_good_record p f bad.0 ≡ false = rw limit at bad.3 in
+      let bad_too : is_valid_record p f bad.0 ≡ false = rw limit at bad.3 in
       inr (no_character p f, subst (λ (rs : List (List ℕ)). IsBad p f (first_if_any rs)) (sym bad.2) bad_too)
   known_first p f true old new (next.End, asks) limit is more can = let gives = (asks.needed refl).0.input.fact more can in inl (sym (ap (λ (bytes : List ℕ). first_if_any (records bytes)) gives.0))
 
@@ -151,7 +151,7 @@ pub stop_of_run : (fault : CycleFault) (cycles : ℕ) (old new : States) (bytes 
 stop_of_run (stops.Read file fault) cycles old new bytes e stop = subst IsRunFault (sym stop.0) tt
 stop_of_run stops.NoMemory cycles old new bytes e stop = subst IsRunFault (sym stop.0) tt
 
--- a job that needs a record goes on, and so do its files
+-- a job that needs a record continues, and so do its files
 going_on : (p q : Bool) → (p && q) ≡ true → q ≡ true
 going_on true q h = h
 going_on false q h = absurd cc
@@ -204,7 +204,7 @@ module _ {R : Type 0} (remaining : R → Option (List ℕ)) (old new : RecordRea
       ap (λ (bytes : List ℕ). length (records bytes)) (append_assoc s.since.read reads.input.read more) in
       (some, omega (arith, gives.0, all, same))
 
--- the job waited for a record of this file, and each writer has all that was put out
+-- the job waited for a record of this file, and each writer has all that was output
 pub record ReadFails (job : AtWork) (file : InputFile) (fault : ReadFault) {given others : Option (List ℕ)} {a b i j : Input} (since : SinceStart given a) (since_too : SinceStart others b) (one : Moves a i) (two : Moves b j)
     (put : Bytes) (before after : Contents) : Type 0 where
   pub needed : job_needs_record job file ≡ true
@@ -250,13 +250,13 @@ LeavesParts e put before after = (bytes : Bytes) → ((file : OutputFile) → Be
 abbrev pub CountsCycles : RunFault → ℕ → Type 0
 CountsCycles e cycles = (n : ℕ) → e ≡ faults.NoMemory n → n ≡ cycles
 
-may_be_put_out : (e : RunFault) (p : Object) (day : ℤ) (primary secondary : List ℕ) (bytes : Bytes) (cycles : ℕ) → CountsCycles e cycles → IsPutOutBy cycles p day primary secondary bytes
-    → MayBePutOut e p day primary secondary bytes
-may_be_put_out (faults.Object fault) p day primary secondary bytes cycles counts put = inl (cycles, put)
-may_be_put_out faults.BadDate p day primary secondary bytes cycles counts put = inl (cycles, put)
-may_be_put_out (faults.Read file fault) p day primary secondary bytes cycles counts put = inl (cycles, put)
-may_be_put_out (faults.Write file sent) p day primary secondary bytes cycles counts put = inl (cycles, put)
-may_be_put_out (faults.NoMemory n) p day primary secondary bytes cycles counts put = subst (λ (k : ℕ). IsPutOutBy k p day primary secondary bytes) (sym (counts n refl)) put
+may_be_output : (e : RunFault) (p : Object) (day : ℤ) (primary secondary : List ℕ) (bytes : Bytes) (cycles : ℕ) → CountsCycles e cycles → IsOutputBy cycles p day primary secondary bytes
+    → MayBeOutput e p day primary secondary bytes
+may_be_output (faults.Object fault) p day primary secondary bytes cycles counts put = inl (cycles, put)
+may_be_output faults.BadDate p day primary secondary bytes cycles counts put = inl (cycles, put)
+may_be_output (faults.Read file fault) p day primary secondary bytes cycles counts put = inl (cycles, put)
+may_be_output (faults.Write file sent) p day primary secondary bytes cycles counts put = inl (cycles, put)
+may_be_output (faults.NoMemory n) p day primary secondary bytes cycles counts put = subst (λ (k : ℕ). IsOutputBy k p day primary secondary bytes) (sym (counts n refl)) put
 
 -- a fault of a writer
 abbrev pub IsWriters : RunFault → Type 0
@@ -279,7 +279,7 @@ file_same f g w v same = cc
 fault_same : (f g : InputFile) (w v : ReadFault) → faults.Read f w ≡ faults.Read g v → w ≡ v
 fault_same f g w v same = cc
 
--- a job that goes on needs the records that its next cycle does
+-- a job that continues needs the records that its next cycle does
 needs_too : (p q r : Bool) → (p && q) ≡ true → r ≡ true → (p && r) ≡ true
 needs_too true q r h is = is
 needs_too false q r h is = absurd cc
@@ -301,8 +301,8 @@ module _ (first job : AtWork) (given others : Option (List ℕ)) (a b : Source) 
       → WentOn cycles first.program day (xs_of more) (ys_of following) s.out Then
   went_on day is more following can can_too Then holds =
       let u = reads_on first job given others a b cycles most s i j _ _ one two more following can can_too in
-      subst (λ (c : Config). GoesOnFor cycles first.program [] (records_of (xs_of more) (ys_of following)) c unread s.out Then) (start_is first day is)
-      (goes_on_to cycles first.program [] (records_of (xs_of more) (ys_of following)) (config_on None first.config) unread s.out
+      subst (λ (c : Config). ContinuesFor cycles first.program [] (records_of (xs_of more) (ys_of following)) c unread s.out Then) (start_is first day is)
+      (continues_to cycles first.program [] (records_of (xs_of more) (ys_of following)) (config_on None first.config) unread s.out
       (stand s.earlier (records_of (a.input.buffered ++ (one.read ++ more)) (b.input.buffered ++ (two.read ++ following))) stands_now job.inputs) Then holds u.gone)
 
   -- the next cycle waits for its record
@@ -335,7 +335,7 @@ module _ (first job : AtWork) (given others : Option (List ℕ)) (a b : Source) 
                 let output : course.output ≡ with_more s.out later.0.output = ap (λ (c : Course). c.output) later.2 in
                 leaves bytes (so_far course.output s.out bytes run.print run.disk later.0.output output);
             bytes = bytes_of s.out;
-            put_out = may_be_put_out e first.program day xs ys (bytes_of s.out) cycles counts
+            write_line_out = may_be_output e first.program day xs ys (bytes_of s.out) cycles counts
                 (s.out, went_on day is more others_more can can_too (λ earlier rs c k. Unit {0}) tt, refl);
             sent = sent;
           };
@@ -347,7 +347,7 @@ module _ (first job : AtWork) (given others : Option (List ℕ)) (a b : Source) 
             part = failed.part;
             known = failed.known;
             sent = failed.sent;
-            goes_on = λ more following can can_too.
+            continues = λ more following can can_too.
                 let xs = xs_of more in
                 let ys = ys_of following in
                 went_on day is more following can can_too (λ earlier rs c k. WaitsFor first.program file fault (records_of xs ys) rs c k failed.part (bytes_of_input file more following) failed.known)
@@ -363,14 +363,14 @@ module _ (first job : AtWork) (given others : Option (List ℕ)) (a b : Source) 
     };
   }
 
--- what a run put out by the end of a cycle, or by its own end
-abbrev EitherPutOut : Object → ℤ → (primary secondary : List ℕ) → Bytes → Type 0
-EitherPutOut p day primary secondary bytes = IsPutOut p day primary secondary bytes ⊎ ((course : Course) × IsRunOver p day primary secondary course bytes)
+-- what a run output by the end of a cycle, or by its own end
+abbrev EitherOutput : Object → ℤ → (primary secondary : List ℕ) → Bytes → Type 0
+EitherOutput p day primary secondary bytes = IsOutput p day primary secondary bytes ⊎ ((course : Course) × IsRunOver p day primary secondary course bytes)
 
--- a cycle with what it put out
+-- a cycle with what it output
 module _ (first : AtWork) (day : ℤ) (is : IsStart first day) (xs ys : List ℕ) (earlier : List Selected) (now : Config) (i : Inputs) (rest after : Records) (cycles most : ℕ) (out : Output) (there : UnderWay) (o : Output)
     (u : IsUnderWay first.program (config_on None first.config) (records_of xs ys) earlier now i rest cycles most out) where
-  put_at_end : (e : PhaseEnd) → HeadCycle first.program earlier now i e there o rest after → IsLast e → EitherPutOut first.program day xs ys (put_with e out o)
+  put_at_end : (e : PhaseEnd) → HeadCycle first.program earlier now i e there o rest after → IsLast e → EitherOutput first.program day xs ys (put_with e out o)
   put_at_end e head last =
       let course = following cycles most out (last_cycle e there o) in
       inr (
@@ -383,20 +383,20 @@ module _ (first : AtWork) (day : ℤ) (is : IsStart first day) (xs ys : List ℕ
         },
       )
 
-  put_out_after : (e : PhaseEnd) → HeadCycle first.program earlier now i e there o rest after → EitherPutOut first.program day xs ys (put_with e out o)
-  put_out_after GoesOn head =
+  output_after : (e : PhaseEnd) → HeadCycle first.program earlier now i e there o rest after → EitherOutput first.program day xs ys (put_with e out o)
+  output_after Continues head =
       let more = one_more first.program (config_on None first.config) (records_of xs ys) earlier now i rest after cycles most (max most there.config.steps) out there o u head refl in
-      let put : IsPutOutBy (cycles + 1) first.program day xs ys (put_with GoesOn out o) = (
+      let put : IsOutputBy (cycles + 1) first.program day xs ys (put_with Continues out o) = (
         with_more out o,
-        subst (λ (c : Config). GoesOnFor (cycles + 1) first.program [] (records_of xs ys) c unread (with_more out o) (λ e rs d k. Unit {0})) (start_is first day is)
-            (goes_on_to (cycles + 1) first.program [] (records_of xs ys) (config_on None first.config) unread (with_more out o)
+        subst (λ (c : Config). ContinuesFor (cycles + 1) first.program [] (records_of xs ys) c unread (with_more out o) (λ e rs d k. Unit {0})) (start_is first day is)
+            (continues_to (cycles + 1) first.program [] (records_of xs ys) (config_on None first.config) unread (with_more out o)
             (stand (with_record there.selected earlier) after there.config there.inputs) (λ e rs d k. Unit {0}) tt more.gone),
-        put_on out o GoesOn refl,
+        put_on out o Continues refl,
       ) in
       inl (cycles + 1, put)
-  put_out_after EndOfJob head = put_at_end EndOfJob head tt
-  put_out_after (Halt k) head = put_at_end (Halt k) head tt
-  put_out_after (Wrong f) head = put_at_end (Wrong f) head tt
+  output_after EndOfJob head = put_at_end EndOfJob head tt
+  output_after (Halt k) head = put_at_end (Halt k) head tt
+  output_after (Wrong f) head = put_at_end (Wrong f) head tt
 
 -- after a cycle, with its output
 pub stopped_after : (first job mid : AtWork) (given others : Option (List ℕ)) (a b a' b' : Source) (cycles most : ℕ) (fault : RunFault) (none_failed : Type 0) (e : PhaseEnd) (before after : Contents)
@@ -417,13 +417,13 @@ stopped_after first job mid given others a b a' b' cycles most fault none_failed
             let one = head first job given others a b cycles most s mid a' b' e t more others_more can can_too in
             record {
               parts = λ course bytes run.
-                  let goes : GoesOnWith e course.output (with_more s.out does.out) =
+                  let goes : ContinuesWith e course.output (with_more s.out does.out) =
                   begins_with first.program (config_on None first.config) (records_of xs ys) s.earlier now job.inputs _ _ cycles most s.out e does.there does.out course u one
                   (runs_from first day xs ys course bytes is run) in
                   leaves bytes (put_begins course.output s.out bytes run.print run.disk e does.out goes);
               bytes = put_with e s.out does.out;
-              put_out = subst (λ (x : RunFault). MayBePutOut x first.program day xs ys (put_with e s.out does.out)) (sym writers.2)
-                  (put_out_after first day is xs ys s.earlier now job.inputs _ _ cycles most s.out does.there does.out u e one);
+              write_line_out = subst (λ (x : RunFault). MayBeOutput x first.program day xs ys (put_with e s.out does.out)) (sym writers.2)
+                  (output_after first day is xs ys s.earlier now job.inputs _ _ cycles most s.out does.there does.out u e one);
               sent = sent;
             };
         needs = λ file why read. absurd (writers_read fault writers file why read);
@@ -432,7 +432,7 @@ stopped_after first job mid given others a b a' b' cycles most fault none_failed
 
 -- ---- what the files have after a fault
 
--- all of these bytes were put out, and some of them wait
+-- all of these bytes were output, and some of them wait
 module _ (start now next : States) (waiting put : Bytes) (went : (file : OutputFile) → IsSent (start file) (now file) (bytes_for file waiting) (bytes_for file put)) where
   own_left : (e : RunFault) (fails : FailsToSend e now next waiting) → IsFileAfterFault Equal fails.count (now fails.failed) (next fails.failed) (bytes_for fails.failed waiting)
   own_left e fails = subst (λ (o : Ordering). IsFileAfterFault o fails.count (now fails.failed) (next fails.failed) (bytes_for fails.failed waiting)) (own_order fails.failed) (fails.left fails.failed)

@@ -4,7 +4,7 @@ use Rattle.std.specs.Io.KnownBytes.{Consumes, IsAtEnd}
 use Rattle.std.proofs.KnownBytes.{Consumes-nil, Consumes-trans}
 use Rattle.rpg_cycle.proofs.Cycling.{at_first, keeps}
 use Rattle.rpg_cycle.specs.Counting.{waiting_count}
-use Rattle.rpg_cycle.specs.Ends.{PhaseEnd, GoesOn, EndOfJob, Halt, Wrong}
+use Rattle.rpg_cycle.specs.Ends.{PhaseEnd, Continues, EndOfJob, Halt, Wrong}
 use Rattle.rpg_cycle.specs.Job.{AtWork, DoesCycle, feed_at, with_feed}
 use Rattle.rpg_cycle.specs.Phases.{Cycle, begun, needs_record}
 use Rattle.rpg_cycle.specs.Runs.{Records, left_following, next_of}
@@ -39,7 +39,7 @@ use Rattle.rpg_engine.proofs.Taking.{Gives, Source, TakesNext}
 -- ---- how a cycle ended, by the stage that it led to
 
 pub was_ended : (e : PhaseEnd) (j : JobEnd) → stage_at e ≡ Ended (job_end j) → e ≡ job_end j
-was_ended GoesOn j h = cc
+was_ended Continues j h = cc
 was_ended EndOfJob j h = cc
 was_ended (Halt k) j h = cc
 was_ended (Wrong f) j h = cc
@@ -79,7 +79,7 @@ pub record Stands (given : Option (List ℕ)) (a : Source) : Type 0 where
   pub counted : IsCounted given a since
 
 -- of the records to come one was given, or none, and the others are to come
-counted_on : (p : Object) (f : InputFile) (given : Option (List ℕ)) (is_needed : Bool) (x : Option (List ℕ)) (e : PhaseEnd) (a b : Source) (s : Stands given a) (g : Gives p f is_needed x e a b) → e ≡ GoesOn
+counted_on : (p : Object) (f : InputFile) (given : Option (List ℕ)) (is_needed : Bool) (x : Option (List ℕ)) (e : PhaseEnd) (a b : Source) (s : Stands given a) (g : Gives p f is_needed x e a b) → e ≡ Continues
     → IsCounted given b (more_read given a.input b.input _ s.since g.input)
 counted_on p f given is_needed x e a b s g on more can =
     let earlier = s.counted (g.input.read ++ more) (follows a.input b.input _ g.input more can) in
@@ -185,7 +185,7 @@ module _ (first job : AtWork) (given others : Option (List ℕ)) (a b : Source) 
         (rest more following) cycles most s.out
     under_way_still = reads_on a'.input b'.input _ _ t.primary.input t.secondary.input
 
--- what the job puts out in this cycle, after what it had put out before
+-- what the job outputs in this cycle, after what it had output before
 pub output_is : (job mid : AtWork) (earlier : List Selected) (out : Output) (x y : Option (List ℕ)) (e : PhaseEnd) (does : DoesCycle job earlier (last_position out.lines) x y e mid) (file : OutputFile)
     → bytes_for file mid.output ≡ bytes_for file job.output ++ bytes_for file (put_by e out does.out)
 output_is job mid earlier out x y e does file = output_for file
@@ -203,17 +203,17 @@ output_is job mid earlier out x y e does file = output_for file
 pub steps_are : (job mid : AtWork) (earlier : List Selected) (out : Output) (x y : Option (List ℕ)) (e : PhaseEnd) (does : DoesCycle job earlier (last_position out.lines) x y e mid) → does.there.config.steps ≡ mid.config.steps
 steps_are job mid earlier out x y e does = ap (λ (c : Config). c.steps) does.config
 
-pub stream_goes_on : (first job mid : AtWork) (given others : Option (List ℕ)) (a b a' b' : Source) (cycles most greater : ℕ)
+pub stream_continues : (first job mid : AtWork) (given others : Option (List ℕ)) (a b a' b' : Source) (cycles most greater : ℕ)
     (e : PhaseEnd) (s : Streams first given others job a b cycles most) (t : TakesNext s.earlier (last_position s.out.lines) job a b e mid a' b')
-    → e ≡ GoesOn → greater ≡ max most mid.config.steps
+    → e ≡ Continues → greater ≡ max most mid.config.steps
     → (k : Streams first given others mid a' b' (cycles + 1) greater) × (k.out ≡ with_more s.out t.does.out)
-stream_goes_on first job mid given others a b a' b' cycles most greater e s t on most_is =
+stream_continues first job mid given others a b a' b' cycles most greater e s t on most_is =
     let does = t.does in
     let there = does.there in
     let line : last_position (s.out.lines ++ does.out.lines) ≡ last_position_from (last_position s.out.lines) does.out.lines = end_from-lines None s.out.lines does.out.lines in
     let c = config_on (last_position s.out.lines) job.config in
     let p = job.program in
-    let cycle : Cycle p s.earlier t.x t.y (begun p c job.inputs) GoesOn there does.out =
+    let cycle : Cycle p s.earlier t.x t.y (begun p c job.inputs) Continues there does.out =
     subst (λ (k : PhaseEnd). Cycle p s.earlier t.x t.y (begun p c job.inputs) k there does.out) on does.cycle in
     let order : AreMergedInOrder p (with_record there.selected s.earlier) mid.inputs =
     subst (λ (i : Inputs). AreMergedInOrder p (with_record there.selected s.earlier) i) (sym (does.inputs on)) (keeps p s.earlier t.x t.y c job.inputs there does.out s.orderly cycle) in
@@ -236,7 +236,7 @@ stream_goes_on first job mid given others a b a' b' cycles most greater e s t on
             let all = records_of ((s.primary.since.read ++ t.primary.input.read) ++ more) ((s.secondary.since.read ++ t.secondary.input.read) ++ following) in
             let one = head first job given others a b cycles most s mid a' b' e t more following can can_too in
             let again = under_way_still first job given others a b cycles most s mid a' b' e t more following can can_too in
-            let going : HeadCycle first.program s.earlier c job.inputs GoesOn there does.out rs ss = subst (λ (x : PhaseEnd). HeadCycle first.program s.earlier c job.inputs x there does.out rs ss) on one in
+            let going : HeadCycle first.program s.earlier c job.inputs Continues there does.out rs ss = subst (λ (x : PhaseEnd). HeadCycle first.program s.earlier c job.inputs x there does.out rs ss) on one in
             let to : there.config ≡ config_on (last_position (s.out.lines ++ does.out.lines)) mid.config = does.config ∙ ap (λ previous. config_on previous mid.config) (sym line) in
             subst (λ (i : Inputs). IsUnderWay first.program start all (with_record there.selected s.earlier) (config_on (last_position (s.out.lines ++ does.out.lines)) mid.config) i ss (cycles + 1) greater (with_more s.out does.out)) (sym (does.inputs on))
             (subst (λ (x : Config). IsUnderWay first.program start all (with_record there.selected s.earlier) x there.inputs ss (cycles + 1) greater (with_more s.out does.out)) to

@@ -2,7 +2,7 @@
 use Rattle.std.proofs.Common.{◌≡◌, ℕ, ◌+◌, ◌&&◌, Bool, true, false, List, [], ◌∷◌, ◌++◌, length, Option, Some, None, Result, Ok, refl, sym, ap, ◌∙◌, subst, arith, inl, inr}
 use Rattle.std.proofs.KnownBytes.{Consumes-nil}
 use Rattle.std.proofs.lemmas.Bool.{and_right}
-use Rattle.rpg_cycle.specs.Ends.{EndOfJob, GoesOn, Halt, PhaseEnd, Wrong}
+use Rattle.rpg_cycle.specs.Ends.{EndOfJob, Continues, Halt, PhaseEnd, Wrong}
 use Rattle.rpg_cycle.specs.Job.{AtWork, DoesCycle, job_needs_record}
 use Rattle.rpg_cycle.specs.Phases.{Cycle, begun, needs_record}
 use Rattle.rpg_cycle.specs.Runs.{next_of, rest_where_needed}
@@ -10,7 +10,7 @@ use Rattle.rpg_cycle.specs.Stages.{Going, is_going, stage_at}
 use Rattle.rpg_cycle.specs.declared.ends.JobEnd.{JobEnd}
 use Rattle.rpg_cycle.specs.declared.jobs.Need.{Need}
 use Rattle.rpg_cycle_records.specs.Earlier.{Selected, left_by}
-use Rattle.rpg_cycle_records.specs.Identifying.{is_good_record}
+use Rattle.rpg_cycle_records.specs.Identifying.{is_valid_record}
 use Rattle.rpg_cycle_records.specs.Merging.{AreMergedInOrder}
 use Rattle.rpg_cycle_records.specs.Waiting.{Inputs, input_at}
 use Rattle.rpg_program.specs.Put.{line_of}
@@ -27,12 +27,12 @@ use Rattle.rpg_machine.specs.Running.{config_on}
 use Rattle.rpg_program.specs.Object.{Object, input_length}
 use Rattle.rpg_paper.specs.Paper.{Position}
 use Rattle.rpg_engine.specs.Reporting.{AreSameOrBad, IsBad}
-use Rattle.rpg_engine.specs.Streaming.{Asks, StandsAfterRecord, IsNeedOf, TakesCycle, record_with}
+use Rattle.rpg_engine.specs.Streaming.{ReadsIfNeeded, StandsAfterRecord, IsNeedOf, TakesCycle, record_with}
 use Rattle.rpg_engine.proofs.Passing.{IfNeeded, Takes, cycle_takes, in_list, needed_takes}
 
 -- what holds for the bytes to come, in another form
-abbrev pub told_of : (old new : Input) (F G : List ℕ → List ℕ → Type 0) → ((x y : List ℕ) → F x y → G x y) → Advances old new F → Advances old new G
-told_of old new F G tells adv = record {
+abbrev pub reported_of : (old new : Input) (F G : List ℕ → List ℕ → Type 0) → ((x y : List ℕ) → F x y → G x y) → Advances old new F → Advances old new G
+reported_of old new F G tells adv = record {
   read = adv.read;
   consumed = adv.consumed;
   none_at_end = adv.none_at_end;
@@ -60,19 +60,19 @@ pub record Source : Type 0 where
 abbrev pub source_of : {R : Type 0} → (R → Option (List ℕ)) → RecordReader R → Source
 source_of remaining r = record { input = input_of remaining r; count = count_of r }
 
--- a cycle that is given this of a file does the same with the file's first record; where it goes on, the others are left
+-- a cycle that is given this of a file does the same with the file's first record; where it continues, the others are left
 pub record IsFirstOf (p : Object) (f : InputFile) (is_needed : Bool) (x : Option (List ℕ)) (e : PhaseEnd) (before after : List (List ℕ)) : Type 0 where
   pub alike : AreSameOrBad p f x (next_of is_needed before)
-  pub left : e ≡ GoesOn → after ≡ rest_where_needed is_needed before
-  pub counted : e ≡ GoesOn → length before ≡ length (in_list x) + length after
+  pub left : e ≡ Continues → after ≡ rest_where_needed is_needed before
+  pub counted : e ≡ Continues → length before ≡ length (in_list x) + length after
 
 -- so it is, whatever follows the bytes that were read
 pub record Gives (p : Object) (f : InputFile) (is_needed : Bool) (x : Option (List ℕ)) (e : PhaseEnd) (old new : Source) : Type 0 where
   pub input : Advances old.input new.input (λ before after. IsFirstOf p f is_needed x e (records before) (records after))
-  pub count : e ≡ GoesOn → new.count ≡ old.count + length (in_list x)
+  pub count : e ≡ Continues → new.count ≡ old.count + length (in_list x)
   pub needed : IfNeeded is_needed x
 
-pub no_character : (p : Object) (f : InputFile) → is_good_record p f (0 ∷ []) ≡ false
+pub no_character : (p : Object) (f : InputFile) → is_valid_record p f (0 ∷ []) ≡ false
 no_character p f = and_right _ _ refl
 
 module _ {R : Type 0} (remaining : R → Option (List ℕ)) where
@@ -89,7 +89,7 @@ module _ {R : Type 0} (remaining : R → Option (List ℕ)) where
 
   with_record : (p : Object) (f : InputFile) (e : PhaseEnd) (old new : RecordReader R) → ReadsNext remaining old (Ok next.Record) new → Given p f e old true next.Record new
   with_record p f e old new reads = record {
-    input = told_of (input_of remaining old) (input_of remaining new) (GivesNext (limit_of old) (count_of old) (record_of new) (Ok next.Record))
+    input = reported_of (input_of remaining old) (input_of remaining new) (GivesNext (limit_of old) (count_of old) (record_of new) (Ok next.Record))
         (λ before after. IsFirstOf p f true (Some (record_of new)) e (records before) (records after))
         (λ x y gives. subst (λ (rs : List (List ℕ)). IsFirstOf p f true (Some (record_of new)) e rs (records y)) (sym gives.2)
         (record { alike = inl refl; left = λ on. refl; counted = λ on. omega arith })) reads.input;
@@ -97,13 +97,13 @@ module _ {R : Type 0} (remaining : R → Option (List ℕ)) where
     needed = λ is. absurd (let never : true ≡ false = is in cc);
   }
 
-  with_bad : (p : Object) (f : InputFile) (e : PhaseEnd) (old new : RecordReader R) → limit_of old ≡ input_length p f → ReadsNext remaining old (Ok next.Bad) new → (e ≡ GoesOn → ⊥) → Given p f e old true next.Bad new
+  with_bad : (p : Object) (f : InputFile) (e : PhaseEnd) (old new : RecordReader R) → limit_of old ≡ input_length p f → ReadsNext remaining old (Ok next.Bad) new → (e ≡ Continues → ⊥) → Given p f e old true next.Bad new
   with_bad p f e old new limit reads never = record {
-    input = told_of (input_of remaining old) (input_of remaining new) (GivesNext (limit_of old) (count_of old) (record_of new) (Ok next.Bad))
+    input = reported_of (input_of remaining old) (input_of remaining new) (GivesNext (limit_of old) (count_of old) (record_of new) (Ok next.Bad))
         (λ before after. IsFirstOf p f true (Some (0 ∷ [])) e (records before) (records after))
         (λ x y gives.
         let bad = gives.1 in
-        let bad_too : is_good_record p f bad.0 ≡ false = rw limit at bad.3 in
+        let bad_too : is_valid_record p f bad.0 ≡ false = rw limit at bad.3 in
         subst (λ (rs : List (List ℕ)). IsFirstOf p f true (Some (0 ∷ [])) e rs (records y)) (sym bad.2)
         (record { alike = inr (no_character p f, bad_too); left = λ on. absurd (never on); counted = λ on. absurd (never on) })) reads.input;
     count = λ on. absurd (never on);
@@ -112,7 +112,7 @@ module _ {R : Type 0} (remaining : R → Option (List ℕ)) where
 
   at_end : (p : Object) (f : InputFile) (e : PhaseEnd) (old new : RecordReader R) → ReadsNext remaining old (Ok next.End) new → Given p f e old true next.End new
   at_end p f e old new reads = record {
-    input = told_of (input_of remaining old) (input_of remaining new) (GivesNext (limit_of old) (count_of old) (record_of new) (Ok next.End))
+    input = reported_of (input_of remaining old) (input_of remaining new) (GivesNext (limit_of old) (count_of old) (record_of new) (Ok next.End))
         (λ before after. IsFirstOf p f true None e (records before) (records after))
         (λ x y gives.
         subst (λ (bytes : List ℕ). IsFirstOf p f true None e (records bytes) (records y)) (sym gives.0)
@@ -122,9 +122,9 @@ module _ {R : Type 0} (remaining : R → Option (List ℕ)) where
     needed = λ is. absurd (let no : true ≡ false = is in cc);
   }
 
-  -- what a reader that was asked gives a cycle, where no cycle goes on with a bad record
-  pub gives : (p : Object) (f : InputFile) (e : PhaseEnd) (old new : RecordReader R) (is_needed : Bool) (answer : Next) → limit_of old ≡ input_length p f → Asks remaining is_needed old (Ok answer) new
-      → (e ≡ GoesOn → is_needed ≡ true → IsBad p f (record_with new answer) → ⊥) → Given p f e old is_needed answer new
+  -- what a reader returns to a cycle, where no cycle continues with a bad record
+  pub gives : (p : Object) (f : InputFile) (e : PhaseEnd) (old new : RecordReader R) (is_needed : Bool) (answer : Next) → limit_of old ≡ input_length p f → ReadsIfNeeded remaining is_needed old (Ok answer) new
+      → (e ≡ Continues → is_needed ≡ true → IsBad p f (record_with new answer) → ⊥) → Given p f e old is_needed answer new
   gives p f e old new false next.Record limit asks never = absurd (let no = (asks.unneeded refl).0 in cc)
   gives p f e old new false next.Bad limit asks never = absurd (let no = (asks.unneeded refl).0 in cc)
   gives p f e old new false next.End limit asks never = subst (λ (r : RecordReader R). Given p f e old false next.End r) (sym (asks.unneeded refl).1) (left_alone p f e old)
@@ -134,16 +134,16 @@ module _ {R : Type 0} (remaining : R → Option (List ℕ)) where
 
   -- ---- what stays
 
-  pub limit_stays : (is_needed : Bool) (answer : Result Next ReadFault) (old new : RecordReader R) → Asks remaining is_needed old answer new → limit_of new ≡ limit_of old
+  pub limit_stays : (is_needed : Bool) (answer : Result Next ReadFault) (old new : RecordReader R) → ReadsIfNeeded remaining is_needed old answer new → limit_of new ≡ limit_of old
   limit_stays false answer old new asks = ap (λ (r : RecordReader R). limit_of r) (asks.unneeded refl).1
   limit_stays true answer old new asks = (asks.needed refl).0.limit
 
-  pub faults_stay : (is_needed : Bool) (answer : Next) (old new : RecordReader R) → Asks remaining is_needed old (Ok answer) new → faults_of (reader_of new) ≡ faults_of (reader_of old)
+  pub faults_stay : (is_needed : Bool) (answer : Next) (old new : RecordReader R) → ReadsIfNeeded remaining is_needed old (Ok answer) new → faults_of (reader_of new) ≡ faults_of (reader_of old)
   faults_stay false answer old new asks = ap (λ (r : RecordReader R). faults_of (reader_of r)) (asks.unneeded refl).1
   faults_stay true answer old new asks = (asks.needed refl).0.faults
 
   -- of a file that isn't over the reader gave a record
-  pub record_after : (p : Object) (f : InputFile) (job job' : AtWork) (old new : RecordReader R) (is_needed : Bool) (answer : Next) → Asks remaining is_needed old (Ok answer) new
+  pub record_after : (p : Object) (f : InputFile) (job job' : AtWork) (old new : RecordReader R) (is_needed : Bool) (answer : Next) → ReadsIfNeeded remaining is_needed old (Ok answer) new
       → (is_needed ≡ true → IsBad p f (record_with new answer) → ⊥) → (is_needed ≡ true → record_with new answer ≡ None → (input_at job'.inputs f).is_over ≡ true)
       → ((input_at job.inputs f).is_over ≡ true → (input_at job'.inputs f).is_over ≡ true) → StandsAfterRecord job f old → StandsAfterRecord job' f new
   record_after p f job job' old new false answer asks bad none still before = λ not_over.
@@ -158,7 +158,7 @@ module _ {R : Type 0} (remaining : R → Option (List ℕ)) where
 
 -- ---- both
 
--- a job that goes on, with the readers of its files: each gave a record last, unless its file is over, and reads records of the program's length
+-- a job that continues, with the readers of its files: each returned a record last, unless its file is over, and reads records of the program's length
 pub record AreReady {R S : Type 0} (job : AtWork) (primary : RecordReader R) (secondary : RecordReader S) : Type 0 where
   pub going : is_going job.stage ≡ true
   pub after_primary : StandsAfterRecord job Primary primary
@@ -175,15 +175,15 @@ pub record TakesNext (earlier : List Selected) (previous : Option Position) (job
   pub secondary : Gives job.program Secondary (needs_record job.program (config_on previous job.config) job.inputs Secondary) y e b b'
 
 -- how a cycle ended, by the stage that it led to
-pub went : (e : PhaseEnd) → stage_at e ≡ Going → e ≡ GoesOn
-went GoesOn h = refl
+pub went : (e : PhaseEnd) → stage_at e ≡ Going → e ≡ Continues
+went Continues h = refl
 went EndOfJob h = cc
 went (Halt k) h = cc
 went (Wrong f) h = cc
 
--- what a cycle that goes on has taken
+-- what a cycle that continues has taken
 pub gone_on : (job job' : AtWork) (earlier : List Selected) (previous : Option Position) (x y : Option (List ℕ)) (e : PhaseEnd) → AreMergedInOrder job.program earlier job.inputs
-    → DoesCycle job earlier previous x y e job' → e ≡ GoesOn → Takes job.program x y job.inputs job'.inputs
+    → DoesCycle job earlier previous x y e job' → e ≡ Continues → Takes job.program x y job.inputs job'.inputs
 gone_on job job' earlier previous x y e order does on =
     subst (λ (i : Inputs). Takes job.program x y job.inputs i) (sym (does.inputs on))
     (cycle_takes job.program earlier x y (config_on previous job.config) job.inputs does.there does.out order
@@ -194,11 +194,11 @@ needs_of job f going = ap (λ b. b && needs_record job.program job.config job.in
 
 module _ {R S : Type 0} (remaining : R → Option (List ℕ)) (others : S → Option (List ℕ)) (job job' : AtWork) (primary primary' : RecordReader R) (secondary secondary' : RecordReader S)
     (ended : Option JobEnd) (ready : AreReady job primary secondary) (takes : TakesCycle remaining others job primary secondary ended job' primary' secondary') where
-  asks_first : Asks remaining (needs_record job.program job.config job.inputs Primary) primary (Ok takes.first) primary'
-  asks_first = subst (λ (b : Bool). Asks remaining b primary (Ok takes.first) primary') (needs_of job Primary ready.going) takes.asks_primary
+  asks_first : ReadsIfNeeded remaining (needs_record job.program job.config job.inputs Primary) primary (Ok takes.first) primary'
+  asks_first = subst (λ (b : Bool). ReadsIfNeeded remaining b primary (Ok takes.first) primary') (needs_of job Primary ready.going) takes.reads_primary
 
-  asks_second : Asks others (needs_record job.program job.config job.inputs Secondary) secondary (Ok takes.second) secondary'
-  asks_second = subst (λ (b : Bool). Asks others b secondary (Ok takes.second) secondary') (needs_of job Secondary ready.going) takes.asks_secondary
+  asks_second : ReadsIfNeeded others (needs_record job.program job.config job.inputs Secondary) secondary (Ok takes.second) secondary'
+  asks_second = subst (λ (b : Bool). ReadsIfNeeded others b secondary (Ok takes.second) secondary') (needs_of job Secondary ready.going) takes.reads_secondary
 
   -- after all records that leave what the job keeps
   pub takes_next : (earlier : List Selected) → job.left ≡ left_by job.program earlier
@@ -221,7 +221,7 @@ module _ {R S : Type 0} (remaining : R → Option (List ℕ)) (others : S → Op
         },
       )
 
-  -- where the job goes on the readers stand after a record, as before
+  -- where the job continues the readers stand after a record, as before
   following_first : Takes job.program (record_with primary' takes.first) (record_with secondary' takes.second) job.inputs job'.inputs → StandsAfterRecord job Primary primary → StandsAfterRecord job' Primary primary'
   following_first took = record_after remaining job.program Primary job job' primary primary' (needs_record job.program job.config job.inputs Primary) takes.first asks_first
       (λ needs. took.primary.no_bad (needed_takes job.program job.config job.inputs Primary needs))
@@ -243,8 +243,8 @@ module _ {R S : Type 0} (remaining : R → Option (List ℕ)) (others : S → Op
         going = ap is_going stage;
         after_primary = following_first took ready.after_primary;
         after_secondary = after_second took ready.after_secondary;
-        limit_primary = limit_stays remaining _ _ primary primary' takes.asks_primary ∙ ready.limit_primary ∙ sym (ap (λ (p : Object). p.record_length) done.1.program);
-        limit_secondary = limit_stays others _ _ secondary secondary' takes.asks_secondary ∙ ready.limit_secondary ∙ sym (ap (λ (p : Object). p.secondary_length) done.1.program);
+        limit_primary = limit_stays remaining _ _ primary primary' takes.reads_primary ∙ ready.limit_primary ∙ sym (ap (λ (p : Object). p.record_length) done.1.program);
+        limit_secondary = limit_stays others _ _ secondary secondary' takes.reads_secondary ∙ ready.limit_secondary ∙ sym (ap (λ (p : Object). p.secondary_length) done.1.program);
       }
 
 -- ---- a job of which output went out

@@ -129,13 +129,13 @@ module _ {R S : Type 0} (remaining : R → Option (List ℕ)) (beside : S → Op
     pub stop_faults : (fault : CycleFault) (cycles : ℕ) (e : RunFault) (now next : States) (bytes : Bytes) (X : Type 0) → TakesNone remaining beside job primary secondary fault primary' secondary'
         → StopsWith fault cycles now next bytes e → ((file : OutputFile) → (now file).faults ≡ old (Writer file)) → ((file : OutputFile) → new (Writer file) ≡ (next file).faults)
         → FaultsAre {X = X} (Err e) given (input_of remaining primary').remaining others (input_of beside secondary').remaining old new
-    stop_faults (stops.Read file why) cycles e now next bytes X none (told, same) was is =
-        subst (λ (x : RunFault). FaultsAre {X = X} (Err x) given (input_of remaining primary').remaining others (input_of beside secondary').remaining old new) (sym told)
+    stop_faults (stops.Read file why) cycles e now next bytes X none (reported, same) was is =
+        subst (λ (x : RunFault). FaultsAre {X = X} (Err x) given (input_of remaining primary').remaining others (input_of beside secondary').remaining old new) (sym reported)
         (reading_faults file why X none (λ f. is f ∙ ap (λ (x : FileState). x.faults) (same f) ∙ was f))
-    stop_faults stops.NoMemory cycles e now next bytes X none (told, sends) was is =
+    stop_faults stops.NoMemory cycles e now next bytes X none (reported, sends) was is =
         let read = is_primary ∙ answered_faults remaining (job_needs_record job Primary) primary primary' none.0 ∙ was_primary in
         let read_too = is_secondary ∙ answered_faults beside (job_needs_record job Secondary) secondary secondary' none.1 ∙ was_secondary in
-        subst (λ (x : RunFault). FaultsAre {X = X} (Err x) given (input_of remaining primary').remaining others (input_of beside secondary').remaining old new) (sym told)
+        subst (λ (x : RunFault). FaultsAre {X = X} (Err x) given (input_of remaining primary').remaining others (input_of beside secondary').remaining old new) (sym reported)
         (wanting_faults now next bytes old new sends read read_too was is)
 
 -- a job that never began

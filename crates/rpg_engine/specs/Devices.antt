@@ -53,8 +53,8 @@ module _ {R S : Type 0} (remaining : R → Option (List ℕ)) (others : S → Op
       (device_counts old before) (device_counts new after)
 
   -- likewise for readers and writers that are lent to a call
-  abbrev pub TellsWhoseFault : {P D X : Type 0} → Lent (Readers R S) → Lent (Writers P D) → Result X RunFault → Type 0
-  TellsWhoseFault readers writers result = NamesFault readers.entry.now readers.exit.now writers.entry.now writers.exit.now result
+  abbrev pub ReportsWhoseFault : {P D X : Type 0} → Lent (Readers R S) → Lent (Writers P D) → Result X RunFault → Type 0
+  ReportsWhoseFault readers writers result = NamesFault readers.entry.now readers.exit.now writers.entry.now writers.exit.now result
 
 module _ {P D : Type 0} (contents : P → Option (List ℕ)) (stored : D → Option (List ℕ)) where
   -- what each file has
@@ -78,6 +78,6 @@ AreLentOn primary secondary =
     (primary.exit.now.reader.ghost_name ≡ primary.entry.now.reader.ghost_name) × (secondary.exit.now.reader.ghost_name ≡ secondary.entry.now.reader.ghost_name)
 
 -- the error names the device that is to blame, for record readers
-abbrev pub TellsWhoseFaultOf : {R S P D X : Type 0} → (R → Option (List ℕ)) → (S → Option (List ℕ)) → Lent (RecordReader R) → Lent (RecordReader S) → Lent (Writers P D) → Result X RunFault → Type 0
-TellsWhoseFaultOf remaining others primary secondary writers result =
+abbrev pub ReportsWhoseFaultOf : {R S P D X : Type 0} → (R → Option (List ℕ)) → (S → Option (List ℕ)) → Lent (RecordReader R) → Lent (RecordReader S) → Lent (Writers P D) → Result X RunFault → Type 0
+ReportsWhoseFaultOf remaining others primary secondary writers result =
     NamesFault remaining others (readers_of primary.entry.now secondary.entry.now) (readers_of primary.exit.now secondary.exit.now) writers.entry.now writers.exit.now result

@@ -22,26 +22,26 @@ MayRun object date = (p : Object) × (day : ℤ) × IsJobOf object date p day
 -- Bytes that aren't a program are reported by their first fault; a program that breaks a rule, by the lowest-numbered one and
 -- the first row that breaks it; with an accepted program, a date that isn't six digits is reported. Everything else is reported
 -- only for a job that may run; running out of memory, for any.
-abbrev pub IsToldOf : {X : Type 0} → Result X RunFault → List ℕ → List ℕ → Type 0
-IsToldOf (Ok x) object date = MayRun object date
-IsToldOf (Err (faults.Object fault)) object date = HasObjectFault fault object
-IsToldOf (Err faults.BadDate) object date = (p : Object) × SpellsProgram object p × IsAccepted p × (date_in date ≡ None)
-IsToldOf (Err (faults.Read file fault)) object date = MayRun object date
-IsToldOf (Err (faults.Write file sent)) object date = MayRun object date
-IsToldOf (Err (faults.NoMemory cycles)) object date = Unit {0}
+abbrev pub IsReportOf : {X : Type 0} → Result X RunFault → List ℕ → List ℕ → Type 0
+IsReportOf (Ok x) object date = MayRun object date
+IsReportOf (Err (faults.Object fault)) object date = HasObjectFault fault object
+IsReportOf (Err faults.BadDate) object date = (p : Object) × SpellsProgram object p × IsAccepted p × (date_in date ≡ None)
+IsReportOf (Err (faults.Read file fault)) object date = MayRun object date
+IsReportOf (Err (faults.Write file sent)) object date = MayRun object date
+IsReportOf (Err (faults.NoMemory cycles)) object date = Unit {0}
 
 -- the date is a valid one
 abbrev pub HasDay : List ℕ → Type 0
 HasDay date = (day : ℤ) × (date_in date ≡ Some day)
 
 -- The same for a program that is already accepted: no fault of an object is reported.
-abbrev pub IsToldOfDate : {X : Type 0} → Result X RunFault → List ℕ → Type 0
-IsToldOfDate (Ok x) date = HasDay date
-IsToldOfDate (Err (faults.Object fault)) date = ⊥
-IsToldOfDate (Err faults.BadDate) date = date_in date ≡ None
-IsToldOfDate (Err (faults.Read file fault)) date = HasDay date
-IsToldOfDate (Err (faults.Write file sent)) date = HasDay date
-IsToldOfDate (Err (faults.NoMemory cycles)) date = Unit {0}
+abbrev pub IsReportOfDate : {X : Type 0} → Result X RunFault → List ℕ → Type 0
+IsReportOfDate (Ok x) date = HasDay date
+IsReportOfDate (Err (faults.Object fault)) date = ⊥
+IsReportOfDate (Err faults.BadDate) date = date_in date ≡ None
+IsReportOfDate (Err (faults.Read file fault)) date = HasDay date
+IsReportOfDate (Err (faults.Write file sent)) date = HasDay date
+IsReportOfDate (Err (faults.NoMemory cycles)) date = Unit {0}
 
 -- a fault of the start, as it is reported
 abbrev pub start_fault : StartFault → RunFault

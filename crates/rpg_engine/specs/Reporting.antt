@@ -4,14 +4,14 @@ use Rattle.std.specs.Io.KnownBytes.{Appends}
 use Rattle.std.specs.declared.cmp.Ordering.{Ordering}
 use Rattle.std.specs.declared.cmp.Ordering.TheVariants.{Less, Equal, Greater}
 use Rattle.rpg_cycle.specs.Counting.{records_count}
-use Rattle.rpg_cycle.specs.Ends.{GoesOn}
+use Rattle.rpg_cycle.specs.Ends.{Continues}
 use Rattle.rpg_cycle.specs.Job.{first_fields}
 use Rattle.rpg_cycle.specs.Phases.{Cycle, UnderWay, begun, needs_record}
 use Rattle.rpg_cycle.specs.Runs.{Course, IsRun, Records, first_if_any, left_following, next_of}
 use Rattle.rpg_cycle.specs.Stages.{job_end}
 use Rattle.rpg_cycle.specs.Starting.{date_in, job_start}
 use Rattle.rpg_cycle_records.specs.Earlier.{Selected, with_record}
-use Rattle.rpg_cycle_records.specs.Identifying.{is_good_record}
+use Rattle.rpg_cycle_records.specs.Identifying.{is_valid_record}
 use Rattle.rpg_cycle_records.specs.Waiting.{Inputs, unread}
 use Rattle.rpg_cycle_safety.specs.Coming.{HasRun, RunsWell}
 use Rattle.rpg_program.specs.Put.{Bytes, disk_bytes}
@@ -86,17 +86,17 @@ SendsFirstParts p day e before after primary secondary =
 
 -- The given number of cycles of a run, after earlier records, went on one after another and output this; Then holds of what they led to:
 -- the earlier records, the remaining records, the configuration and the files.
-abbrev pub GoesOnFor : ℕ → Object → List Selected → Records → Config → Inputs → Output → (List Selected → Records → Config → Inputs → Type 0) → Type 0
-GoesOnFor zero p earlier rs c i out Then = (out ≡ no_output) × Then earlier rs c i
-GoesOnFor (suc n) p earlier rs c i out Then =
+abbrev pub ContinuesFor : ℕ → Object → List Selected → Records → Config → Inputs → Output → (List Selected → Records → Config → Inputs → Type 0) → Type 0
+ContinuesFor zero p earlier rs c i out Then = (out ≡ no_output) × Then earlier rs c i
+ContinuesFor (suc n) p earlier rs c i out Then =
     (d : UnderWay) × (first : Output) × (more : Output)
-    × Cycle p earlier (next_of (needs_record p c i Primary) rs.primary) (next_of (needs_record p c i Secondary) rs.secondary) (begun p c i) GoesOn d first
+    × Cycle p earlier (next_of (needs_record p c i Primary) rs.primary) (next_of (needs_record p c i Secondary) rs.secondary) (begun p c i) Continues d first
     × (out ≡ with_more first more)
-    × GoesOnFor n p (with_record d.selected earlier) (left_following p c i rs) d.config d.inputs more Then
+    × ContinuesFor n p (with_record d.selected earlier) (left_following p c i rs) d.config d.inputs more Then
 
 -- the given number of cycles of the run over the inputs' records
 abbrev pub WentOn : ℕ → Object → ℤ → (primary secondary : List ℕ) → Output → (List Selected → Records → Config → Inputs → Type 0) → Type 0
-WentOn cycles p day primary secondary out Then = GoesOnFor cycles p [] (records_of primary secondary) (job_start p day (first_fields p)) unread out Then
+WentOn cycles p day primary secondary out Then = ContinuesFor cycles p [] (records_of primary secondary) (job_start p day (first_fields p)) unread out Then
 
 -- ---- what the writers have
 
@@ -105,17 +105,17 @@ abbrev pub bytes_of : Output → Bytes
 bytes_of out = record { print = paper out.lines; disk = disk_bytes out.records }
 
 -- the given number of cycles of the run went on, and output these bytes
-abbrev pub IsPutOutBy : ℕ → Object → ℤ → (primary secondary : List ℕ) → Bytes → Type 0
-IsPutOutBy cycles p day primary secondary bytes = (out : Output) × WentOn cycles p day primary secondary out (λ earlier rs c i. Unit {0}) × (bytes ≡ bytes_of out)
+abbrev pub IsOutputBy : ℕ → Object → ℤ → (primary secondary : List ℕ) → Bytes → Type 0
+IsOutputBy cycles p day primary secondary bytes = (out : Output) × WentOn cycles p day primary secondary out (λ earlier rs c i. Unit {0}) × (bytes ≡ bytes_of out)
 
 -- these bytes had been output by the end of a cycle that went on
-abbrev pub IsPutOut : Object → ℤ → (primary secondary : List ℕ) → Bytes → Type 0
-IsPutOut p day primary secondary bytes = (cycles : ℕ) × IsPutOutBy cycles p day primary secondary bytes
+abbrev pub IsOutput : Object → ℤ → (primary secondary : List ℕ) → Bytes → Type 0
+IsOutput p day primary secondary bytes = (cycles : ℕ) × IsOutputBy cycles p day primary secondary bytes
 
 -- or by the end of the one that ended the job; if memory ran out, by the end of as many cycles as the fault reports
-abbrev pub MayBePutOut : RunFault → Object → ℤ → (primary secondary : List ℕ) → Bytes → Type 0
-MayBePutOut (faults.NoMemory cycles) p day primary secondary bytes = IsPutOutBy cycles p day primary secondary bytes
-MayBePutOut e p day primary secondary bytes = IsPutOut p day primary secondary bytes ⊎ ((course : Course) × IsRunOver p day primary secondary course bytes)
+abbrev pub MayBeOutput : RunFault → Object → ℤ → (primary secondary : List ℕ) → Bytes → Type 0
+MayBeOutput (faults.NoMemory cycles) p day primary secondary bytes = IsOutputBy cycles p day primary secondary bytes
+MayBeOutput e p day primary secondary bytes = IsOutput p day primary secondary bytes ⊎ ((course : Course) × IsRunOver p day primary secondary course bytes)
 
 -- what a file has of its bytes if a writer failed: all if it was sent before that one, `sent` bytes if it is that one, otherwise a prefix
 abbrev pub HasUpTo : Ordering → (sent : ℕ) → (before after : Option (List ℕ)) → List ℕ → Type 0
@@ -134,7 +134,7 @@ HasSent e none_failed before after bytes = Unit {0}
 pub record StopsOver (p : Object) (day : ℤ) (e : RunFault) (none_failed : Type 0) (before after : Contents) (primary secondary : List ℕ) : Type 0 where
   pub parts : SendsFirstParts p day e before after primary secondary
   pub bytes : Bytes
-  pub put_out : MayBePutOut e p day primary secondary bytes
+  pub write_line_out : MayBeOutput e p day primary secondary bytes
   pub sent : HasSent e none_failed before after bytes
 
 -- ---- a reader that failed
@@ -142,7 +142,7 @@ pub record StopsOver (p : Object) (day : ℤ) (e : RunFault) (none_failed : Type
 -- a record that no program accepts
 abbrev pub IsBad : Object → InputFile → Option (List ℕ) → Type 0
 IsBad p f None = ⊥
-IsBad p f (Some r) = is_good_record p f r ≡ false
+IsBad p f (Some r) = is_valid_record p f r ≡ false
 
 -- they are the same, or both are bad
 abbrev pub AreSameOrBad : Object → InputFile → Option (List ℕ) → Option (List ℕ) → Type 0
@@ -174,7 +174,7 @@ pub record NeedsRecord (p : Object) (day : ℤ) (file : InputFile) (fault : Read
   pub part : List ℕ
   pub known : Option (List ℕ)
   pub sent : HaveAll before after (bytes_of out)
-  pub goes_on : (more following : List ℕ) → CanFollow a.ended more → CanFollow b.ended following → WentOn cycles p day (a.read ++ more) (b.read ++ following) out
+  pub continues : (more following : List ℕ) → CanFollow a.ended more → CanFollow b.ended following → WentOn cycles p day (a.read ++ more) (b.read ++ following) out
       (λ earlier rs c i. WaitsFor p file fault (records_of (a.read ++ more) (b.read ++ following)) rs c i part (bytes_of_input file more following) known)
   pub longer : OfEach a b (λ primary secondary. (course : Course) (bytes : Bytes) → IsRunOver p day primary secondary course bytes → cycles < course.cycles)
 

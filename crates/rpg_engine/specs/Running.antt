@@ -5,7 +5,7 @@ use Rattle.rpg_files.specs.declared.counting.Counted.{Counted}
 use Rattle.rpg_program.specs.Object.{Object}
 use Rattle.rpg_engine.specs.Devices.{Lent, NoneFailed, OfRead, OfReaders, OfWriters, both}
 use Rattle.rpg_engine.specs.Objects.{SpellsProgram}
-use Rattle.rpg_engine.specs.Refusing.{IsJobOf, IsToldOf, IsToldOfDate, MayRun}
+use Rattle.rpg_engine.specs.Refusing.{IsJobOf, IsReportOf, IsReportOfDate, MayRun}
 use Rattle.rpg_engine.specs.Reporting.{JobEndsWell, Reports, SendsParts}
 use Rattle.rpg_engine.specs.declared.fault.RunFault.{RunFault}
 use Rattle.rpg_engine.specs.declared.files.Readers.{Readers}
@@ -35,7 +35,7 @@ module _ {R S P D : Type 0} (remaining : R → Option (List ℕ)) (others : S �
   -- what holds of the run of an accepted program on the day that a date spells
   pub record IsProgramRun (p : Object) (date : List ℕ) (old new : Readers R S) (before after : Writers P D) (result : Result Report RunFault) : Type 0 where
     -- A bad date is reported. Then nothing is read or written.
-    pub refused : IsToldOfDate result date
+    pub refused : IsReportOfDate result date
     pub untouched : date_in date ≡ None → (new ≡ old) × (after ≡ before)
     -- The secondary input is never read if the program has no such file.
     pub alone : p.secondary_length ≡ 0 → new.secondary ≡ old.secondary
@@ -44,7 +44,7 @@ module _ {R S P D : Type 0} (remaining : R → Option (List ℕ)) (others : S �
   -- what holds of the run of the program that an object's bytes spell
   pub record IsObjectRun (object date : List ℕ) (old new : Readers R S) (before after : Writers P D) (result : Result Report RunFault) : Type 0 where
     -- First the object is checked, then its rules, then the date. If one of them is wrong, nothing is read or written.
-    pub refused : IsToldOf result object date
+    pub refused : IsReportOf result object date
     pub untouched : (MayRun object date → ⊥) → (new ≡ old) × (after ≡ before)
     -- The secondary input is never read if the program has no such file.
     pub alone : (p : Object) → SpellsProgram object p → p.secondary_length ≡ 0 → new.secondary ≡ old.secondary

@@ -8,7 +8,7 @@ use Rattle.rpg_cycle_records.specs.Waiting.{input_at}
 use Rattle.rpg_program.specs.declared.input.InputFile.{InputFile}
 use Rattle.rpg_program.specs.declared.input.InputFile.TheVariants.{Primary, Secondary}
 use Rattle.rpg_files.specs.Counting.{faults_of}
-use Rattle.rpg_files.specs.Reading.{IsFresh, ReadsNext, answer_of, is_record, is_sure, reader_of, record_of}
+use Rattle.rpg_files.specs.Reading.{IsFresh, ReadsNext, answer_of, is_record, cannot_fail, reader_of, record_of}
 use Rattle.rpg_files.specs.declared.reader.Next.{Next}
 use Rattle.rpg_files.specs.declared.reader.Next.TheVariants as next
 use Rattle.rpg_files.specs.declared.reader.ReadFault.{ReadFault}
@@ -49,8 +49,8 @@ pub record IsNeedOf (need : Need) (job : AtWork) : Type 0 where
 abbrev pub StandsAfterRecord : {R : Type 0} → AtWork → InputFile → RecordReader R → Type 0
 StandsAfterRecord job f reader = (input_at job.inputs f).is_over ≡ false → is_record (answer_of reader) ≡ true
 
--- a reader can be asked for the record that a job's next cycle needs: it returned one last, and one more fault of it can be counted
-pub record CanBeAsked {R : Type 0} (job : AtWork) (f : InputFile) (reader : RecordReader R) : Type 0 where
+-- a reader can be read for the record that a job's next cycle needs: it returned one last, and one more fault of it can be counted
+pub record CanReadNext {R : Type 0} (job : AtWork) (f : InputFile) (reader : RecordReader R) : Type 0 where
   pub following : StandsAfterRecord job f reader
   pub faults : faults_of (reader_of reader) < 2 ^ 64 - 1
 
@@ -61,13 +61,13 @@ record_with reader next.Bad = Some (0 ∷ [])
 record_with reader next.End = None
 
 -- a reader returned its next record if that was needed; otherwise it wasn't read
-pub record Asks {R : Type 0} (remaining : R → Option (List ℕ)) (is_needed : Bool) (old : RecordReader R) (answer : Result Next ReadFault) (new : RecordReader R) : Type 0 where
+pub record ReadsIfNeeded {R : Type 0} (remaining : R → Option (List ℕ)) (is_needed : Bool) (old : RecordReader R) (answer : Result Next ReadFault) (new : RecordReader R) : Type 0 where
   pub needed : is_needed ≡ true → ReadsNext remaining old answer new × (answer_of new ≡ answer)
   pub unneeded : is_needed ≡ false → (answer ≡ Ok next.End) × (new ≡ old)
 
 -- a file can't fail if a record is needed from it, since the next record is certain
-abbrev pub IsSureWhereAsked : {R : Type 0} → Bool → RecordReader R → Type 0
-IsSureWhereAsked is_needed reader = is_needed ≡ true → is_sure reader ≡ true
+abbrev pub CannotFailWhereNeeded : {R : Type 0} → Bool → RecordReader R → Type 0
+CannotFailWhereNeeded is_needed reader = is_needed ≡ true → cannot_fail reader ≡ true
 
 -- a job did a cycle with these records, in no more steps than its program's bound, and continues or ended so
 pub record CyclesTo (job : AtWork) (primary secondary : Option (List ℕ)) (ended : Option JobEnd) (job' : AtWork) : Type 0 where
@@ -80,13 +80,13 @@ pub record TakesCycle {R S : Type 0} (remaining : R → Option (List ℕ)) (othe
     (ended : Option JobEnd) (job' : AtWork) (primary' : RecordReader R) (secondary' : RecordReader S) : Type 0 where
   pub first : Next
   pub second : Next
-  pub asks_primary : Asks remaining (job_needs_record job Primary) primary (Ok first) primary'
-  pub asks_secondary : Asks others (job_needs_record job Secondary) secondary (Ok second) secondary'
+  pub reads_primary : ReadsIfNeeded remaining (job_needs_record job Primary) primary (Ok first) primary'
+  pub reads_secondary : ReadsIfNeeded others (job_needs_record job Secondary) secondary (Ok second) secondary'
   pub cycle : CyclesTo job (record_with primary' first) (record_with secondary' second) ended job'
 
 -- a reader was read if needed, and returned an answer
 abbrev pub HasAnswered : {R : Type 0} → (R → Option (List ℕ)) → Bool → RecordReader R → RecordReader R → Type 0
-HasAnswered remaining is_needed old new = (answer : Next) × Asks remaining is_needed old (Ok answer) new
+HasAnswered remaining is_needed old new = (answer : Next) × ReadsIfNeeded remaining is_needed old (Ok answer) new
 
 -- a reader whose record was needed failed
 abbrev pub FailsToRead : {R : Type 0} → (R → Option (List ℕ)) → Bool → ReadFault → RecordReader R → RecordReader R → Type 0

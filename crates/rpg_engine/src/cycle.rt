@@ -9,7 +9,7 @@ ghost use Rattle.rpg_program.specs.declared.input.InputFile.TheVariants as files
 ghost use Rattle.rpg_files.specs.Counting.{faults_of};
 ghost use Rattle.rpg_files.specs.Reading.{answer_of, is_record, reader_of};
 ghost use Rattle.rpg_engine.specs.Devices.{AreLentOn};
-ghost use Rattle.rpg_engine.specs.Streaming.{Asks, CanBeAsked, CyclesTo, IsNeedOf, IsSureWhereAsked, TakesCycle, TakesNone, record_with};
+ghost use Rattle.rpg_engine.specs.Streaming.{ReadsIfNeeded, CanReadNext, CyclesTo, IsNeedOf, CannotFailWhereNeeded, TakesCycle, TakesNone, record_with};
 ghost use Rattle.rpg_engine.specs.declared.fault.CycleFault.TheVariants as stops;
 
 use crate::fault::CycleFault;
@@ -37,7 +37,7 @@ fn cycle_with<S: Store + Drop>(
     ensures grows { OnlyGrows job.old.output job.new.output }
 {
     match job.cycle_with_seen(primary, secondary, seen)? {
-        CycleEnd::GoesOn => Ok(None),
+        CycleEnd::Continues => Ok(None),
         CycleEnd::EndOfJob => Ok(Some(JobEnd::EndOfJob)),
         CycleEnd::Halt(halt) => Ok(Some(JobEnd::Halt(halt))),
         CycleEnd::Failed => Err(CycleFault::NoMemory),
@@ -45,12 +45,15 @@ fn cycle_with<S: Store + Drop>(
 }
 
 /// Reads the next record of a file if it is needed; otherwise reads nothing.
-fn ask<R: Read>(records: &mut RecordReader<'_, R>, is_needed: bool) -> Result<Next, ReadFault>
+fn read_if_needed<R: Read>(
+    records: &mut RecordReader<'_, R>,
+    is_needed: bool,
+) -> Result<Next, ReadFault>
     requires faults { faults_of (reader_of records.old) < 2 ^ 64 - 1 }
     requires stands_after_record { is_needed ≡ true → is_record (answer_of records.old) ≡ true }
     ensures same_reader { records.new.reader.ghost_name ≡ records.old.reader.ghost_name }
-    ensures asks { Asks R.remaining is_needed records.old result records.new }
-    ensures sure { IsSureWhereAsked is_needed records.old → IsOk result }
+    ensures asks { ReadsIfNeeded R.remaining is_needed records.old result records.new }
+    ensures sure { CannotFailWhereNeeded is_needed records.old → IsOk result }
 {
     if is_needed {
         records.next()
@@ -87,16 +90,16 @@ pub(crate) fn next_cycle<S: Store + Drop, R1: Read, R2: Read>(
 ) -> Result<Option<JobEnd>, CycleFault>
     requires going { is_going job.old.stage ≡ true }
     requires needs { IsNeedOf need job.old }
-    requires primary { CanBeAsked job.old files.Primary primary.old }
-    requires secondary { CanBeAsked job.old files.Secondary secondary.old }
+    requires primary { CanReadNext job.old files.Primary primary.old }
+    requires secondary { CanReadNext job.old files.Secondary secondary.old }
     ensures same { AreLentOn primary secondary }
     ensures alone { job.old.program.secondary_length ≡ 0 → secondary.new ≡ secondary.old }
     ensures cycle { IfOk result (λ e. TakesCycle R1.remaining R2.remaining job.old primary.old secondary.old e job.new primary.new secondary.new) }
     ensures none { IfErr result (λ e. TakesNone R1.remaining R2.remaining job.old primary.old secondary.old e primary.new secondary.new) }
-    ensures sure { IsSureWhereAsked need.primary primary.old → IsSureWhereAsked need.secondary secondary.old → IfErr result (λ e. e ≡ stops.NoMemory) }
+    ensures sure { CannotFailWhereNeeded need.primary primary.old → CannotFailWhereNeeded need.secondary secondary.old → IfErr result (λ e. e ≡ stops.NoMemory) }
     ensures grows { OnlyGrows job.old.output job.new.output }
 {
-    let first = match ask(primary, need.primary) {
+    let first = match read_if_needed(primary, need.primary) {
         Ok(next) => next,
         Err(fault) => {
             return Err(CycleFault::Read {
@@ -105,7 +108,7 @@ pub(crate) fn next_cycle<S: Store + Drop, R1: Read, R2: Read>(
             });
         }
     };
-    let second = match ask(secondary, need.secondary) {
+    let second = match read_if_needed(secondary, need.secondary) {
         Ok(next) => next,
         Err(fault) => {
             return Err(CycleFault::Read {

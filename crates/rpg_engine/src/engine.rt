@@ -4,7 +4,7 @@ ghost use Rattle.std.specs.Prelude.{◌≡◌, IfOk, IsErrOf, None};
 ghost use Rattle.rpg_cycle.specs.Job.{Starts, first_fields};
 ghost use Rattle.rpg_cycle.specs.Starting.{date_in};
 ghost use Rattle.rpg_program.specs.Object.{Object};
-ghost use Rattle.rpg_engine.specs.Devices.{CanCountFaults, NamesFault, TellsWhoseFault, both};
+ghost use Rattle.rpg_engine.specs.Devices.{CanCountFaults, NamesFault, ReportsWhoseFault, both};
 ghost use Rattle.rpg_engine.specs.Reporting.{EachRunEndsWell, HasRunOnAnyDay};
 ghost use Rattle.rpg_engine.specs.Running.{RunsObject, RunsProgram, RunsProgramOver};
 
@@ -99,7 +99,7 @@ pub fn watch_program<R1: Read, R2: Read, W1: Write, W2: Write, W: Watcher>(
 ) -> Result<Report, RunFault>
     requires { CanCountFaults readers.old writers.old }
     ensures runs { RunsProgram R1.remaining R2.remaining W1.contents W2.contents program.now date.now readers writers result }
-    ensures faults { TellsWhoseFault R1.remaining R2.remaining readers writers result }
+    ensures faults { ReportsWhoseFault R1.remaining R2.remaining readers writers result }
 {
     run_through_files(
         alloc,
@@ -122,7 +122,7 @@ pub fn execute_program<R1: Read, R2: Read, W1: Write, W2: Write>(
 ) -> Result<Report, RunFault>
     requires { CanCountFaults readers.old writers.old }
     ensures runs { RunsProgram R1.remaining R2.remaining W1.contents W2.contents program.now date.now readers writers result }
-    ensures faults { TellsWhoseFault R1.remaining R2.remaining readers writers result }
+    ensures faults { ReportsWhoseFault R1.remaining R2.remaining readers writers result }
 {
     let mut watcher = Unwatched;
     watch_program(alloc, program, date, readers, writers, &mut watcher)
@@ -138,7 +138,7 @@ pub fn execute<R1: Read, R2: Read, W1: Write, W2: Write>(
 ) -> Result<Report, RunFault>
     requires { CanCountFaults readers.old writers.old }
     ensures runs { RunsObject R1.remaining R2.remaining W1.contents W2.contents object.now date.now readers writers result }
-    ensures faults { TellsWhoseFault R1.remaining R2.remaining readers writers result }
+    ensures faults { ReportsWhoseFault R1.remaining R2.remaining readers writers result }
 {
     runs_end_well();
     let program = accepted_object(alloc, object)?;

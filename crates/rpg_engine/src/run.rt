@@ -2,7 +2,7 @@
 
 ghost use Rattle.std.specs.Prelude.{◌≡◌, IfErr, IfOk};
 ghost use Rattle.rpg_verify.specs.Bound as words;
-ghost use Rattle.rpg_engine.specs.Devices.{AreLentOn, CanCountFaults, TellsWhoseFaultOf, readers_of};
+ghost use Rattle.rpg_engine.specs.Devices.{AreLentOn, CanCountFaults, ReportsWhoseFaultOf, readers_of};
 ghost use Rattle.rpg_engine.specs.Streaming.{IsUnbegun, IsRunFault, ReportsFrom, StopsFrom};
 
 use crate::cycle::next_cycle;
@@ -36,7 +36,7 @@ pub(crate) fn run<S: Store + Drop, R1: Read, R2: Read, W1: Write, W2: Write, W: 
     ensures report { IfOk result (ReportsFrom R1.remaining R2.remaining W1.contents W2.contents job.old primary secondary writers) }
     ensures early { IfErr result (StopsFrom R1.remaining R2.remaining W1.contents W2.contents job.old primary secondary writers) }
     ensures only { IfErr result IsRunFault }
-    ensures faults { TellsWhoseFaultOf R1.remaining R2.remaining primary secondary writers result }
+    ensures faults { ReportsWhoseFaultOf R1.remaining R2.remaining primary secondary writers result }
 {
     let enough = enough_for(watcher);
     watcher.begin(job);

@@ -5,7 +5,7 @@ ghost use Rattle.rpg_machine.specs.Running.{no_bytes};
 ghost use Rattle.rpg_files.specs.Counting.{faults_of};
 ghost use Rattle.rpg_engine.specs.Outputs.{bytes_with};
 ghost use Rattle.rpg_engine.specs.Sending.{CanSend, SendsTo, SendsToFile, SendsUnlessTo, SendsWaitingTo, StopsWithTo, state_of, waiting_bytes};
-ghost use Rattle.rpg_engine.specs.Streaming.{IsSureWhereAsked};
+ghost use Rattle.rpg_engine.specs.Streaming.{CannotFailWhereNeeded};
 
 use crate::fault::{CycleFault, RunFault};
 use crate::files::{OutputFile, Writers};
@@ -103,10 +103,10 @@ fn send_waiting<S: Store + Drop, W1: Write, W2: Write>(
 
 /// Whether reading a file can't fail in the next cycle: no record of it is needed, or its reader's buffer suffices.
 #[inline(always)]
-fn is_sure<R: Read>(records: &RecordReader<'_, R>, is_needed: bool) -> bool
-    ensures { result ≡ true → IsSureWhereAsked is_needed records.now }
+fn cannot_fail<R: Read>(records: &RecordReader<'_, R>, is_needed: bool) -> bool
+    ensures { result ≡ true → CannotFailWhereNeeded is_needed records.now }
 {
-    !is_needed || records.is_sure()
+    !is_needed || records.cannot_fail()
 }
 
 /// Sends the buffered output if a reader may fail in the next cycle. So all earlier output is sent before that fault is reported, and no
@@ -122,9 +122,9 @@ pub(crate) fn send_before_reading<S: Store + Drop, R1: Read, R2: Read, W1: Write
 ) -> Result<(), RunFault>
     requires ready { CanSend writers.old sent.old }
     ensures sends { SendsWaitingTo W1.contents W2.contents result job.old job.new writers sent }
-    ensures ready { OnOk result ((job.new.output ≡ no_bytes) ⊎ (IsSureWhereAsked need.primary primary.now × IsSureWhereAsked need.secondary secondary.now)) }
+    ensures ready { OnOk result ((job.new.output ≡ no_bytes) ⊎ (CannotFailWhereNeeded need.primary primary.now × CannotFailWhereNeeded need.secondary secondary.now)) }
 {
-    if is_sure(primary, need.primary) && is_sure(secondary, need.secondary) {
+    if cannot_fail(primary, need.primary) && cannot_fail(secondary, need.secondary) {
         return Ok(());
     }
     send_waiting(job, writers, sent)
@@ -178,7 +178,7 @@ fn send_or_leave<W1: Write, W2: Write>(
     requires ready { CanSend writers.old sent }
     ensures { SendsUnlessTo W1.contents W2.contents writers sent (bytes_with lines.now records.now) }
 {
-    let _told = send_both(writers, lines, records, &mut sent);
+    let _reported = send_both(writers, lines, records, &mut sent);
 }
 
 /// Returns the fault to report after `cycles` complete cycles. If memory ran out, what was buffered before that cycle is still sent, and a

@@ -6,4 +6,4 @@ pub mod Numbering
 pub mod OpenTypes
 pub mod Ordering
 pub mod TypeLemmas
-mod ToldLemmas
+mod ReportedLemmas

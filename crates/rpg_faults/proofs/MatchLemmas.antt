@@ -18,8 +18,8 @@ use Rattle.rpg_cards.specs.declared.spec_card.SpecCard.{SpecCard}
 use Rattle.rpg_faults.proofs.LevelLemmas.{item_at, set_level}
 use Rattle.rpg_faults.proofs.OpenTypes.{open_apart, open_follower, open_heading, type_group, types_before, types_other, types_with}
 use Rattle.rpg_faults.specs.Lengths.{input_specs_in}
-use Rattle.rpg_faults.specs.Matches.{AreGood, AreMatches, AreWith, first_of_types, has_match_level, matches_of}
-use Rattle.rpg_faults.specs.Places.{first_good_matches, good_matches, has_bad, has_twice, input_columns, levels, matched_fields, match_lengths, passes_matches, repeats}
+use Rattle.rpg_faults.specs.Matches.{AreValid, AreMatches, AreWith, first_of_types, has_match_level, matches_of}
+use Rattle.rpg_faults.specs.Places.{first_valid_matches, valid_matches, has_bad, has_twice, input_columns, levels, matched_fields, match_lengths, passes_matches, repeats}
 use Rattle.rpg_faults.specs.declared.matches.Matches.{Matches}
 use Rattle.rpg_faults.specs.declared.matches.OpenMatches.{OpenMatches}
 use Rattle.rpg_sheet_specs.specs.declared.indicator.Three.{Three}
@@ -84,10 +84,10 @@ match_lengths-push fs f n at low high none = set_level (length_at fs) (length_at
         let own = length_at-one level f false (at_other level n f at other) in
         omega arith
 
--- ---- where all columns are good, a level has a length exactly where it is there
+-- ---- where all columns are valid, a level has a length exactly where it is there
 
 bad_first : (f : InputFieldSpec) (fs : List InputFieldSpec) → has_bad (f ∷ fs) ≡ false → (has_bad fs ≡ false) × (input_columns f ≢ 0)
-bad_first f fs good = by (input_columns f == 0) refl good
+bad_first f fs valid = by (input_columns f == 0) refl valid
   where
     by : (b : Bool) → (input_columns f == 0) ≡ b → (b || has_bad fs) ≡ false → (has_bad fs ≡ false) × (input_columns f ≢ 0)
     by true e h = cc
@@ -102,11 +102,11 @@ length_none level (f ∷ fs) none = by (is_at match_level level f) refl none (le
     by false e h rest = ap (λ b. sum_by input_columns (cond b (f ∷ filter (is_at match_level level) fs) (filter (is_at match_level level) fs))) e ∙ rest h
 
 length_some : (level : ℕ) (fs : List InputFieldSpec) → has_bad fs ≡ false → has_match_level fs level ≡ true → length_at fs level ≢ 0
-length_some level [] good is = cc
-length_some level (f ∷ fs) good is = by (is_at match_level level f) refl is (length_some level fs (bad_first f fs good).0)
+length_some level [] valid is = cc
+length_some level (f ∷ fs) valid is = by (is_at match_level level f) refl is (length_some level fs (bad_first f fs valid).0)
   where
     first : (has_bad fs ≡ false) × (input_columns f ≢ 0)
-    first = bad_first f fs good
+    first = bad_first f fs valid
 
     by : (b : Bool) → is_at match_level level f ≡ b → (b || has_match_level fs level) ≡ true → (has_match_level fs level ≡ true → length_at fs level ≢ 0) → length_at (f ∷ fs) level ≢ 0
     by true e h rest = λ zero.
@@ -117,10 +117,10 @@ length_some level (f ∷ fs) good is = by (is_at match_level level f) refl is (l
 
 -- a level without a length isn't there
 pub level_free : (level : ℕ) (fs : List InputFieldSpec) → has_bad fs ≡ false → length_at fs level ≡ 0 → has_match_level fs level ≡ false
-level_free level fs good none = by (has_match_level fs level) refl
+level_free level fs valid none = by (has_match_level fs level) refl
   where
     by : (b : Bool) → has_match_level fs level ≡ b → b ≡ false
-    by true e = let some = length_some level fs good e in absurd (some none)
+    by true e = let some = length_some level fs valid e in absurd (some none)
     by false e = refl
 
 pub level_taken : (level : ℕ) (fs : List InputFieldSpec) → length_at fs level ≢ 0 → has_match_level fs level ≡ true
@@ -276,19 +276,19 @@ not_refused fs f none =
 
 -- ---- a type's match fields, one by one
 
-good_cons : (f : InputFieldSpec) (fs : List InputFieldSpec) → has_bad (f ∷ fs) ≡ false → has_twice (f ∷ fs) ≡ false → good_matches (f ∷ fs) ≡ Some (match_lengths (f ∷ fs))
-good_cons f fs good once =
-    ap (λ b. cond (b || has_twice (f ∷ fs)) None (Some (match_lengths (f ∷ fs)))) good ∙ ap (λ b. cond b None (Some (match_lengths (f ∷ fs)))) once
+valid_cons : (f : InputFieldSpec) (fs : List InputFieldSpec) → has_bad (f ∷ fs) ≡ false → has_twice (f ∷ fs) ≡ false → valid_matches (f ∷ fs) ≡ Some (match_lengths (f ∷ fs))
+valid_cons f fs valid once =
+    ap (λ b. cond (b || has_twice (f ∷ fs)) None (Some (match_lengths (f ∷ fs)))) valid ∙ ap (λ b. cond b None (Some (match_lengths (f ∷ fs)))) once
 
-good_push : (fs : List InputFieldSpec) (f : InputFieldSpec) → has_bad (fs ++ f ∷ []) ≡ false → has_twice (fs ++ f ∷ []) ≡ false → good_matches (fs ++ f ∷ []) ≡ Some (match_lengths (fs ++ f ∷ []))
-good_push [] f good once = good_cons f [] good once
-good_push (x ∷ xs) f good once = good_cons x (xs ++ f ∷ []) good once
+valid_push : (fs : List InputFieldSpec) (f : InputFieldSpec) → has_bad (fs ++ f ∷ []) ≡ false → has_twice (fs ++ f ∷ []) ≡ false → valid_matches (fs ++ f ∷ []) ≡ Some (match_lengths (fs ++ f ∷ []))
+valid_push [] f valid once = valid_cons f [] valid once
+valid_push (x ∷ xs) f valid once = valid_cons x (xs ++ f ∷ []) valid once
 
-bad_none : (fs : List InputFieldSpec) → has_bad fs ≡ true → good_matches fs ≡ None
+bad_none : (fs : List InputFieldSpec) → has_bad fs ≡ true → valid_matches fs ≡ None
 bad_none [] is = refl
 bad_none (f ∷ fs) is = ap (λ b. cond (b || has_twice (f ∷ fs)) None (Some (match_lengths (f ∷ fs)))) is
 
-twice_none : (fs : List InputFieldSpec) → has_twice fs ≡ true → good_matches fs ≡ None
+twice_none : (fs : List InputFieldSpec) → has_twice fs ≡ true → valid_matches fs ≡ None
 twice_none [] is = refl
 twice_none (f ∷ fs) is = ap (λ b. cond (has_bad (f ∷ fs) || b) None (Some (match_lengths (f ∷ fs)))) is ∙ ap (λ b. cond b None (Some (match_lengths (f ∷ fs)))) (or_true (has_bad (f ∷ fs)))
 
@@ -296,14 +296,14 @@ nine_zeros : 0 ∷ 0 ∷ 0 ∷ 0 ∷ 0 ∷ 0 ∷ 0 ∷ 0 ∷ 0 ∷ [] ≡ match_
 unfolding levels
 nine_zeros = refl
 
-lengths_so_far : (fs : List InputFieldSpec) (found : Option (List ℕ)) → AreGood fs found → unwrap_or found (0 ∷ 0 ∷ 0 ∷ 0 ∷ 0 ∷ 0 ∷ 0 ∷ 0 ∷ 0 ∷ []) ≡ match_lengths fs
-lengths_so_far [] found good = ap (λ o. unwrap_or o (0 ∷ 0 ∷ 0 ∷ 0 ∷ 0 ∷ 0 ∷ 0 ∷ 0 ∷ 0 ∷ [])) good.lengths ∙ nine_zeros
-lengths_so_far (f ∷ fs) found good = ap (λ o. unwrap_or o (0 ∷ 0 ∷ 0 ∷ 0 ∷ 0 ∷ 0 ∷ 0 ∷ 0 ∷ 0 ∷ [])) (good.lengths ∙ good_cons f fs good.columns good.once)
+lengths_so_far : (fs : List InputFieldSpec) (found : Option (List ℕ)) → AreValid fs found → unwrap_or found (0 ∷ 0 ∷ 0 ∷ 0 ∷ 0 ∷ 0 ∷ 0 ∷ 0 ∷ 0 ∷ []) ≡ match_lengths fs
+lengths_so_far [] found valid = ap (λ o. unwrap_or o (0 ∷ 0 ∷ 0 ∷ 0 ∷ 0 ∷ 0 ∷ 0 ∷ 0 ∷ 0 ∷ [])) valid.lengths ∙ nine_zeros
+lengths_so_far (f ∷ fs) found valid = ap (λ o. unwrap_or o (0 ∷ 0 ∷ 0 ∷ 0 ∷ 0 ∷ 0 ∷ 0 ∷ 0 ∷ 0 ∷ [])) (valid.lengths ∙ valid_cons f fs valid.columns valid.once)
 
-module _ (fs : List InputFieldSpec) (f : InputFieldSpec) (found : Option (List ℕ)) (lengths : List ℕ) (n columns : ℕ) (good : AreGood fs found)
+module _ (fs : List InputFieldSpec) (f : InputFieldSpec) (found : Option (List ℕ)) (lengths : List ℕ) (n columns : ℕ) (valid : AreValid fs found)
     (are : lengths ≡ unwrap_or found (0 ∷ 0 ∷ 0 ∷ 0 ∷ 0 ∷ 0 ∷ 0 ∷ 0 ∷ 0 ∷ [])) (at : f.match_level ≡ Some n) (low : 1 ≤ n) (high : n ≤ 9) (of : columns ≡ input_columns f) where
   length_is : get_or lengths (n - 1) 0 ≡ length_at fs n
-  length_is = ap (λ ls. get_or ls (n - 1) 0) (are ∙ lengths_so_far fs found good) ∙ item_at (length_at fs) n 0 low high
+  length_is = ap (λ ls. get_or ls (n - 1) 0) (are ∙ lengths_so_far fs found valid) ∙ item_at (length_at fs) n 0 low high
 
   pub without_columns : columns ≡ 0 → AreWith fs f None
   without_columns zero = λ rest.
@@ -319,24 +319,24 @@ module _ (fs : List InputFieldSpec) (f : InputFieldSpec) (found : Option (List �
 
   pub with_free : columns ≢ 0 → get_or lengths (n - 1) 0 ≡ 0 → AreWith fs f (Some (set lengths (n - 1) columns))
   with_free some none = record {
-    columns = still_good;
+    columns = still_valid;
     once = still_once;
-    lengths = ap (λ ls. Some ls) (ap (λ ls. set ls (n - 1) columns) (are ∙ lengths_so_far fs found good) ∙ ap (λ k. set (match_lengths fs) (n - 1) k) of ∙ match_lengths-push fs f n at low high zero)
-        ∙ sym (good_push fs f still_good still_once);
+    lengths = ap (λ ls. Some ls) (ap (λ ls. set ls (n - 1) columns) (are ∙ lengths_so_far fs found valid) ∙ ap (λ k. set (match_lengths fs) (n - 1) k) of ∙ match_lengths-push fs f n at low high zero)
+        ∙ sym (valid_push fs f still_valid still_once);
   }
     where
       zero : length_at fs n ≡ 0
       zero = sym length_is ∙ none
 
-      still_good : has_bad (fs ++ f ∷ []) ≡ false
-      still_good =
+      still_valid : has_bad (fs ++ f ∷ []) ≡ false
+      still_valid =
           let here : (input_columns f == 0) ≡ false = ne_eqb (input_columns f) 0 (λ e. some (of ∙ e)) in
-          list_any-append (λ f. input_columns f == 0) fs (f ∷ []) ∙ ap (λ b. b || ((input_columns f == 0) || false)) good.columns ∙ ap (λ b. b || false) here
+          list_any-append (λ f. input_columns f == 0) fs (f ∷ []) ∙ ap (λ b. b || ((input_columns f == 0) || false)) valid.columns ∙ ap (λ b. b || false) here
 
       still_once : has_twice (fs ++ f ∷ []) ≡ false
-      still_once = has_twice-push fs f ∙ ap (λ b. b || repeats fs f) good.once ∙ repeats_at fs f n at ∙ level_free n fs good.columns zero
+      still_once = has_twice-push fs f ∙ ap (λ b. b || repeats fs f) valid.once ∙ repeats_at fs f n at ∙ level_free n fs valid.columns zero
 
-pub none_so_far : AreGood [] None
+pub none_so_far : AreValid [] None
 none_so_far = record { columns = refl; once = refl; lengths = refl }
 
 -- ---- up to the next type
@@ -344,8 +344,8 @@ none_so_far = record { columns = refl; once = refl; lengths = refl }
 abbrev pub matched : List SpecCard → List InputFieldSpec
 matched cards = matched_fields (followers input_role cards)
 
-pub matched_none : (fs : List InputFieldSpec) (found : Option (List ℕ)) → AreGood fs found → found ≡ good_matches (fs ++ matched [])
-matched_none fs found good = good.lengths ∙ ap good_matches (sym (append-nil fs))
+pub matched_none : (fs : List InputFieldSpec) (found : Option (List ℕ)) → AreValid fs found → found ≡ valid_matches (fs ++ matched [])
+matched_none fs found valid = valid.lengths ∙ ap valid_matches (sym (append-nil fs))
 
 pub no_cards : (cards : List SpecCard) → length cards ≡ 0 → cards ≡ []
 no_cards [] none = refl
@@ -355,8 +355,8 @@ module _ (fs : List InputFieldSpec) (c : SpecCard) (rest : List SpecCard) where
   of_role : (r : Role RecordType InputSpec) → input_role c.spec ≡ r → matched (c ∷ rest) ≡ matched_fields (followers_with r (followers input_role rest))
   of_role r is = ap (λ (r : Role RecordType InputSpec). matched_fields (followers_with r (followers input_role rest))) is
 
-  pub matched_type : (t : RecordType) (found : Option (List ℕ)) → input_role c.spec ≡ Heading t t.file → AreGood fs found → found ≡ good_matches (fs ++ matched (c ∷ rest))
-  matched_type t found is good = good.lengths ∙ ap good_matches (sym (ap (λ xs. fs ++ xs) (of_role (Heading t t.file) is) ∙ append-nil fs))
+  pub matched_type : (t : RecordType) (found : Option (List ℕ)) → input_role c.spec ≡ Heading t t.file → AreValid fs found → found ≡ valid_matches (fs ++ matched (c ∷ rest))
+  matched_type t found is valid = valid.lengths ∙ ap valid_matches (sym (ap (λ xs. fs ++ xs) (of_role (Heading t t.file) is) ∙ append-nil fs))
 
   pub matched_field : (f : InputFieldSpec) (n : ℕ) → input_role c.spec ≡ Follower (input.Field f) → f.match_level ≡ Some n → fs ++ matched (c ∷ rest) ≡ fs ++ f ∷ matched rest
   matched_field f n is at = ap (λ xs. fs ++ xs) (of_role (Follower (input.Field f)) is ∙ match_field-one f n (followers input_role rest) at)
@@ -380,23 +380,23 @@ or_none : {X : Type 0} (a : Option X) → option_or a None ≡ a
 or_none None = refl
 or_none (Some x) = refl
 
-first_matches-push : (gs : List (Group RecordType InputSpec)) (g : Group RecordType InputSpec) → first_good_matches (gs ++ g ∷ []) ≡ option_or (first_good_matches gs) (good_matches (matched_fields g.followers))
-first_matches-push [] g = or_none (good_matches (matched_fields g.followers))
-first_matches-push (x ∷ xs) g = ap (option_or (good_matches (matched_fields x.followers))) (first_matches-push xs g) ∙ or_or (good_matches (matched_fields x.followers)) (first_good_matches xs) (good_matches (matched_fields g.followers))
+first_matches-push : (gs : List (Group RecordType InputSpec)) (g : Group RecordType InputSpec) → first_valid_matches (gs ++ g ∷ []) ≡ option_or (first_valid_matches gs) (valid_matches (matched_fields g.followers))
+first_matches-push [] g = or_none (valid_matches (matched_fields g.followers))
+first_matches-push (x ∷ xs) g = ap (option_or (valid_matches (matched_fields x.followers))) (first_matches-push xs g) ∙ or_or (valid_matches (matched_fields x.followers)) (first_valid_matches xs) (valid_matches (matched_fields g.followers))
 
 module _ (before : List SpecCard) (c : SpecCard) (after : List SpecCard) (m : Matches) (was : AreMatches (before ++ c ∷ after) before m) where
-  pub first_is : (t : RecordType) → input_role c.spec ≡ Heading t t.file → m.first ≡ first_good_matches (groups input_role before)
-  first_is t is = was.first ∙ ap first_good_matches (types_before before c after t is)
+  pub first_is : (t : RecordType) → input_role c.spec ≡ Heading t t.file → m.first ≡ first_valid_matches (groups input_role before)
+  first_is t is = was.first ∙ ap first_valid_matches (types_before before c after t is)
 
-  pub all_with_type : (t : RecordType) (first : Option (List ℕ)) → input_role c.spec ≡ Heading t t.file → first ≡ option_or m.first (good_matches (matched_fields (followers input_role after)))
+  pub all_with_type : (t : RecordType) (first : Option (List ℕ)) → input_role c.spec ≡ Heading t t.file → first ≡ option_or m.first (valid_matches (matched_fields (followers input_role after)))
       → AreMatches (before ++ c ∷ after) (before ++ c ∷ []) (record { first = first; open_type = Some (record { levels = false ∷ false ∷ false ∷ false ∷ false ∷ false ∷ false ∷ false ∷ false ∷ []; length = 0 }) })
   all_with_type t first is made = record {
-    first = made ∙ ap (λ o. option_or o (good_matches (matched_fields (followers input_role after)))) (first_is t is) ∙ sym (ap first_good_matches (types_with before c after t is) ∙ first_matches-push (groups input_role before) (type_group before c after t));
+    first = made ∙ ap (λ o. option_or o (valid_matches (matched_fields (followers input_role after)))) (first_is t is) ∙ sym (ap first_valid_matches (types_with before c after t is) ∙ first_matches-push (groups input_role before) (type_group before c after t));
     open_type = ap (λ (x : OpenMatches). Some x) no_matches ∙ sym (open_heading before c after matches_of t is);
   }
 
   first_other : (r : Role RecordType InputSpec) → input_role c.spec ≡ r → one_if_heading r ≡ 0 → m.first ≡ first_of_types (before ++ c ∷ after) (before ++ c ∷ [])
-  first_other r is none = was.first ∙ sym (ap first_good_matches (types_other before c after (ap (λ (r : Role RecordType InputSpec). one_if_heading r) is ∙ none)))
+  first_other r is none = was.first ∙ sym (ap first_valid_matches (types_other before c after (ap (λ (r : Role RecordType InputSpec). one_if_heading r) is ∙ none)))
 
   pub all_with_field : (f : InputFieldSpec) (new : Option OpenMatches) → input_role c.spec ≡ Follower (input.Field f)
       → ((specs : Option (List InputSpec)) → m.open_type ≡ option_map matches_of specs → new ≡ option_map (λ fs. matches_of (fs ++ input.Field f ∷ [])) specs)

@@ -13,8 +13,8 @@ module _ {X : Type 0} (Kept : List SpecCard → List SpecCard → X → Type 0) 
   AddsCard c after old new = (before : List SpecCard) → Kept (before ++ c ∷ after) before old → Kept (before ++ c ∷ after) (before ++ c ∷ []) new
 
   -- it determines whether an input card breaks a rule
-  abbrev pub TellsInput : (List SpecCard → List SpecCard → InputSpec → Bool) → SpecCard → List SpecCard → X → Bool → Type 0
-  TellsInput breaks c after kept answer = (before : List SpecCard) → Kept (before ++ c ∷ after) before kept → answer ≡ option_map_or (breaks before after) (input_on c.spec) false
+  abbrev pub DetectsInput : (List SpecCard → List SpecCard → InputSpec → Bool) → SpecCard → List SpecCard → X → Bool → Type 0
+  DetectsInput breaks c after kept answer = (before : List SpecCard) → Kept (before ++ c ∷ after) before kept → answer ≡ option_map_or (breaks before after) (input_on c.spec) false
 
 -- what is kept of the open type, with one more field
 abbrev pub AddsField : {X : Type 0} → (List InputSpec → X) → InputFieldSpec → Option X → Option X → Type 0

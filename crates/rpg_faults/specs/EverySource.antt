@@ -3,7 +3,7 @@ use Rattle.std.specs.Prelude.{◌≡◌, ℕ, List, Option, MatchOption, map}
 use Rattle.rpg_cards.specs.declared.spec_card.SpecCard.{SpecCard}
 use Rattle.rpg_faults.specs.Cards.{numbered_cards}
 use Rattle.rpg_faults.specs.Source.{cards_in}
-use Rattle.rpg_faults.specs.Told.{AreFaultsOf}
+use Rattle.rpg_faults.specs.Reported.{AreFaultsOf}
 use Rattle.rpg_faults.specs.declared.source_fault.CardFault.{CardFault}
 use Rattle.rpg_faults.specs.declared.source_fault.SourceCode.TheVariants as codes
 use Rattle.rpg_sheet.specs.Sheet.{first_sheet_fault, source}
@@ -16,9 +16,9 @@ abbrev pub numbered_specs : List (Option Spec) → List SpecCard
 numbered_specs specs = numbered_cards 1 specs
 
 -- a card that can't be read, as it is reported for a source
-abbrev pub unreadable_told : UnreadableCard → CardFault
-unreadable_told u = record { card = u.card; code = codes.Sheet u.code; columns = u.columns }
+abbrev pub unreadable_reported : UnreadableCard → CardFault
+unreadable_reported u = record { card = u.card; code = codes.Sheet u.code; columns = u.columns }
 
 -- all cards that can't be read; if there is none, all faults of the cards
 abbrev pub AreSourceFaults : List ℕ → List CardFault → Type 0
-AreSourceFaults text told = MatchOption (first_sheet_fault (source text)) (AreFaultsOf (cards_in text) told) (λ fault. told ≡ map unreadable_told (unreadable_cards (source text)))
+AreSourceFaults text reported = MatchOption (first_sheet_fault (source text)) (AreFaultsOf (cards_in text) reported) (λ fault. reported ≡ map unreadable_reported (unreadable_cards (source text)))

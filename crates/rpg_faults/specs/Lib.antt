@@ -13,4 +13,4 @@ pub mod Seen
 pub mod Source
 pub mod SourceCodes
 pub mod State
-pub mod Told
+pub mod Reported

@@ -51,8 +51,8 @@ place_on_input file before (input.And codes) = code_columns file codes
 place_on_input file before (input.Field f) = Some (field_range file before f)
 
 -- the range for any file of that record length, and any cards before with these lengths
-abbrev pub TellsRange : {X : Type 0} → (Option FileSpec → List SpecCard → X) → Option ℕ → JoinedLengths → X → Type 0
-TellsRange range_of length lengths answer =
+abbrev pub DetectsRange : {X : Type 0} → (Option FileSpec → List SpecCard → X) → Option ℕ → JoinedLengths → X → Type 0
+DetectsRange range_of length lengths answer =
     (file : Option FileSpec) (before : List SpecCard) → length ≡ option_map (λ f. f.record_length) file → AreOpenLengths before lengths → answer ≡ range_of file before
 
 -- the columns that break the rule of places in records and lines

@@ -6,7 +6,7 @@ use Rattle.rpg_cards.specs.Groups.{followers, group_count, groups, input_role, o
 use Rattle.rpg_cards.specs.Levels.{is_at, match_level}
 use Rattle.rpg_cards.specs.declared.spec_card.SpecCard.{SpecCard}
 use Rattle.rpg_faults.specs.Lengths.{input_specs_in}
-use Rattle.rpg_faults.specs.Places.{first_good_matches, good_matches, has_bad, has_twice, input_columns, levels, matched_fields}
+use Rattle.rpg_faults.specs.Places.{first_valid_matches, valid_matches, has_bad, has_twice, input_columns, levels, matched_fields}
 use Rattle.rpg_faults.specs.declared.matches.Further.{Further}
 use Rattle.rpg_faults.specs.declared.matches.Further.TheVariants as further
 use Rattle.rpg_faults.specs.declared.matches.Matches.{Matches}
@@ -16,7 +16,7 @@ use Rattle.rpg_sheet_specs.specs.declared.input.InputSpec.{InputSpec}
 
 -- those of the types up to the open one, with all their fields
 abbrev pub first_of_types : List SpecCard → List SpecCard → Option (List ℕ)
-first_of_types cards before = first_good_matches (take (group_count input_role before) (groups input_role cards))
+first_of_types cards before = first_valid_matches (take (group_count input_role before) (groups input_role cards))
 
 -- one of the fields has that match level
 abbrev pub has_match_level : List InputFieldSpec → ℕ → Bool
@@ -38,26 +38,26 @@ pub record AreMatches (cards before : List SpecCard) (m : Matches) : Type 0 wher
 -- ---- a type's match fields, one by one
 
 -- so far each level appears once, with valid columns
-pub record AreGood (fs : List InputFieldSpec) (found : Option (List ℕ)) : Type 0 where
+pub record AreValid (fs : List InputFieldSpec) (found : Option (List ℕ)) : Type 0 where
   pub columns : has_bad fs ≡ false
   pub once : has_twice fs ≡ false
-  pub lengths : found ≡ good_matches fs
+  pub lengths : found ≡ valid_matches fs
 
--- one more, which makes them good or bad
+-- one more, which makes them valid or bad
 abbrev pub AreWith : List InputFieldSpec → InputFieldSpec → Option (List ℕ) → Type 0
-AreWith fs f (Some lengths) = AreGood (fs ++ f ∷ []) (Some lengths)
-AreWith fs f None = (rest : List InputFieldSpec) → good_matches (fs ++ f ∷ rest) ≡ None
+AreWith fs f (Some lengths) = AreValid (fs ++ f ∷ []) (Some lengths)
+AreWith fs f None = (rest : List InputFieldSpec) → valid_matches (fs ++ f ∷ rest) ≡ None
 
 -- the lengths of match fields, with one more field of that level and this many columns
 abbrev pub AddsMatch : ℕ → ℕ → Option (List ℕ) → Option (List ℕ) → Type 0
-AddsMatch level columns old new = (fs : List InputFieldSpec) (f : InputFieldSpec) → AreGood fs old → f.match_level ≡ Some level → columns ≡ input_columns f → AreWith fs f new
+AddsMatch level columns old new = (fs : List InputFieldSpec) (f : InputFieldSpec) → AreValid fs old → f.match_level ≡ Some level → columns ≡ input_columns f → AreWith fs f new
 
 -- those of the cards up to the next type, with earlier fields
 abbrev pub matches_up_to : List InputFieldSpec → List SpecCard → Option (List ℕ)
-matches_up_to fs cards = good_matches (fs ++ matched_fields (followers input_role cards))
+matches_up_to fs cards = valid_matches (fs ++ matched_fields (followers input_role cards))
 
 -- what one more card does to the lengths of the fields before it, whatever follows
 abbrev pub MakesOf : List InputFieldSpec → SpecCard → Option (List ℕ) → Further → Type 0
 MakesOf fs card found further.OtherType = (rest : List SpecCard) → found ≡ matches_up_to fs (card ∷ rest)
 MakesOf fs card found further.Bad = (rest : List SpecCard) → None ≡ matches_up_to fs (card ∷ rest)
-MakesOf fs card found (further.Found more) = (gs : List InputFieldSpec) × AreGood gs more × ((rest : List SpecCard) → matches_up_to gs rest ≡ matches_up_to fs (card ∷ rest))
+MakesOf fs card found (further.FlowFaults more) = (gs : List InputFieldSpec) × AreValid gs more × ((rest : List SpecCard) → matches_up_to gs rest ≡ matches_up_to fs (card ∷ rest))

@@ -38,7 +38,7 @@ bad_codes file codes = is_code_outside file codes.first || (is_code_outside file
 abbrev pub outside_record : Option FileSpec → InputFieldSpec → Bool
 outside_record file f = f.from == 0 || (f.to == 0 || (nat_lt f.to f.from || is_past file f.to))
 
--- an I card asks for a column that isn't in the record
+-- an I card names a column that isn't in the record
 abbrev pub outside_on_input : Option FileSpec → InputSpec → Bool
 outside_on_input file (input.Type t) = bad_codes file t.codes
 outside_on_input file (input.And codes) = bad_codes file codes
@@ -75,13 +75,13 @@ abbrev pub has_bad : List InputFieldSpec → Bool
 has_bad fs = list_any (λ f. input_columns f == 0) fs
 
 -- the length of a type that has the level, if all its columns are valid
-abbrev pub good_length : List InputFieldSpec → Option ℕ
-good_length [] = None
-good_length (f ∷ fs) = if has_bad (f ∷ fs) then None else Some (sum_by input_columns (f ∷ fs))
+abbrev pub valid_length : List InputFieldSpec → Option ℕ
+valid_length [] = None
+valid_length (f ∷ fs) = if has_bad (f ∷ fs) then None else Some (sum_by input_columns (f ∷ fs))
 
 -- the length of a control level, if its fields have columns
 abbrev pub level_length : ℕ → List InputSpec → Option ℕ
-level_length level specs = good_length (level_fields level specs)
+level_length level specs = valid_length (level_fields level specs)
 
 -- that of the first type that has the level
 abbrev pub first_length : ℕ → List (Group RecordType InputSpec) → Option ℕ
@@ -135,14 +135,14 @@ has_twice [] = false
 has_twice (f ∷ fs) = repeats fs f || has_twice fs
 
 -- the lengths of a type that has match fields, if no level appears twice and all columns are valid
-abbrev pub good_matches : List InputFieldSpec → Option (List ℕ)
-good_matches [] = None
-good_matches (f ∷ fs) = if has_bad (f ∷ fs) || has_twice (f ∷ fs) then None else Some (match_lengths (f ∷ fs))
+abbrev pub valid_matches : List InputFieldSpec → Option (List ℕ)
+valid_matches [] = None
+valid_matches (f ∷ fs) = if has_bad (f ∷ fs) || has_twice (f ∷ fs) then None else Some (match_lengths (f ∷ fs))
 
 -- those of the first such type
-abbrev pub first_good_matches : List (Group RecordType InputSpec) → Option (List ℕ)
-first_good_matches [] = None
-first_good_matches (g ∷ gs) = option_or (good_matches (matched_fields g.followers)) (first_good_matches gs)
+abbrev pub first_valid_matches : List (Group RecordType InputSpec) → Option (List ℕ)
+first_valid_matches [] = None
+first_valid_matches (g ∷ gs) = option_or (valid_matches (matched_fields g.followers)) (first_valid_matches gs)
 
 -- two lists of lengths that differ
 abbrev pub matches_differ : Option (List ℕ) → Option (List ℕ) → Bool
@@ -150,7 +150,7 @@ matches_differ first own = option_map_or (λ ms. option_map_or (λ ns. not (poin
 
 -- a type has other match fields than the first type that has any
 abbrev pub has_other_matches : List SpecCard → List SpecCard → Bool
-has_other_matches before after = matches_differ (first_good_matches (groups input_role before)) (good_matches (matched_fields (followers input_role after)))
+has_other_matches before after = matches_differ (first_valid_matches (groups input_role before)) (valid_matches (matched_fields (followers input_role after)))
 
 -- the match fields of the open record type, so far
 abbrev pub open_matches : List SpecCard → List InputFieldSpec
@@ -183,8 +183,8 @@ own_file before (input.And codes) = open_file input_role before
 own_file before (input.Field f) = open_file input_role before
 
 -- the answer is the record length of an I card's own file, where `file` is the file of the type that is open before the card
-abbrev pub TellsOwnLength : List SpecCard → InputSpec → Option GroupFile → Option ℕ → Type 0
-TellsOwnLength cards i file answer =
+abbrev pub DetectsOwnLength : List SpecCard → InputSpec → Option GroupFile → Option ℕ → Type 0
+DetectsOwnLength cards i file answer =
     (before : List SpecCard) → file ≡ option_map group_file (file_by (open_file input_role before) cards) → answer ≡ option_map (λ f. f.record_length) (file_by (own_file before i) cards)
 
 -- the card has a column outside the record or the line, or joins fields badly

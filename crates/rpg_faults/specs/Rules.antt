@@ -4,7 +4,7 @@ use Rattle.rpg_cards.specs.declared.spec_card.SpecCard.{SpecCard}
 use Rattle.rpg_faults.specs.declared.code.FaultCode.{FaultCode}
 use Rattle.rpg_faults.specs.declared.code.FaultCode.TheVariants.{F1, F2, F3, F4, F5, F6, F7, F8, F9, F10, F11, F12, F13, F14, F15, F16, F17, F18}
 use Rattle.rpg_faults_flow.specs.Columns as calculations
-use Rattle.rpg_faults_flow.specs.Flow.{calls_itself, goes_apart, goes_nowhere, names_twice}
+use Rattle.rpg_faults_flow.specs.Flow.{calls_itself, leaves_its_section, lacks_target, repeats_name}
 use Rattle.rpg_faults_flow.specs.Kept.{Rule}
 use Rattle.rpg_faults_flow.specs.Order.{breaks_order}
 use Rattle.rpg_faults_flow.specs.Rounding.{bad_rounding}
@@ -32,10 +32,10 @@ rule F6 before c after = passes_limit (before ++ c ∷ after) before c after
 rule F7 before c after = breaks_files (before ++ c ∷ after) before c
 rule F8 before c after = bad_indicator (before ++ c ∷ after) c
 rule F9 before c after = calculations.bad_calculation_columns before c after || (operands.bad_operand_columns (before ++ c ∷ after) c after || moves_disk (before ++ c ∷ after) before c)
-rule F10 before c after = goes_nowhere (before ++ c ∷ after) before c after
-rule F11 before c after = names_twice before c after
+rule F10 before c after = lacks_target (before ++ c ∷ after) before c after
+rule F11 before c after = repeats_name before c after
 rule F12 before c after = breaks_order before c after || is_stray before c
-rule F13 before c after = goes_apart (before ++ c ∷ after) before c after
+rule F13 before c after = leaves_its_section (before ++ c ∷ after) before c after
 rule F14 before c after = calls_itself (before ++ c ∷ after) before c after
 rule F15 before c after = bad_rounding before c after
 rule F16 before c after = misplaces (before ++ c ∷ after) before c after

@@ -4,14 +4,14 @@ ghost use Rattle.std.specs.Prelude.{◌≡◌, ◌∷◌};
 ghost use Rattle.std.specs.Bool.{OnTrue};
 ghost use Rattle.rpg_faults.specs.Rules as rules;
 ghost use Rattle.rpg_faults.specs.Seen.{AreCardsSeen};
-ghost use Rattle.rpg_faults_operands.specs.Good.{HasGoodOperands};
+ghost use Rattle.rpg_faults_operands.specs.Valid.{HasValidOperands};
 
 use crate::code::FaultCode;
 use crate::seen::Seen;
 use rpg_cards::SpecCard;
 use rpg_faults_tree::AnalyzedCards;
 
-/// Whether a card breaks the rule of a code. Inlined, since each card is tested for each code. If its operands are known to be good, the
+/// Whether a card breaks the rule of a code. Inlined, since each card is tested for each code. If its operands are known to be valid, the
 /// rules on them aren't tested.
 #[inline(always)]
 #[tactic(auto, unfolding(crate::specs::Rules::rule))]
@@ -19,27 +19,27 @@ pub(crate) fn breaks(
     code: FaultCode,
     source: &AnalyzedCards,
     seen: &Seen,
-    has_good_operands: bool,
+    has_valid_operands: bool,
     card: &SpecCard,
     after: &[SpecCard],
 ) -> bool
     requires seen { AreCardsSeen source.now.cards.now (card.now ∷ after.now) seen.now }
-    requires good { OnTrue has_good_operands (HasGoodOperands source.now.cards.now card.now after.now) }
+    requires valid { OnTrue has_valid_operands (HasValidOperands source.now.cards.now card.now after.now) }
     ensures { result ≡ rules.rule code seen.now.before.now card.now after.now }
 {
     let cards = source.cards;
     let before = seen.before;
     match code {
         FaultCode::F1 => {
-            !has_good_operands && rpg_faults_operands::lacks_name(cards, card, after)
+            !has_valid_operands && rpg_faults_operands::lacks_name(cards, card, after)
         }
         FaultCode::F2 => rpg_faults_limits::redefines(cards, &seen.limits, before, card, after),
         FaultCode::F3 => rpg_faults_limits::bad_size(card),
         FaultCode::F4 => {
-            !has_good_operands && rpg_faults_operands::wrong_operand(cards, card, after)
+            !has_valid_operands && rpg_faults_operands::wrong_operand(cards, card, after)
         }
         FaultCode::F5 => {
-            !has_good_operands && rpg_faults_operands::bad_index(cards, card, after)
+            !has_valid_operands && rpg_faults_operands::bad_index(cards, card, after)
         }
         FaultCode::F6 => {
             rpg_faults_limits::passes_limit(cards, &seen.sheets, &seen.limits, before, card, after)
@@ -51,12 +51,12 @@ pub(crate) fn breaks(
                 || rpg_faults_operands::bad_columns(cards, card, after)
                 || rpg_faults_limits::moves_disk(cards, &seen.sheets, before, card)
         }
-        FaultCode::F10 => source.goes_nowhere(card),
+        FaultCode::F10 => source.lacks_target(card),
         FaultCode::F11 => {
-            rpg_faults_tree::names_twice(source, &seen.counts, before, card, after)
+            rpg_faults_tree::repeats_name(source, &seen.counts, before, card, after)
         }
         FaultCode::F12 => source.breaks_order(card),
-        FaultCode::F13 => source.goes_apart(card),
+        FaultCode::F13 => source.leaves_its_section(card),
         FaultCode::F14 => source.calls_itself(card),
         FaultCode::F15 => source.rounds_wrongly(card),
         FaultCode::F16 => crate::misplaces(cards, &seen.sheets, &seen.places, before, card, after),

@@ -44,7 +44,7 @@ pub(crate) fn own_length(
     file: Option<GroupFile>,
     input: &InputSpec,
 ) -> Option<u16>
-    ensures { rules.TellsOwnLength source.now input.now file result }
+    ensures { rules.DetectsOwnLength source.now input.now file result }
 {
     match input {
         InputSpec::Type(record_type) => match &record_type.file {

@@ -2,7 +2,7 @@
 
 ghost use Rattle.std.specs.Prelude.{◌≡◌, [], ◌++◌, ◌∷◌, IfOk, OnOk};
 ghost use Rattle.rpg_faults.specs.Seen.{AreCardsSeen};
-ghost use Rattle.rpg_faults.specs.Told as told;
+ghost use Rattle.rpg_faults.specs.Reported as reported;
 
 use crate::breach::breaks;
 use crate::cards::OrderedCards;
@@ -12,14 +12,14 @@ use crate::seen::Seen;
 use crate::source_fault::{CardFault, SourceCode};
 use rpg_cards::{IndexedCards, SpecCard};
 use rpg_faults_limits::lacks_input;
-use rpg_faults_operands::has_good_operands;
+use rpg_faults_operands::has_valid_operands;
 use rpg_faults_tree::AnalyzedCards;
 use std::alloc::{AllocError, Global};
 
 /// Returns all faults by card, then by code, each with its columns, in one pass over the cards. There are none exactly if `first_fault`
 /// finds none. Fails only if memory runs out.
 pub(crate) fn all_faults(alloc: Global, cards: &OrderedCards) -> Result<Vec<CardFault>, AllocError>
-    ensures { IfOk result (λ faults. told.AreFaultsOf cards.now.cards.items faults.items) }
+    ensures { IfOk result (λ faults. reported.AreFaultsOf cards.now.cards.items faults.items) }
 {
     let source = IndexedCards::new(alloc, &cards.cards)?;
     let source = AnalyzedCards::new(alloc, &source)?;
@@ -27,7 +27,7 @@ pub(crate) fn all_faults(alloc: Global, cards: &OrderedCards) -> Result<Vec<Card
 }
 
 fn faults_in(alloc: Global, source: &AnalyzedCards) -> Result<Vec<CardFault>, AllocError>
-    ensures { IfOk result (λ faults. faults.items ≡ told.told_faults source.now.cards.now) }
+    ensures { IfOk result (λ faults. faults.items ≡ reported.reported_faults source.now.cards.now) }
 {
     let mut faults = faults_of_whole(alloc, source.cards)?;
     put_faults(&mut faults, source)?;
@@ -36,7 +36,7 @@ fn faults_in(alloc: Global, source: &AnalyzedCards) -> Result<Vec<CardFault>, Al
 
 /// Returns the faults of the source as a whole.
 fn faults_of_whole(alloc: Global, source: &IndexedCards) -> Result<Vec<CardFault>, AllocError>
-    ensures { IfOk result (λ faults. faults.items ≡ told.told_of_whole source.now) }
+    ensures { IfOk result (λ faults. faults.items ≡ reported.reported_of_whole source.now) }
 {
     let mut faults = Vec::new(alloc);
     if lacks_input(source) {
@@ -51,7 +51,7 @@ fn faults_of_whole(alloc: Global, source: &IndexedCards) -> Result<Vec<CardFault
 
 /// Appends the faults of the cards, card by card.
 fn put_faults(faults: &mut Vec<CardFault>, source: &AnalyzedCards) -> Result<(), AllocError>
-    ensures { OnOk result (faults.new.items ≡ faults.old.items ++ told.told_from [] source.now.cards.now) }
+    ensures { OnOk result (faults.new.items ≡ faults.old.items ++ reported.reported_from [] source.now.cards.now) }
 {
     let cards = source.cards;
     let mut seen = Seen::nothing(source);
@@ -73,11 +73,11 @@ fn put_faults_on(
     after: &[SpecCard],
 ) -> Result<(), AllocError>
     requires { AreCardsSeen source.now.cards.now (card.now ∷ after.now) seen.now }
-    ensures { OnOk result (faults.new.items ≡ faults.old.items ++ told.told_on seen.now.before.now card.now after.now) }
+    ensures { OnOk result (faults.new.items ≡ faults.old.items ++ reported.reported_on seen.now.before.now card.now after.now) }
 {
-    let is_good = has_good_operands(source.cards, card, after);
+    let is_valid = has_valid_operands(source.cards, card, after);
     for code in FaultCode::all() {
-        if breaks(code, source, seen, is_good, card, after) {
+        if breaks(code, source, seen, is_valid, card, after) {
             faults.push(CardFault {
                 card: card.number,
                 code: SourceCode::Fault(code),

@@ -3,7 +3,7 @@
 ghost use Rattle.std.specs.Prelude.{◌≡◌, map, IfErr, IfOk};
 ghost use Rattle.rpg_deck.specs.Flat.{IsInOrder};
 ghost use Rattle.rpg_faults.specs.EverySource as every;
-ghost use Rattle.rpg_faults.specs.Told.{AreFaultsOf};
+ghost use Rattle.rpg_faults.specs.Reported.{AreFaultsOf};
 ghost use Rattle.rpg_faults.specs.declared.source_fault.SourceFault.TheVariants.{NoMemory};
 ghost use Rattle.rpg_sheet.specs.Sheet.{source};
 ghost use Rattle.rpg_sheet.specs.Unreadable.{unreadable_cards};
@@ -39,23 +39,23 @@ fn faults_of(alloc: Global, cards: Cards) -> Result<Vec<CardFault>, AllocError>
 
 /// Returns all cards that can't be read.
 fn unreadable(alloc: Global, text: &[u8]) -> Result<Vec<CardFault>, AllocError>
-    ensures { IfOk result (λ told. told.items ≡ map every.unreadable_told (unreadable_cards (source text.now))) }
+    ensures { IfOk result (λ reported. reported.items ≡ map every.unreadable_reported (unreadable_cards (source text.now))) }
 {
     let cards = rpg_sheet::unreadable_cards(alloc, text)?;
-    told(alloc, &cards)
+    reported(alloc, &cards)
 }
 
 /// Converts cards that can't be read to faults of a source.
-fn told(alloc: Global, cards: &[UnreadableCard]) -> Result<Vec<CardFault>, AllocError>
-    ensures { IfOk result (λ told. told.items ≡ map every.unreadable_told cards.now) }
+fn reported(alloc: Global, cards: &[UnreadableCard]) -> Result<Vec<CardFault>, AllocError>
+    ensures { IfOk result (λ reported. reported.items ≡ map every.unreadable_reported cards.now) }
 {
-    let mut told = Vec::new(alloc);
+    let mut reported = Vec::new(alloc);
     for card in cards {
-        told.push(CardFault {
+        reported.push(CardFault {
             card: card.card,
             code: SourceCode::Sheet(card.code),
             columns: card.columns,
         })?;
     }
-    Ok(told)
+    Ok(reported)
 }

@@ -12,7 +12,7 @@ use crate::fault::Fault;
 use crate::seen::Seen;
 use rpg_cards::{IndexedCards, SpecCard};
 use rpg_faults_limits::lacks_input;
-use rpg_faults_operands::has_good_operands;
+use rpg_faults_operands::has_valid_operands;
 use rpg_faults_tree::AnalyzedCards;
 use std::alloc::{AllocError, Global};
 
@@ -67,9 +67,9 @@ fn least_code(
     requires { AreCardsSeen source.now.cards.now (card.now ∷ after.now) seen.now }
     ensures { result ≡ find (λ code. rules.rule code seen.now.before.now card.now after.now) faults.codes }
 {
-    let is_good = has_good_operands(source.cards, card, after);
+    let is_valid = has_valid_operands(source.cards, card, after);
     for code in FaultCode::all() {
-        if breaks(code, source, seen, is_good, card, after) {
+        if breaks(code, source, seen, is_valid, card, after) {
             return Some(code);
         }
     }

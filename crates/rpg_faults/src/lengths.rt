@@ -3,7 +3,7 @@
 ghost use Rattle.std.specs.Prelude.{◌≡◌, ◌≤◌, [], List, length, min};
 ghost use Rattle.rpg_cards.specs.Groups.{followers, input_role};
 ghost use Rattle.rpg_cards.specs.declared.spec_card.SpecCard.{SpecCard};
-ghost use Rattle.rpg_faults.specs.Before.{AddsCard, AddsField, TellsInput};
+ghost use Rattle.rpg_faults.specs.Before.{AddsCard, AddsField, DetectsInput};
 ghost use Rattle.rpg_faults.specs.Places as rules;
 ghost use Rattle.rpg_faults.specs.Lengths.{AreJoinedLengths, AreOpenLengths, any_differs, lengths_of, some_length, with_lengths};
 
@@ -59,7 +59,7 @@ impl JoinedLengths {
     /// Whether a type's joined lengths differ from those of the first types with its levels, or a field puts its level over the limit.
     pub(crate) fn join_badly(&self, card: &SpecCard, after: &[SpecCard]) -> bool
         requires { length after.now ≤ 2000 }
-        ensures { TellsInput AreJoinedLengths rules.controls_badly card.now after.now self.now result }
+        ensures { DetectsInput AreJoinedLengths rules.controls_badly card.now after.now self.now result }
     {
         match card.input() {
             Some(InputSpec::Type(_)) => self.differ_from(after),

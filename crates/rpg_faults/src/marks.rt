@@ -126,7 +126,7 @@ fn place_on_input(
     lengths: &JoinedLengths,
     input: &InputSpec,
 ) -> Option<ColumnRange>
-    ensures { marks.TellsRange (λ file before. marks.place_on_input file before input.now) length lengths.now result }
+    ensures { marks.DetectsRange (λ file before. marks.place_on_input file before input.now) length lengths.now result }
 {
     match input {
         InputSpec::Type(record_type) => code_columns(length, &record_type.codes),
@@ -150,7 +150,7 @@ fn code_columns(length: Option<u16>, codes: &Three<Option<RecordCode>>) -> Optio
 }
 
 fn field_range(length: Option<u16>, lengths: &JoinedLengths, field: &InputFieldSpec) -> ColumnRange
-    ensures { marks.TellsRange (λ file before. marks.field_range file before field.now) length lengths.now result }
+    ensures { marks.DetectsRange (λ file before. marks.field_range file before field.now) length lengths.now result }
 {
     if field.from == 0 {
         ColumnRange::FirstColumn

@@ -3,8 +3,8 @@
 ghost use Rattle.std.specs.Prelude.{◌≡◌, ◌+◌, ◌-◌, ◌≤◌, [], ◌∷◌, ◌++◌, ◌&&◌, List, false, nat_le, nat_lt, slice_index_or};
 ghost use Rattle.rpg_cards.specs.Groups.{followers, input_role};
 ghost use Rattle.rpg_cards.specs.declared.spec_card.SpecCard.{SpecCard};
-ghost use Rattle.rpg_faults.specs.Matches.{AddsMatch, AreGood, AreMatches, AreOpenMatches, MakesOf, matches_of};
-ghost use Rattle.rpg_faults.specs.Before.{AddsCard, AddsField, TellsInput};
+ghost use Rattle.rpg_faults.specs.Matches.{AddsMatch, AreValid, AreMatches, AreOpenMatches, MakesOf, matches_of};
+ghost use Rattle.rpg_faults.specs.Before.{AddsCard, AddsField, DetectsInput};
 ghost use Rattle.rpg_faults.specs.Places as rules;
 ghost use Rattle.rpg_sheet_specs.specs.declared.input.InputFieldSpec.{InputFieldSpec};
 ghost use Rattle.rpg_sheet_specs.specs.declared.input.InputSpec.{InputSpec};
@@ -42,7 +42,7 @@ enum Further {
     /// A level appears twice, or the columns are bad.
     Bad,
     /// The lengths including those of the card.
-    Found(Option<[u16; 9]>),
+    FlowFaults(Option<[u16; 9]>),
 }
 
 impl OpenMatches {
@@ -112,7 +112,7 @@ impl Matches {
         let first = self.first;
         match card.input() {
             Some(InputSpec::Type(_)) => {
-                let own = good_matches(after);
+                let own = valid_matches(after);
                 let first = first.or(own);
                 Matches {
                     first,
@@ -131,11 +131,11 @@ impl Matches {
     /// Whether a type's match fields differ from those of the first type that has some, or a field repeats a match level or makes the
     /// fields too long.
     pub(crate) fn join_badly(&self, card: &SpecCard, after: &[SpecCard]) -> bool
-        ensures { TellsInput AreMatches rules.matches_badly card.now after.now self.now result }
+        ensures { DetectsInput AreMatches rules.matches_badly card.now after.now self.now result }
     {
         match card.input() {
             Some(InputSpec::Type(_)) => {
-                let own = good_matches(after);
+                let own = valid_matches(after);
                 are_other(self.first, own)
             }
             Some(InputSpec::Field(field)) => {
@@ -174,8 +174,8 @@ fn are_other(first: Option<[u16; 9]>, own: Option<[u16; 9]>) -> bool
 }
 
 /// Returns the lengths of M1 to M9 up to the next record type; None without a match field, or if a level appears twice or columns are bad.
-fn good_matches(after: &[SpecCard]) -> Option<[u16; 9]>
-    ensures { result ≡ rules.good_matches (rules.matched_fields (followers input_role after.now)) }
+fn valid_matches(after: &[SpecCard]) -> Option<[u16; 9]>
+    ensures { result ≡ rules.valid_matches (rules.matched_fields (followers input_role after.now)) }
 {
     let mut found = None;
     let mut rest = after;
@@ -183,7 +183,7 @@ fn good_matches(after: &[SpecCard]) -> Option<[u16; 9]>
         match matches_on(found, card) {
             Further::OtherType => return found,
             Further::Bad => return None,
-            Further::Found(lengths) => found = lengths,
+            Further::FlowFaults(lengths) => found = lengths,
         }
         rest = following;
     }
@@ -192,19 +192,19 @@ fn good_matches(after: &[SpecCard]) -> Option<[u16; 9]>
 
 /// Adds a card to the lengths of the match fields before it.
 fn matches_on(found: Option<[u16; 9]>, card: &SpecCard) -> Further
-    ensures { (fs : List InputFieldSpec) → AreGood fs found → MakesOf fs card.now found result }
+    ensures { (fs : List InputFieldSpec) → AreValid fs found → MakesOf fs card.now found result }
 {
     match card.input() {
         Some(InputSpec::Type(_)) => Further::OtherType,
         Some(InputSpec::Field(field)) => match field.match_level {
-            None => Further::Found(found),
+            None => Further::FlowFaults(found),
             Some(level) => match lengths_with(found, level.number(), columns_of(field)) {
                 None => Further::Bad,
-                Some(lengths) => Further::Found(Some(lengths)),
+                Some(lengths) => Further::FlowFaults(Some(lengths)),
             },
         },
-        Some(InputSpec::And(_)) => Further::Found(found),
-        None => Further::Found(found),
+        Some(InputSpec::And(_)) => Further::FlowFaults(found),
+        None => Further::FlowFaults(found),
     }
 }
 

@@ -10,7 +10,7 @@ use Rattle.rpg_cards.proofs.GroupLemmas.{groups-push, one_if_heading}
 use Rattle.rpg_cards.specs.Cards.{data_on, extension_on}
 use Rattle.rpg_cards.specs.Groups.{data_card_role, data_role, followers, followers_with, groups, role_on}
 use Rattle.rpg_cards.specs.declared.spec_card.SpecCard.{SpecCard}
-use Rattle.rpg_faults_data.specs.Data.{wanted, wants_data}
+use Rattle.rpg_faults_data.specs.Data.{wanted, expects_data}
 use Rattle.rpg_faults_data.specs.Decks as decks
 use Rattle.rpg_faults_data.specs.Decks.{BeginsDeck, AreDecks}
 use Rattle.rpg_faults_data.specs.declared.decks.Decks.{Decks}
@@ -26,13 +26,13 @@ get-drop zero (x ∷ xs) = refl
 get-drop (suc n) [] = refl
 get-drop (suc n) (x ∷ xs) = get-drop n xs
 
-pub wanted-push : (before : List SpecCard) (c : SpecCard) → wanted (before ++ c ∷ []) ≡ wanted before + cond (wants_data c) 1 0
-wanted-push before c = sum_by_push (λ d. cond (wants_data d) 1 0) before c
+pub wanted-push : (before : List SpecCard) (c : SpecCard) → wanted (before ++ c ∷ []) ≡ wanted before + cond (expects_data c) 1 0
+wanted-push before c = sum_by_push (λ d. cond (expects_data d) 1 0) before c
 
-pub one_more : (before : List SpecCard) (c : SpecCard) → wants_data c ≡ true → wanted (before ++ c ∷ []) ≡ wanted before + 1
+pub one_more : (before : List SpecCard) (c : SpecCard) → expects_data c ≡ true → wanted (before ++ c ∷ []) ≡ wanted before + 1
 one_more before c e = wanted-push before c ∙ ap (λ b. wanted before + cond b 1 0) e
 
-pub no_more : (before : List SpecCard) (c : SpecCard) → wants_data c ≡ false → wanted (before ++ c ∷ []) ≡ wanted before
+pub no_more : (before : List SpecCard) (c : SpecCard) → expects_data c ≡ false → wanted (before ++ c ∷ []) ≡ wanted before
 no_more before c e = wanted-push before c ∙ ap (λ b. wanted before + cond b 1 0) e ∙ omega arith
 
 pub taken_none : {X : Type 0} (gs rs : List X) (n m : ℕ) → rs ≡ [] → rs ≡ drop n gs → m ≡ n + 1 → rs ≡ drop m gs
@@ -56,7 +56,7 @@ not_data (spec.Data x) wants = absurd (wants_none wants)
     wants_none e = cc
 
 pub with_taken : (cards before : List SpecCard) (c : SpecCard) (d : Decks) (o : Option (Bor (List SpecCard))) (empty r : Bor (List SpecCard))
-    → MatchOption o (groups data_role d.rest.now ≡ []) (λ following. groups data_role d.rest.now ≡ decks.deck following.now ∷ groups data_role following.now) → r ≡ unwrap_or o empty → empty.now ≡ [] → wants_data c ≡ true
+    → MatchOption o (groups data_role d.rest.now ≡ []) (λ following. groups data_role d.rest.now ≡ decks.deck following.now ∷ groups data_role following.now) → r ≡ unwrap_or o empty → empty.now ≡ [] → expects_data c ≡ true
     → AreDecks cards before d → AreDecks cards (before ++ c ∷ []) (record { rest = r; wanted = d.wanted })
 with_taken cards before c d None empty r none is nothing wants was = record {
   rest = ap (λ (b : Bor (List SpecCard)). groups data_role b.now) is ∙ ap (groups data_role) nothing
@@ -69,17 +69,17 @@ with_taken cards before c d (Some following) empty r first is nothing wants was 
   to_come = let e = was.to_come in let g = groups-push data_role before c in let z = not_data c.spec wants in omega arith;
 }
 
-kept : (cards before : List SpecCard) (c : SpecCard) (d : Decks) → wants_data c ≡ false → AreDecks cards before d → groups data_role d.rest.now ≡ drop (wanted (before ++ c ∷ [])) (groups data_role cards)
+kept : (cards before : List SpecCard) (c : SpecCard) (d : Decks) → expects_data c ≡ false → AreDecks cards before d → groups data_role d.rest.now ≡ drop (wanted (before ++ c ∷ [])) (groups data_role cards)
 kept cards before c d wants was = was.rest ∙ ap (λ n. drop n (groups data_role cards)) (sym (no_more before c wants))
 
-pub with_deck : (cards before : List SpecCard) (c : SpecCard) (d : Decks) (n : ℕ) → wants_data c ≡ false → BeginsDeck c true → n ≡ d.wanted - 1
+pub with_deck : (cards before : List SpecCard) (c : SpecCard) (d : Decks) (n : ℕ) → expects_data c ≡ false → BeginsDeck c true → n ≡ d.wanted - 1
     → AreDecks cards before d → AreDecks cards (before ++ c ∷ []) (record { rest = d.rest; wanted = n })
 with_deck cards before c d n wants begins is was = record {
   rest = kept cards before c d wants was;
   to_come = let e = was.to_come in let g = groups-push data_role before c in let f = groups-push data_role [] c in let h = ap length (begins []) in omega arith;
 }
 
-pub with_other : (cards before : List SpecCard) (c : SpecCard) (d : Decks) → wants_data c ≡ false → BeginsDeck c false → AreDecks cards before d → AreDecks cards (before ++ c ∷ []) d
+pub with_other : (cards before : List SpecCard) (c : SpecCard) (d : Decks) → expects_data c ≡ false → BeginsDeck c false → AreDecks cards before d → AreDecks cards (before ++ c ∷ []) d
 with_other cards before c d wants begins was = record {
   rest = kept cards before c d wants was;
   to_come = let e = was.to_come in let g = groups-push data_role before c in let f = groups-push data_role [] c in let h = ap length (begins []) in omega arith;

@@ -21,7 +21,7 @@ or_and_false true a = refl
 or_and_false false true = refl
 or_and_false false false = refl
 
--- after an entry that was good
+-- after an entry that was valid
 after_one : (t : TableSpec) (b : List ℕ) (xs : List (List ℕ)) → any_wrong t (Some b) xs ≡ (list_any (is_bad t.decimals) xs || (t.ascending && descends (is_lower t.decimals) (b ∷ xs)))
 after_one t b [] = sym (or_and_false false t.ascending)
 after_one t b (x ∷ xs) =

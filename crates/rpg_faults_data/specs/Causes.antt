@@ -140,7 +140,7 @@ abbrev pub of_extension : List SpecCard → List SpecCard → ExtensionSpec → 
 of_extension cards before e None = if has_table e then Some cause.NoData else None
 of_extension cards before e (Some per_card) = option_map_or (of_after e per_card) (after_deck_begin (wanted before) cards) (Some (missing_deck e per_card))
 
--- ---- data that no E card wants
+-- ---- data that no E card expects
 
 -- a `**` card by its number, from 1, and how many E cards want data
 abbrev pub of_begin : List SpecCard → List SpecCard → Option DataCause

@@ -18,12 +18,12 @@ use Rattle.rpg_sheet_specs.specs.declared.extension.TableSpec.{TableSpec}
 -- ---- which data are whose: the E cards with entries per card take the decks in their order
 
 -- the E card's table has its values in the source
-abbrev pub wants_data : SpecCard → Bool
-wants_data c = option_map_or (λ (e : ExtensionSpec). is_some e.entries_per_card) (extension_on c.spec) false
+abbrev pub expects_data : SpecCard → Bool
+expects_data c = option_map_or (λ (e : ExtensionSpec). is_some e.entries_per_card) (extension_on c.spec) false
 
 -- how many cards want data
 abbrev pub wanted : List SpecCard → ℕ
-wanted cards = count_by wants_data cards
+wanted cards = count_by expects_data cards
 
 -- the texts of the deck with this number, from 0: of the cards after its `**` card
 abbrev pub deck_at : ℕ → List SpecCard → Option (List (List ℕ))
@@ -115,7 +115,7 @@ has_bad_data cards before e = bad_data cards before e e.entries_per_card
 abbrev pub are_taken : List SpecCard → List SpecCard → Bool
 are_taken cards before = nat_le (wanted cards) (group_count data_role before)
 
--- data that no E card wants: at their `**` card
+-- data that no E card expects: at their `**` card
 abbrev pub is_unwanted : List SpecCard → List SpecCard → DataSpec → Bool
 is_unwanted cards before deck.Begin = are_taken cards before
 is_unwanted cards before (deck.Card text) = false

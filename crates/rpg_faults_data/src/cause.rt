@@ -7,7 +7,7 @@ ghost use Rattle.rpg_faults_data.specs.Causes as causes;
 ghost use Rattle.rpg_faults_data.specs.Data as rules;
 
 use crate::data::{data_cards, data_columns, has_forms, has_table};
-use crate::decks::wants_data;
+use crate::decks::expects_data;
 use crate::layout::Layout;
 use crate::wrong_entry::{EntryCause, first_wrong};
 use rpg_cards::{IndexedCards, SpecCard};
@@ -42,7 +42,7 @@ pub enum DataCause {
     Spare { deck: usize, wanted: usize },
 }
 
-/// F18: what is wrong with the data of an E card, or the `**` card of data that no E card wants.
+/// F18: what is wrong with the data of an E card, or the `**` card of data that no E card expects.
 #[tactic(auto, using(crate::proofs::DataRule::data_rule))]
 pub fn data_cause(source: &IndexedCards, before: &[SpecCard], card: &SpecCard) -> Option<DataCause>
     ensures cause { result ≡ causes.data_cause source.now before.now card.now }
@@ -170,7 +170,7 @@ fn of_tables(
     }
 }
 
-/// Returns the cause for data that no E card wants.
+/// Returns the cause for data that no E card expects.
 fn of_begin(source: &IndexedCards, before: &[SpecCard]) -> Option<DataCause>
     ensures { result ≡ causes.of_begin source.now before.now }
 {
@@ -192,7 +192,7 @@ fn wanted(cards: &[SpecCard]) -> usize
 {
     let mut count = 0;
     for card in cards {
-        count += usize::from(wants_data(card));
+        count += usize::from(expects_data(card));
     }
     count
 }

@@ -25,7 +25,7 @@ impl<'a> Decks<'a> {
     {
         Decks {
             rest: cards,
-            wanted: cards.iter().filter(|card| wants_data(card)).count(),
+            wanted: cards.iter().filter(|card| expects_data(card)).count(),
         }
     }
 
@@ -33,7 +33,7 @@ impl<'a> Decks<'a> {
     pub fn with(self, card: &SpecCard) -> Self
         ensures { (cards before : List SpecCard) → AreDecks cards before self.entry → AreDecks cards (before ++ card.now ∷ []) result }
     {
-        if wants_data(card) {
+        if expects_data(card) {
             Decks {
                 rest: after_next(self.rest).unwrap_or(&[]),
                 wanted: self.wanted,
@@ -55,7 +55,7 @@ impl<'a> Decks<'a> {
         after_next(self.rest)
     }
 
-    /// Whether no E card wants the data of the next `**` card.
+    /// Whether no E card expects the data of the next `**` card.
     pub(crate) fn are_taken(self) -> bool
         ensures { (cards before : List SpecCard) → AreDecks cards before self.entry → result ≡ rules.are_taken cards before }
     {
@@ -64,8 +64,8 @@ impl<'a> Decks<'a> {
 }
 
 /// Whether a card describes a table with data in the source.
-pub(crate) fn wants_data(card: &SpecCard) -> bool
-    ensures { result ≡ rules.wants_data card.now }
+pub(crate) fn expects_data(card: &SpecCard) -> bool
+    ensures { result ≡ rules.expects_data card.now }
 {
     match card.extension() {
         None => false,

@@ -1,16 +1,16 @@
--- Rules of calculations, asked of their last cards.
+-- Rules of calculations, tested on their last cards.
 use Rattle.std.proofs.Common.{◌≡◌, Bool, true, false, cond, List, [], ◌∷◌, ◌++◌, Option, Some, None, refl, ap, ◌∙◌}
 use Rattle.std.specs.Option.{option_map, option_map_or, option_to_list}
-use Rattle.rpg_cards.specs.Calculations.{CalculationGroup, calculation_ending, calculation_of, calculations_before, card_ending, goes_on, group_at, group_with, open_calculation_group}
+use Rattle.rpg_cards.specs.Calculations.{CalculationGroup, calculation_ending, calculation_of, calculations_before, card_ending, continues, group_at, group_with, open_calculation_group}
 use Rattle.rpg_cards.specs.Cards.{calculation_on}
-use Rattle.rpg_cards.specs.Deeds.{Calculation}
+use Rattle.rpg_cards.specs.Statements.{Calculation}
 use Rattle.rpg_cards.specs.Keys.{Key}
 use Rattle.rpg_cards.specs.declared.spec_card.SpecCard.{SpecCard}
 use Rattle.rpg_faults_flow.proofs.Walk.{calculations_from-push}
 use Rattle.rpg_sheet_specs.specs.declared.calculation.CalculationSpec.{CalculationSpec}
 
 pub group_at-is : (o : Option CalculationGroup) (c : SpecCard) (after : List SpecCard) → group_at o c after ≡ option_map (group_with o) (card_ending c after)
-group_at-is o c after = by (goes_on after)
+group_at-is o c after = by (continues after)
   where
     by : (b : Bool) → cond b None (option_map (group_with o) (calculation_on c.spec)) ≡ option_map (group_with o) (cond b None (calculation_on c.spec))
     by true = refl

@@ -3,9 +3,9 @@ use Rattle.std.proofs.Common.{◌≡◌, ℕ, ◌+◌, Bool, true, false, not, c
 use Rattle.std.specs.Prelude.{is_none, is_some, unwrap_or}
 use Rattle.std.specs.List.{last_or}
 use Rattle.std.specs.Option.{option_and_then, option_map, option_map_or}
-use Rattle.rpg_cards.specs.Calculations.{CalculationGroup, alone, alternatives, awaited_level, calculation_of, calculations, calculations_before, completed, conditions_on, depends, goes_on, group_end, group_ending, group_with, is_or, joined_group, last_card, open_calculation_group, tests_on}
+use Rattle.rpg_cards.specs.Calculations.{CalculationGroup, alone, alternatives, awaited_level, calculation_of, calculations, calculations_before, completed, conditions_on, depends, continues, group_end, group_ending, group_with, is_or, joined_group, last_card, open_calculation_group, tests_on}
 use Rattle.rpg_cards.specs.Calls.{call_at, calls}
-use Rattle.rpg_cards.specs.Deeds.{Calculation, Executes, Deed, GoesTo, deed_from, deed_of, tests}
+use Rattle.rpg_cards.specs.Statements.{Calculation, Executes, Statement, GoesTo, statement_from, statement_of, tests}
 use Rattle.rpg_cards.specs.Keys.{Key, plain_name}
 use Rattle.rpg_cards.specs.Labels.{is_endsr, is_inside_subroutine, labels}
 use Rattle.rpg_cards.specs.Sections.{is_subroutine}
@@ -15,7 +15,7 @@ use Rattle.rpg_cards.specs.declared.spec_card.SpecCard.{SpecCard}
 use Rattle.rpg_program.specs.declared.condition.Conditions.{Conditions}
 use Rattle.rpg_sheet_specs.specs.Three.{filled_count}
 use Rattle.rpg_faults_flow.specs.Columns.{bad_by_end, bad_calculation, bad_calculation_columns, bad_conditions, bad_last, bad_operation, may_depend}
-use Rattle.rpg_faults_flow.specs.Flow.{calls_itself, comes_back, goes_apart, goes_nowhere, lacks_label, leaves_section}
+use Rattle.rpg_faults_flow.specs.Flow.{calls_itself, comes_back, leaves_its_section, lacks_target, lacks_label, leaves_section}
 use Rattle.rpg_faults_flow.specs.Kept.{KeepsRule}
 use Rattle.rpg_faults_flow.specs.Order.{breaks_calculation, breaks_group, breaks_order, is_bracket, is_early, is_outside_subroutine, unpaired}
 use Rattle.rpg_faults_flow.proofs.Walk.{EachSplit, Walk, each_calculation}
@@ -31,7 +31,7 @@ use Rattle.rpg_sheet_specs.specs.Operations.{card_columns}
 use Rattle.std.specs.Prelude.{nat_lt}
 
 -- a GOTO and an EXSR have a name
-abbrev pub lacks_name : Deed Key → Bool
+abbrev pub lacks_name : Statement Key → Bool
 lacks_name (GoesTo l) = is_none l
 lacks_name (Executes n) = is_none n
 lacks_name _ = false
@@ -39,11 +39,11 @@ lacks_name _ = false
 pub record Facts (cards : List SpecCard) (before : List (Calculation Key)) (g : Calculation Key) (following : List (Calculation Key)) : Type 0 where
   -- F12
   pub begins_group : joins g.control ≡ false
-  pub inside : (is_subroutine g.control && (not (is_bracket g.deed) && not (is_inside_subroutine before))) ≡ false
+  pub inside : (is_subroutine g.control && (not (is_bracket g.statement) && not (is_inside_subroutine before))) ≡ false
   pub paired : unpaired before g following ≡ false
   -- F9
-  pub free : is_endsr g.deed ≡ true → tests g.alternatives ≡ 0
-  pub named : lacks_name g.deed ≡ false
+  pub free : is_endsr g.statement ≡ true → tests g.alternatives ≡ 0
+  pub named : lacks_name g.statement ≡ false
   -- by definition
   pub waits : is_subroutine g.control ≡ true → g.level ≡ None
   -- F10
@@ -72,16 +72,16 @@ or_second false b e = e
 pub record Ending (before : List SpecCard) (c : SpecCard) (after : List SpecCard) (g : CalculationGroup) : Type 0 where
   pub card : CalculationSpec
   pub is : calculation_on c.spec ≡ Some card
-  pub ends : goes_on after ≡ false
+  pub ends : continues after ≡ false
   pub group : group_with (open_calculation_group before) card ≡ g
 
 some_same : {X : Type 0} (x y : X) → Some x ≡ Some y → x ≡ y
 some_same x y e = ap (λ o. option_map_or (λ z. z) o x) e
 
 pub ending : (before : List SpecCard) (c : SpecCard) (after : List SpecCard) (g : CalculationGroup) → group_ending before c after ≡ Some g → Ending before c after g
-ending before c after g e = by (goes_on after) refl (calculation_on c.spec) refl e
+ending before c after g e = by (continues after) refl (calculation_on c.spec) refl e
   where
-    by : (b : Bool) → goes_on after ≡ b → (x : Option CalculationSpec) → calculation_on c.spec ≡ x → cond b None (option_map (group_with (open_calculation_group before)) x) ≡ Some g → Ending before c after g
+    by : (b : Bool) → continues after ≡ b → (x : Option CalculationSpec) → calculation_on c.spec ≡ x → cond b None (option_map (group_with (open_calculation_group before)) x) ≡ Some g → Ending before c after g
     by true p x q e = absurd cc
     by false p None q e = absurd cc
     by false p (Some k) q e = record { card = k; is = q; ends = p; group = some_same (group_with (open_calculation_group before) k) g e }
@@ -126,7 +126,7 @@ pub record IsOpen (before : List (Calculation Key)) (g full : CalculationGroup) 
   pub inside : is_outside_subroutine before full ≡ false
   pub free : may_depend (last_card full) ≡ false → tests (alternatives (tests_on g.first) g.followers) ≡ 0
 
-end_alone : (k : CalculationSpec) (o : Option Operation) → is_endsr (deed_from k o) ≡ true → option_map_or (λ o. (card_columns o).may_depend) o true ≡ false
+end_alone : (k : CalculationSpec) (o : Option Operation) → is_endsr (statement_from k o) ≡ true → option_map_or (λ o. (card_columns o).may_depend) o true ≡ false
 end_alone k None e = absurd cc
 end_alone k (Some op.EndSubroutine) e = refl
 end_alone k (Some op.Add) e = absurd cc
@@ -136,7 +136,7 @@ name_there : (f : Option Factor) → option_map_or (λ x. is_none (plain_name x)
 name_there None e = absurd cc
 name_there (Some x) e = e
 
-names_there : (k : CalculationSpec) (o : Option Operation) → option_map_or (bad_operation k) o true ≡ false → lacks_name (deed_from k o) ≡ false
+names_there : (k : CalculationSpec) (o : Option Operation) → option_map_or (bad_operation k) o true ≡ false → lacks_name (statement_from k o) ≡ false
 names_there k None e = absurd cc
 names_there k (Some op.GoTo) e = name_there k.factor_2 (or_first (option_map_or (λ x. is_none (plain_name x)) k.factor_2 true) (is_some k.result_field || nat_lt 0 (filled_count k.resulting_indicators)) (or_second (is_some k.factor_1) (option_map_or (λ x. is_none (plain_name x)) k.factor_2 true || (is_some k.result_field || nat_lt 0 (filled_count k.resulting_indicators))) (blank_result (λ b. (is_some k.factor_1 || (option_map_or (λ x. is_none (plain_name x)) k.factor_2 true || (b || nat_lt 0 (filled_count k.resulting_indicators)))) ≡ false) k.result_field e)))
 names_there k (Some op.Call) e = name_there k.factor_2 (or_first (option_map_or (λ x. is_none (plain_name x)) k.factor_2 true) (is_some k.result_field || nat_lt 0 (filled_count k.resulting_indicators)) (or_second (is_some k.factor_1) (option_map_or (λ x. is_none (plain_name x)) k.factor_2 true || (is_some k.result_field || nat_lt 0 (filled_count k.resulting_indicators))) (blank_result (λ b. (is_some k.factor_1 || (option_map_or (λ x. is_none (plain_name x)) k.factor_2 true || (b || nat_lt 0 (filled_count k.resulting_indicators)))) ≡ false) k.result_field e)))
@@ -165,14 +165,14 @@ waits_not control.Or e = absurd cc
 
 -- ---- the rules
 
-module _ (cards : List SpecCard) (columns_kept : KeepsRule bad_calculation_columns cards) (order : KeepsRule breaks_order cards) (labels_found : KeepsRule (goes_nowhere cards) cards) (stays : KeepsRule (goes_apart cards) cards) (leads : KeepsRule (calls_itself cards) cards) where
+module _ (cards : List SpecCard) (columns_kept : KeepsRule bad_calculation_columns cards) (order : KeepsRule breaks_order cards) (labels_found : KeepsRule (lacks_target cards) cards) (stays : KeepsRule (leaves_its_section cards) cards) (leads : KeepsRule (calls_itself cards) cards) where
   pub card_kept : (before : List SpecCard) (c : SpecCard) (after : List SpecCard) (k : CalculationSpec) → cards ≡ before ++ c ∷ after → calculation_on c.spec ≡ Some k → bad_calculation (open_calculation_group before) k after ≡ false
   card_kept before c after k s e = sym (ap (λ x. option_map_or (λ k. bad_calculation (open_calculation_group before) k after) x false) e) ∙ columns_kept before c after s
 
   free_of : (before : List SpecCard) (c : SpecCard) (after : List SpecCard) (k : CalculationSpec) → cards ≡ before ++ c ∷ after → calculation_on c.spec ≡ Some k → may_depend (group_end k after) ≡ false → length (tests_on k) ≡ 0
   free_of before c after k s e m =
-      let rest = or_first (bad_conditions (open_calculation_group before) k after) ((is_some k.length && is_none k.result_field) || bad_by_end (goes_on after) k) (card_kept before c after k s e) in
-      let both = or_second ((goes_on after || (joins k.control_level && is_some (open_calculation_group before))) && not (depends k)) (depends k && not (may_depend (group_end k after))) rest in
+      let rest = or_first (bad_conditions (open_calculation_group before) k after) ((is_some k.length && is_none k.result_field) || bad_by_end (continues after) k) (card_kept before c after k s e) in
+      let both = or_second ((continues after || (joins k.control_level && is_some (open_calculation_group before))) && not (depends k)) (depends k && not (may_depend (group_end k after))) rest in
       no_tests k (by (depends k) (ap (λ b. depends k && not b) (sym m) ∙ both))
     where
       by : (b : Bool) → (b && true) ≡ false → b ≡ false
@@ -205,15 +205,15 @@ module _ (cards : List SpecCard) (columns_kept : KeepsRule bad_calculation_colum
     last = λ before c after g s p q.
         let e = ending before c after g p in
         let is_last : last_card g ≡ e.card = sym (ap last_card e.group) ∙ last_with (open_calculation_group before) e.card in
-        let ends = or_second ((is_some e.card.length && is_none e.card.result_field)) (bad_by_end (goes_on after) e.card) (or_second (bad_conditions (open_calculation_group before) e.card after) ((is_some e.card.length && is_none e.card.result_field) || bad_by_end (goes_on after) e.card) (card_kept before c after e.card s e.is)) in
-        let good : bad_last e.card ≡ false = ap (λ b. bad_by_end b e.card) (sym e.ends) ∙ ends in
+        let ends = or_second ((is_some e.card.length && is_none e.card.result_field)) (bad_by_end (continues after) e.card) (or_second (bad_conditions (open_calculation_group before) e.card after) ((is_some e.card.length && is_none e.card.result_field) || bad_by_end (continues after) e.card) (card_kept before c after e.card s e.is)) in
+        let valid : bad_last e.card ≡ false = ap (λ b. bad_by_end b e.card) (sym e.ends) ∙ ends in
         record {
           begins_group = q.begins_group;
           inside = q.inside;
           paired = sym (ap (λ x. option_map_or (breaks_calculation before c after) x false) p) ∙ or_second (option_map_or (λ k. breaks_group (joins k.control_level) before c k after) (calculation_on c.spec) false) (option_map_or (breaks_calculation before c after) (group_ending before c after) false) (order before c after s);
           waits = waits_not g.first.control_level;
           free = λ x. q.free (end_alone (last_card g) (last_card g).operation x);
-          named = ap (λ k. lacks_name (deed_of k)) is_last ∙ names_there e.card e.card.operation good;
+          named = ap (λ k. lacks_name (statement_of k)) is_last ∙ names_there e.card e.card.operation valid;
           found = sym (ap (λ x. option_map_or (lacks_label (labels (calculations cards))) (option_map calculation_of x) false) p) ∙ labels_found before c after s;
           near = sym (ap (λ x. option_map_or (leaves_section (labels (calculations cards)) (calculations_before before (c ∷ after))) (option_map calculation_of x) false) p) ∙ stays before c after s;
           forward = sym (ap (λ x. comes_back (calls (calculations cards)) (option_and_then (call_at (labels (calculations cards)) (calculations_before before (c ∷ after))) (option_map calculation_of x))) p) ∙ leads before c after s;

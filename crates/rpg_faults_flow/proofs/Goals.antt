@@ -2,9 +2,9 @@
 use Rattle.std.proofs.Common.{◌≡◌, ℕ, zero, suc, ◌+◌, ◌-◌, Bool, true, false, not, cond, ◌&&◌, ◌||◌, List, [], ◌∷◌, ◌++◌, Option, None, Some, refl, sym, ap, ◌∙◌, arith, append_assoc, ◌⊎◌, inl, inr}
 use Rattle.std.specs.Prelude.{find}
 use Rattle.std.specs.Option.{option_map, option_map_or, option_to_list}
-use Rattle.rpg_cards.specs.Deeds.{Begins, Calculation, Deed}
+use Rattle.rpg_cards.specs.Statements.{Begins, Calculation, Statement}
 use Rattle.rpg_cards.specs.Keys.{Key, Name}
-use Rattle.rpg_cards.specs.Labels.{begins_subroutine, begun_count, brackets, ends, gives, is_begsr, is_endsr, is_inside_subroutine, label_named, labels_after, section_by, section_of}
+use Rattle.rpg_cards.specs.Labels.{begins_subroutine, begun_count, brackets, ends, defined_name, is_begsr, is_endsr, is_inside_subroutine, label_named, labels_after, section_by, section_of}
 use Rattle.rpg_cards.specs.declared.labels.Label.{Label}
 use Rattle.rpg_cards.specs.declared.labels.Section.{Section}
 use Rattle.rpg_cards.specs.declared.labels.Section.TheVariants as section_kind
@@ -62,9 +62,9 @@ same_suc : (m n : ℕ) → m + 1 ≡ suc n → m ≡ n
 same_suc m n e = omega (arith, e)
 
 pub at_next : (all : List (Subroutine Key)) (front : List (Calculation Key)) (g : Calculation Key) (gs : List (Calculation Key)) → unpaired front g gs ≡ false → At all front (g ∷ gs) → At all (front ++ g ∷ []) gs
-at_next all front g gs paired a = by_view (view g.deed)
+at_next all front g gs paired a = by_view (view g.statement)
   where
-    by_view : ((n : Option Name) × (g.deed ≡ Begins n)) ⊎ IsOther g.deed → At all (front ++ g ∷ []) gs
+    by_view : ((n : Option Name) × (g.statement ≡ Begins n)) ⊎ IsOther g.statement → At all (front ++ g ∷ []) gs
     by_view (inl (n, d)) =
         let s = begin_control front g gs n d paired in
         let here = a.following ∙ subs_begin g gs n d s in
@@ -105,14 +105,14 @@ or_left false b e = absurd cc
 
 has_after : (l : Option Name) (done gs : List (Calculation Key)) → has_label l gs ≡ true → has_label l (done ++ gs) ≡ true
 has_after l [] gs e = e
-has_after l (d ∷ ds) gs e = or_right (is_same_name l (label_on d.deed)) (has_label l (ds ++ gs)) (has_after l ds gs e)
+has_after l (d ∷ ds) gs e = or_right (is_same_name l (label_on d.statement)) (has_label l (ds ++ gs)) (has_after l ds gs e)
 
-has_of : (test : ControlLevel → Bool) (l : Option Name) (front : List (Calculation Key)) (g : Calculation Key) (gs : List (Calculation Key)) → test g.control ≡ true → is_same_name l (label_on g.deed) ≡ true → has_label l (of_control test (front ++ g ∷ gs)) ≡ true
-has_of test l [] g gs t e = ap (λ b. has_label l (cond b (g ∷ of_control test gs) (of_control test gs))) t ∙ or_left (is_same_name l (label_on g.deed)) (has_label l (of_control test gs)) e
+has_of : (test : ControlLevel → Bool) (l : Option Name) (front : List (Calculation Key)) (g : Calculation Key) (gs : List (Calculation Key)) → test g.control ≡ true → is_same_name l (label_on g.statement) ≡ true → has_label l (of_control test (front ++ g ∷ gs)) ≡ true
+has_of test l [] g gs t e = ap (λ b. has_label l (cond b (g ∷ of_control test gs) (of_control test gs))) t ∙ or_left (is_same_name l (label_on g.statement)) (has_label l (of_control test gs)) e
 has_of test l (f ∷ fs) g gs t e = by (test f.control) (has_of test l fs g gs t e)
   where
     by : (b : Bool) → has_label l (of_control test (fs ++ g ∷ gs)) ≡ true → has_label l (cond b (f ∷ of_control test (fs ++ g ∷ gs)) (of_control test (fs ++ g ∷ gs))) ≡ true
-    by true r = or_right (is_same_name l (label_on f.deed)) (has_label l (of_control test (fs ++ g ∷ gs))) r
+    by true r = or_right (is_same_name l (label_on f.statement)) (has_label l (of_control test (fs ++ g ∷ gs))) r
     by false r = r
 
 -- a subroutine that is open has begun
@@ -158,8 +158,8 @@ must_be true true e false c p q x y = absurd cc
 must_be true false true false c p q x y = absurd cc
 must_be true false false false c p q x y = absurd cc
 
-pub inside_here : (cards : List SpecCard) (front : List (Calculation Key)) (g : Calculation Key) (gs : List (Calculation Key)) → Facts cards front g gs → is_subroutine g.control ≡ true → is_begsr g.deed ≡ false → is_inside_subroutine front ≡ true
-inside_here cards front g gs f s b = must_be (is_subroutine g.control) (is_begsr g.deed) (is_endsr g.deed) (is_inside_subroutine front) (is_closed (brackets gs)) s b f.inside f.paired
+pub inside_here : (cards : List SpecCard) (front : List (Calculation Key)) (g : Calculation Key) (gs : List (Calculation Key)) → Facts cards front g gs → is_subroutine g.control ≡ true → is_begsr g.statement ≡ false → is_inside_subroutine front ≡ true
+inside_here cards front g gs f s b = must_be (is_subroutine g.control) (is_begsr g.statement) (is_endsr g.statement) (is_inside_subroutine front) (is_closed (brackets gs)) s b f.inside f.paired
 
 section_inside : (front : List (Calculation Key)) (c : ControlLevel) (n : ℕ) → is_subroutine c ≡ true → is_inside_subroutine front ≡ true → begun_count front ≡ suc n → section_by front false c ≡ section_kind.Subroutine n
 section_inside front control.Detail n s i e = absurd cc
@@ -171,15 +171,15 @@ section_inside front control.Subroutine n s i e = ap (λ b. cond b (section_kind
 section_inside front control.And n s i e = absurd cc
 section_inside front control.Or n s i e = absurd cc
 
-pub own_section : (front : List (Calculation Key)) (g : Calculation Key) (n : ℕ) → is_subroutine g.control ≡ true → is_begsr g.deed ≡ false → is_inside_subroutine front ≡ true → begun_count front ≡ suc n → section_of front g ≡ section_kind.Subroutine n
+pub own_section : (front : List (Calculation Key)) (g : Calculation Key) (n : ℕ) → is_subroutine g.control ≡ true → is_begsr g.statement ≡ false → is_inside_subroutine front ≡ true → begun_count front ≡ suc n → section_of front g ≡ section_kind.Subroutine n
 own_section front g n s b i e = ap (λ x. section_by front x g.control) (not_begins g b) ∙ section_inside front g.control n s i e
 
 -- ---- labels
 
 module _ (cards : List SpecCard) (all : List (Calculation Key)) where
   -- a label stands in its section
-  has_here : (m : Name) (front : List (Calculation Key)) (g : Calculation Key) (gs : List (Calculation Key)) → all ≡ front ++ g ∷ gs → At (subs all) front (g ∷ gs) → Facts cards front g gs → IsOther g.deed
-      → is_same_name (Some m) (label_on g.deed) ≡ true → has_label (Some m) (part all (subs all) (section_of front g)) ≡ true
+  has_here : (m : Name) (front : List (Calculation Key)) (g : Calculation Key) (gs : List (Calculation Key)) → all ≡ front ++ g ∷ gs → At (subs all) front (g ∷ gs) → Facts cards front g gs → IsOther g.statement
+      → is_same_name (Some m) (label_on g.statement) ≡ true → has_label (Some m) (part all (subs all) (section_of front g)) ≡ true
   has_here m front g gs s a f o e = by g.control refl
     where
       section : section_of front g ≡ section_by front false g.control
@@ -191,7 +191,7 @@ module _ (cards : List SpecCard) (all : List (Calculation Key)) where
           let n = any_begun front i in
           ap (λ x. has_label (Some m) (part all (subs all) x)) (own_section front g n.0 c o.begsr i n.1)
           ∙ ap (has_label (Some m)) (a.body n.0 n.1)
-          ∙ has_after (Some m) a.done (up_to_begin (bodies (g ∷ gs))) (ap (has_label (Some m)) (up_other g gs o.begun ∙ ap (λ b. cond b (g ∷ up_to_begin (bodies gs)) (up_to_begin (bodies gs))) c) ∙ or_left (is_same_name (Some m) (label_on g.deed)) (has_label (Some m) (up_to_begin (bodies gs))) e)
+          ∙ has_after (Some m) a.done (up_to_begin (bodies (g ∷ gs))) (ap (has_label (Some m)) (up_other g gs o.begun ∙ ap (λ b. cond b (g ∷ up_to_begin (bodies gs)) (up_to_begin (bodies gs))) c) ∙ or_left (is_same_name (Some m) (label_on g.statement)) (has_label (Some m) (up_to_begin (bodies gs))) e)
 
       by : (c : ControlLevel) → g.control ≡ c → has_label (Some m) (part all (subs all) (section_of front g)) ≡ true
       by control.Detail p = ap (λ x. has_label (Some m) (part all (subs all) x)) (section ∙ ap (section_by front false) p) ∙ ap (λ x. has_label (Some m) (of_control is_detail x)) s ∙ has_of is_detail (Some m) front g gs (ap is_detail p) e
@@ -204,19 +204,19 @@ module _ (cards : List SpecCard) (all : List (Calculation Key)) where
       → has_label (Some m) (part all (subs all) L.section) ≡ true
   label_placed m front [] L s a h e is = absurd cc
   label_placed m front (g ∷ gs) L s a h e is =
-      by_view (λ f. label_placed m (front ++ g ∷ []) gs L (s ∙ sym (append_assoc front (g ∷ []) gs)) (at_next (subs all) front g gs h.0.paired a) h.1 f is) (view g.deed)
+      by_view (λ f. label_placed m (front ++ g ∷ []) gs L (s ∙ sym (append_assoc front (g ∷ []) gs)) (at_next (subs all) front g gs h.0.paired a) h.1 f is) (view g.statement)
     where
-      by_view : (label_named m (labels_after (front ++ g ∷ []) gs) ≡ Some L → has_label (Some m) (part all (subs all) L.section) ≡ true) → ((n : Option Name) × (g.deed ≡ Begins n)) ⊎ IsOther g.deed → has_label (Some m) (part all (subs all) L.section) ≡ true
+      by_view : (label_named m (labels_after (front ++ g ∷ []) gs) ≡ Some L → has_label (Some m) (part all (subs all) L.section) ≡ true) → ((n : Option Name) × (g.statement ≡ Begins n)) ⊎ IsOther g.statement → has_label (Some m) (part all (subs all) L.section) ≡ true
       by_view rec (inr o) =
-          by_found (find_label m (section_of front g) (label_on g.deed) (labels_after (front ++ g ∷ []) gs) L
-          (ap (λ x. find (named_so m) (option_to_list (option_map (λ n. record { named = n; section = section_of front g }) x) ++ labels_after (front ++ g ∷ []) gs)) (sym o.gives) ∙ e))
+          by_found (find_label m (section_of front g) (label_on g.statement) (labels_after (front ++ g ∷ []) gs) L
+          (ap (λ x. find (named_so m) (option_to_list (option_map (λ n. record { named = n; section = section_of front g }) x) ++ labels_after (front ++ g ∷ []) gs)) (sym o.defined_name) ∙ e))
         where
-          by_found : ((is_same_name (Some m) (label_on g.deed) ≡ true) × (L.named.is_subroutine ≡ false) × (L.section ≡ section_of front g)) ⊎ (find (named_so m) (labels_after (front ++ g ∷ []) gs) ≡ Some L) → has_label (Some m) (part all (subs all) L.section) ≡ true
+          by_found : ((is_same_name (Some m) (label_on g.statement) ≡ true) × (L.named.is_subroutine ≡ false) × (L.section ≡ section_of front g)) ⊎ (find (named_so m) (labels_after (front ++ g ∷ []) gs) ≡ Some L) → has_label (Some m) (part all (subs all) L.section) ≡ true
           by_found (inl x) = ap (λ z. has_label (Some m) (part all (subs all) z)) x.2 ∙ has_here m front g gs s a h.0 o x.0
           by_found (inr f) = rec f
       by_view rec (inl (n, d)) =
           by_found (find_begin m (section_of front g) n (labels_after (front ++ g ∷ []) gs) L
-          (ap (λ (x : Deed Key). find (named_so m) (option_to_list (option_map (λ n. record { named = n; section = section_of front g }) (gives x)) ++ labels_after (front ++ g ∷ []) gs)) (sym d) ∙ e))
+          (ap (λ (x : Statement Key). find (named_so m) (option_to_list (option_map (λ n. record { named = n; section = section_of front g }) (defined_name x)) ++ labels_after (front ++ g ∷ []) gs)) (sym d) ∙ e))
         where
           by_found : ((is_same_name (Some m) n ≡ true) × (L.named.is_subroutine ≡ true) × (L.section ≡ section_of front g)) ⊎ ((is_same_name (Some m) n ≡ false) × (find (named_so m) (labels_after (front ++ g ∷ []) gs) ≡ Some L)) → has_label (Some m) (part all (subs all) L.section) ≡ true
           by_found (inl x) = let no = sym x.1 ∙ is in absurd cc

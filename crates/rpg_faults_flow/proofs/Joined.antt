@@ -5,10 +5,10 @@ use Rattle.std.specs.Option.{option_and_then, option_map, option_map_or, option_
 use Rattle.std.proofs.lemmas.Bool.{eqb-true}
 use Rattle.rpg_cards.specs.Calculations.{calculations}
 use Rattle.rpg_cards.specs.Calls.{call_at, called_subroutine, calls, calls_after, reaches, subroutine_in}
-use Rattle.rpg_cards.specs.Deeds.{Acts, Begins, Calculation, Executes, Deed, Ends, GoesTo, Marks, Nothing, PutsOut, tests}
+use Rattle.rpg_cards.specs.Statements.{Acts, Begins, Calculation, Executes, Statement, Ends, GoesTo, Marks, Nothing, WritesExceptions, tests}
 use Rattle.rpg_cards.specs.Keys.{Key, Name}
 use Rattle.rpg_cards.specs.Labels as labels
-use Rattle.rpg_cards.specs.Labels.{begun_count, is_begsr, is_endsr, label_named, section_by, section_of, wants}
+use Rattle.rpg_cards.specs.Labels.{begun_count, is_begsr, is_endsr, label_named, section_by, section_of, target_name}
 use Rattle.rpg_cards.specs.declared.labels.Label.{Label}
 use Rattle.rpg_cards.specs.declared.labels.Named.{Named}
 use Rattle.rpg_cards.specs.declared.labels.Section.{Section}
@@ -25,7 +25,7 @@ use Rattle.rpg_faults_flow.proofs.Placed.{IsOther, begin_control, begun_more, be
 use Rattle.rpg_faults_flow.proofs.Reaching.{forward_by_calls}
 use Rattle.rpg_faults_flow.proofs.Walk.{EachSplit}
 use Rattle.rpg_faults_flow.specs.Columns.{bad_calculation_columns}
-use Rattle.rpg_faults_flow.specs.Flow.{alike, are_apart, calls_itself, comes_back, goes_apart, goes_nowhere, is_given_as, lacks_label, leaves_by}
+use Rattle.rpg_faults_flow.specs.Flow.{alike, are_apart, calls_itself, comes_back, leaves_its_section, lacks_target, is_given_as, lacks_label, leaves_by}
 use Rattle.rpg_faults_flow.specs.Kept.{KeepsRule}
 use Rattle.rpg_faults_flow.specs.Order.{breaks_order, is_bracket}
 use Rattle.rpg_sheet_specs.specs.declared.calculation.ControlLevel.{ControlLevel}
@@ -57,7 +57,7 @@ each_of R test (g ∷ gs) h = by (test g.control) refl (each_of R test gs h.1)
 
 each_up : (R : Calculation Key → Type 0) (gs : List (Calculation Key)) → Each R gs → Each R (up_to_begin gs)
 each_up R [] h = tt
-each_up R (g ∷ gs) h = by (begun_by g.deed) (each_up R gs h.1)
+each_up R (g ∷ gs) h = by (begun_by g.statement) (each_up R gs h.1)
   where
     by : (o : Option (Option Name)) → Each R (up_to_begin gs) → Each R (unless_begun o (g ∷ up_to_begin gs))
     by None r = (h.0, r)
@@ -65,7 +65,7 @@ each_up R (g ∷ gs) h = by (begun_by g.deed) (each_up R gs h.1)
 
 pub each_body : (R : Calculation Key → Type 0) (gs : List (Calculation Key)) → Each R gs → Each (λ s. Each R s.body) (subroutines_of gs)
 each_body R [] h = tt
-each_body R (g ∷ gs) h = by (begun_by g.deed) (each_up R gs h.1) (each_body R gs h.1)
+each_body R (g ∷ gs) h = by (begun_by g.statement) (each_up R gs h.1) (each_body R gs h.1)
   where
     by : (o : Option (Option Name)) → Each R (up_to_begin gs) → Each (λ s. Each R s.body) (subroutines_of gs) → Each (λ s. Each R s.body) (with_begun o (up_to_begin gs) (subroutines_of gs))
     by None u r = r
@@ -106,7 +106,7 @@ is_in : (s : Section) → IsIn s → s ≡ section_kind.Outside → ⊥
 unfolding IsIn
 is_in s h e = subst IsIn e h
 
-section_is_in : (cards : List SpecCard) (front : List (Calculation Key)) (g : Calculation Key) (gs : List (Calculation Key)) → Facts cards front g gs → is_begsr g.deed ≡ false → IsIn (section_of front g)
+section_is_in : (cards : List SpecCard) (front : List (Calculation Key)) (g : Calculation Key) (gs : List (Calculation Key)) → Facts cards front g gs → is_begsr g.statement ≡ false → IsIn (section_of front g)
 unfolding IsIn
 section_is_in cards front g gs f b = subst IsIn (ap (λ x. section_by front x g.control) (sym (not_begins g b))) (by g.control refl)
   where
@@ -136,15 +136,15 @@ module _ (cards : List SpecCard) where
         by true p f n = absurd cc
         by false p f n = same_part all (subs all) (Some m) own L.section n (is_in own o) (label_placed cards all m [] all L refl (at_first all) facts e p)
 
-    goal_at : (front : List (Calculation Key)) (g : Calculation Key) (gs : List (Calculation Key)) → Facts cards front g gs → IsOther g.deed → HasGoal (part all (subs all) (section_of front g)) g.deed
-    goal_at front g gs f o = by g.deed f.named f.found f.near
+    goal_at : (front : List (Calculation Key)) (g : Calculation Key) (gs : List (Calculation Key)) → Facts cards front g gs → IsOther g.statement → HasGoal (part all (subs all) (section_of front g)) g.statement
+    goal_at front g gs f o = by g.statement f.named f.found f.near
       where
-        by : (d : Deed Key) → lacks_name d ≡ false → option_map_or (λ n. not (is_given_as given n)) (wants d) false ≡ false → option_map_or (λ (n : Named). option_map_or (leaves_by (section_of front g) n) (label_named n.name given) false) (wants d) false ≡ false
+        by : (d : Statement Key) → lacks_name d ≡ false → option_map_or (λ n. not (is_given_as given n)) (target_name d) false ≡ false → option_map_or (λ (n : Named). option_map_or (leaves_by (section_of front g) n) (label_named n.name given) false) (target_name d) false ≡ false
             → HasGoal (part all (subs all) (section_of front g)) d
         by (GoesTo None) a b c = absurd cc
         by (GoesTo (Some m)) a b c = goto m (section_of front g) (label_named m given) refl b c (section_is_in cards front g gs f o.begsr)
         by (Acts x) a b c = tt
-        by PutsOut a b c = tt
+        by WritesExceptions a b c = tt
         by (Executes n) a b c = tt
         by (Marks l) a b c = tt
         by (Begins n) a b c = tt
@@ -152,28 +152,28 @@ module _ (cards : List SpecCard) where
         by Nothing a b c = tt
 
     abbrev Goals : List (Calculation Key) → List (Calculation Key) → Type 0
-    Goals front gs = ((n : ℕ) → begun_count front ≡ suc n → Each (λ g. HasGoal (body_at n (subs all)) g.deed) (up_to_begin (bodies gs))) × Each (λ (s : Subroutine Key). Each (λ g. HasGoal s.body g.deed) s.body) (subs gs)
+    Goals front gs = ((n : ℕ) → begun_count front ≡ suc n → Each (λ g. HasGoal (body_at n (subs all)) g.statement) (up_to_begin (bodies gs))) × Each (λ (s : Subroutine Key). Each (λ g. HasGoal s.body g.statement) s.body) (subs gs)
 
     goals_after : (front gs : List (Calculation Key)) → At (subs all) front gs → EachSplit (Facts cards) front gs → Goals front gs
     goals_after front [] a h = (λ n e. tt, tt)
-    goals_after front (g ∷ gs) a h = by_view (goals_after (front ++ g ∷ []) gs (at_next (subs all) front g gs h.0.paired a) h.1) (view g.deed)
+    goals_after front (g ∷ gs) a h = by_view (goals_after (front ++ g ∷ []) gs (at_next (subs all) front g gs h.0.paired a) h.1) (view g.statement)
       where
-        by_view : Goals (front ++ g ∷ []) gs → ((n : Option Name) × (g.deed ≡ Begins n)) ⊎ IsOther g.deed → Goals front (g ∷ gs)
+        by_view : Goals (front ++ g ∷ []) gs → ((n : Option Name) × (g.statement ≡ Begins n)) ⊎ IsOther g.statement → Goals front (g ∷ gs)
         by_view rec (inl (n, d)) =
             let s = begin_control front g gs n d h.0.paired in
             let own = body_after (begun_count front) (subs all) (subs gs) (record { name = n; body = up_to_begin (bodies gs) }) (a.following ∙ subs_begin g gs n d s) in (
-              λ m e. subst (Each (λ g. HasGoal (body_at m (subs all)) g.deed)) (sym (up_begin g gs n d s)) tt,
-              subst (Each (λ (s : Subroutine Key). Each (λ g. HasGoal s.body g.deed) s.body)) (sym (subs_begin g gs n d s))
-                  (subst (λ b. Each (λ (g : Calculation Key). HasGoal b g.deed) (up_to_begin (bodies gs))) own (rec.0 (begun_count front) (begun_more front g n d s ∙ omega arith)), rec.1),
+              λ m e. subst (Each (λ g. HasGoal (body_at m (subs all)) g.statement)) (sym (up_begin g gs n d s)) tt,
+              subst (Each (λ (s : Subroutine Key). Each (λ g. HasGoal s.body g.statement) s.body)) (sym (subs_begin g gs n d s))
+                  (subst (λ b. Each (λ (g : Calculation Key). HasGoal b g.statement) (up_to_begin (bodies gs))) own (rec.0 (begun_count front) (begun_more front g n d s ∙ omega arith)), rec.1),
             )
         by_view rec (inr o) = (
-          λ n e. subst (Each (λ g. HasGoal (body_at n (subs all)) g.deed)) (sym (up_other g gs o.begun)) (by_control n e (is_subroutine g.control) refl),
-          subst (Each (λ (s : Subroutine Key). Each (λ g. HasGoal s.body g.deed) s.body)) (sym (subs_other g gs o.begun)) rec.1,
+          λ n e. subst (Each (λ g. HasGoal (body_at n (subs all)) g.statement)) (sym (up_other g gs o.begun)) (by_control n e (is_subroutine g.control) refl),
+          subst (Each (λ (s : Subroutine Key). Each (λ g. HasGoal s.body g.statement) s.body)) (sym (subs_other g gs o.begun)) rec.1,
         )
           where
-            by_control : (n : ℕ) → begun_count front ≡ suc n → (b : Bool) → is_subroutine g.control ≡ b → Each (λ g. HasGoal (body_at n (subs all)) g.deed) (cond b (g ∷ up_to_begin (bodies gs)) (up_to_begin (bodies gs)))
+            by_control : (n : ℕ) → begun_count front ≡ suc n → (b : Bool) → is_subroutine g.control ≡ b → Each (λ g. HasGoal (body_at n (subs all)) g.statement) (cond b (g ∷ up_to_begin (bodies gs)) (up_to_begin (bodies gs)))
             by_control n e true s = (
-              subst (λ x. HasGoal (part all (subs all) x) g.deed) (own_section front g n s o.begsr (inside_here cards front g gs h.0 s o.begsr) e) (goal_at front g gs h.0 o),
+              subst (λ x. HasGoal (part all (subs all) x) g.statement) (own_section front g n s o.begsr (inside_here cards front g gs h.0 s o.begsr) e) (goal_at front g gs h.0 o),
               rec.0 n (begun_same front g o.begsr ∙ e),
             )
             by_control n e false s = rec.0 n (begun_same front g o.begsr ∙ e)
@@ -189,15 +189,15 @@ module _ (cards : List SpecCard) where
         by false p f = absurd cc
         by true p f = let r = subroutine_found cards m [] all L facts e p in (r.0, ap subroutine_in r.1 ∙ ap Some (omega arith))
 
-    found_at : (g : Calculation Key) → lacks_name g.deed ≡ false → lacks_label given g ≡ false → IsFound (subs all) g.deed
-    found_at g a b = by g.deed a b
+    found_at : (g : Calculation Key) → lacks_name g.statement ≡ false → lacks_label given g ≡ false → IsFound (subs all) g.statement
+    found_at g a b = by g.statement a b
       where
-        by : (d : Deed Key) → lacks_name d ≡ false → option_map_or (λ n. not (is_given_as given n)) (wants d) false ≡ false → IsFound (subs all) d
+        by : (d : Statement Key) → lacks_name d ≡ false → option_map_or (λ n. not (is_given_as given n)) (target_name d) false ≡ false → IsFound (subs all) d
         by (Executes None) a b = absurd cc
         by (Executes (Some m)) a b = (called_there m (label_named m given) refl b).0
         by (GoesTo l) a b = tt
         by (Acts x) a b = tt
-        by PutsOut a b = tt
+        by WritesExceptions a b = tt
         by (Marks l) a b = tt
         by (Begins n) a b = tt
         by (Ends l) a b = tt
@@ -208,16 +208,16 @@ module _ (cards : List SpecCard) where
     abbrev ps : List Pair
     ps = calls_of (subs all)
 
-    callee_at : (g : Calculation Key) → lacks_name g.deed ≡ false → lacks_label given g ≡ false → option_and_then (called_subroutine given) (wants g.deed) ≡ option_map (λ n. callee n (subs all)) (call_in g.deed)
-    callee_at g a b = by g.deed a b
+    callee_at : (g : Calculation Key) → lacks_name g.statement ≡ false → lacks_label given g ≡ false → option_and_then (called_subroutine given) (target_name g.statement) ≡ option_map (λ n. callee n (subs all)) (call_in g.statement)
+    callee_at g a b = by g.statement a b
       where
-        by : (d : Deed Key) → lacks_name d ≡ false → option_map_or (λ n. not (is_given_as given n)) (wants d) false ≡ false → option_and_then (called_subroutine given) (wants d) ≡ option_map (λ n. callee n (subs all)) (call_in d)
+        by : (d : Statement Key) → lacks_name d ≡ false → option_map_or (λ n. not (is_given_as given n)) (target_name d) false ≡ false → option_and_then (called_subroutine given) (target_name d) ≡ option_map (λ n. callee n (subs all)) (call_in d)
         by (Executes None) a b = absurd cc
         by (Executes (Some m)) a b = (called_there m (label_named m given) refl b).1
         by (GoesTo None) a b = refl
         by (GoesTo (Some m)) a b = refl
         by (Acts x) a b = refl
-        by PutsOut a b = refl
+        by WritesExceptions a b = refl
         by (Marks l) a b = refl
         by (Begins n) a b = refl
         by (Ends l) a b = refl
@@ -247,12 +247,12 @@ module _ (cards : List SpecCard) where
 
     calls_same : (front gs : List (Calculation Key)) → EachSplit (Facts cards) front gs → calls_after given front gs ≡ calls_left front gs
     calls_same front [] h = refl
-    calls_same front (g ∷ gs) h = by_view (calls_same (front ++ g ∷ []) gs h.1) (view g.deed)
+    calls_same front (g ∷ gs) h = by_view (calls_same (front ++ g ∷ []) gs h.1) (view g.statement)
       where
-        by_view : calls_after given (front ++ g ∷ []) gs ≡ calls_left (front ++ g ∷ []) gs → ((n : Option Name) × (g.deed ≡ Begins n)) ⊎ IsOther g.deed → calls_after given front (g ∷ gs) ≡ calls_left front (g ∷ gs)
+        by_view : calls_after given (front ++ g ∷ []) gs ≡ calls_left (front ++ g ∷ []) gs → ((n : Option Name) × (g.statement ≡ Begins n)) ⊎ IsOther g.statement → calls_after given front (g ∷ gs) ≡ calls_left front (g ∷ gs)
         by_view rec (inl (n, d)) =
             let s = begin_control front g gs n d h.0.paired in
-            let none : call_at given front g ≡ None = ap (λ (x : Deed Key). made_call (subroutine_in (section_of front g)) (option_and_then (called_subroutine given) (wants x))) d ∙ wants_none n (subroutine_in (section_of front g)) in
+            let none : call_at given front g ≡ None = ap (λ (x : Statement Key). made_call (subroutine_in (section_of front g)) (option_and_then (called_subroutine given) (target_name x))) d ∙ wants_none n (subroutine_in (section_of front g)) in
             ap (λ o. option_to_list o ++ calls_after given (front ++ g ∷ []) gs) none
             ∙ rec
             ∙ ap (λ k. calls_in (subs all) (k - 1) (up_to_begin (bodies gs)) ++ calls_from (subs all) k (subs gs)) (begun_more front g n d s)
@@ -260,7 +260,7 @@ module _ (cards : List SpecCard) where
             ∙ ap (λ ss. calls_from (subs all) (begun_count front) ss) (sym (subs_begin g gs n d s))
             ∙ ap (λ us. calls_in (subs all) (begun_count front - 1) us ++ calls_from (subs all) (begun_count front) (subs (g ∷ gs))) (sym (up_begin g gs n d s))
           where
-            wants_none : (n : Option Name) (caller : Option ℕ) → made_call caller (option_and_then (called_subroutine given) (wants (Begins n))) ≡ None
+            wants_none : (n : Option Name) (caller : Option ℕ) → made_call caller (option_and_then (called_subroutine given) (target_name (Begins n))) ≡ None
             wants_none n caller = no_call caller
 
             moved : (k : ℕ) → calls_in (subs all) (k + 1 - 1) (up_to_begin (bodies gs)) ++ calls_from (subs all) (k + 1) (subs gs) ≡ calls_in (subs all) k (up_to_begin (bodies gs)) ++ calls_from (subs all) (suc k) (subs gs)
@@ -276,7 +276,7 @@ module _ (cards : List SpecCard) where
             same_count : calls_left (front ++ g ∷ []) gs ≡ calls_left front gs
             same_count = ap (λ k. calls_in (subs all) (k - 1) (up_to_begin (bodies gs)) ++ calls_from (subs all) k (subs gs)) (begun_same front g o.begsr)
 
-            made : call_at given front g ≡ made_call (subroutine_in (section_of front g)) (option_map (λ n. callee n (subs all)) (call_in g.deed))
+            made : call_at given front g ≡ made_call (subroutine_in (section_of front g)) (option_map (λ n. callee n (subs all)) (call_in g.statement))
             made = ap (made_call (subroutine_in (section_of front g))) (callee_at g h.0.named h.0.found)
 
             with_append : (n : ℕ) (o : Option (Option Name)) (xs ys : List Pair) → with_call (subs all) n o (xs ++ ys) ≡ with_call (subs all) n o xs ++ ys
@@ -285,16 +285,16 @@ module _ (cards : List SpecCard) where
 
             by_control : (b : Bool) → is_subroutine g.control ≡ b → calls_after given front (g ∷ gs) ≡ calls_left front (g ∷ gs)
             by_control false s =
-                ap (λ c. option_to_list (made_call c (option_and_then (called_subroutine given) (wants g.deed))) ++ calls_after given (front ++ g ∷ []) gs) (outside_caller front (labels.begins_subroutine g) g.control s)
+                ap (λ c. option_to_list (made_call c (option_and_then (called_subroutine given) (target_name g.statement))) ++ calls_after given (front ++ g ∷ []) gs) (outside_caller front (labels.begins_subroutine g) g.control s)
                 ∙ rec ∙ same_count ∙ sym (following false s)
             by_control true s =
                 let i = inside_here cards front g gs h.0 s o.begsr in
                 let n = any_begun front i in
                 let own : subroutine_in (section_of front g) ≡ Some (begun_count front - 1) = ap subroutine_in (own_section front g n.0 s o.begsr i n.1) ∙ ap Some (sym (less (begun_count front) n.0 n.1)) in
-                ap (λ x. option_to_list x ++ calls_after given (front ++ g ∷ []) gs) (made ∙ ap (λ c. made_call c (option_map (λ n. callee n (subs all)) (call_in g.deed))) own)
-                ∙ with_made (begun_count front - 1) (call_in g.deed) (calls_after given (front ++ g ∷ []) gs)
-                ∙ ap (with_call (subs all) (begun_count front - 1) (call_in g.deed)) (rec ∙ same_count)
-                ∙ with_append (begun_count front - 1) (call_in g.deed) (calls_in (subs all) (begun_count front - 1) (up_to_begin (bodies gs))) (calls_from (subs all) (begun_count front) (subs gs))
+                ap (λ x. option_to_list x ++ calls_after given (front ++ g ∷ []) gs) (made ∙ ap (λ c. made_call c (option_map (λ n. callee n (subs all)) (call_in g.statement))) own)
+                ∙ with_made (begun_count front - 1) (call_in g.statement) (calls_after given (front ++ g ∷ []) gs)
+                ∙ ap (with_call (subs all) (begun_count front - 1) (call_in g.statement)) (rec ∙ same_count)
+                ∙ with_append (begun_count front - 1) (call_in g.statement) (calls_in (subs all) (begun_count front - 1) (up_to_begin (bodies gs))) (calls_from (subs all) (begun_count front) (subs gs))
                 ∙ sym (following true s)
               where
                 less : (a b : ℕ) → a ≡ suc b → a - 1 ≡ b
@@ -328,27 +328,27 @@ module _ (cards : List SpecCard) where
 
     -- ---- plain sections
 
-    abbrev IsGood : Calculation Key → Type 0
-    IsGood g = (is_subroutine g.control ≡ true → g.level ≡ None) × ((is_endsr g.deed ≡ true → tests g.alternatives ≡ 0) × IsFound (subs all) g.deed)
+    abbrev IsValid : Calculation Key → Type 0
+    IsValid g = (is_subroutine g.control ≡ true → g.level ≡ None) × ((is_endsr g.statement ≡ true → tests g.alternatives ≡ 0) × IsFound (subs all) g.statement)
 
-    good : Each IsGood all
-    good = each_split IsGood (λ front g gs f. (f.waits, (f.free, found_at g f.named f.found))) [] all facts
+    valid : Each IsValid all
+    valid = each_split IsValid (λ front g gs f. (f.waits, (f.free, found_at g f.named f.found))) [] all facts
 
-    found_all : Each (λ g. IsFound (subs all) g.deed) all
-    found_all = each_split (λ g. IsFound (subs all) g.deed) (λ front g gs f. found_at g f.named f.found) [] all facts
+    found_all : Each (λ g. IsFound (subs all) g.statement) all
+    found_all = each_split (λ g. IsFound (subs all) g.statement) (λ front g gs f. found_at g f.named f.found) [] all facts
 
-    no_return : (d : Deed Key) (s : Bool) (rest : Bool) → s ≡ false → ((is_bracket d && not s) || rest) ≡ false → IsNoReturn d
+    no_return : (d : Statement Key) (s : Bool) (rest : Bool) → s ≡ false → ((is_bracket d && not s) || rest) ≡ false → IsNoReturn d
     no_return (Ends l) s rest e h = let never = ap (λ b. not b || rest) (sym e) ∙ h in absurd cc
     no_return (Acts a) s rest e h = tt
-    no_return PutsOut s rest e h = tt
+    no_return WritesExceptions s rest e h = tt
     no_return (GoesTo l) s rest e h = tt
     no_return (Executes n) s rest e h = tt
     no_return (Marks l) s rest e h = tt
     no_return (Begins n) s rest e h = tt
     no_return Nothing s rest e h = tt
 
-    not_sr : (test : ControlLevel → Bool) → ((c : ControlLevel) → test c ≡ true → is_subroutine c ≡ false) → Each (λ g. IsNoReturn g.deed) (of_control test all)
-    not_sr test other = each_of (λ g. IsNoReturn g.deed) test all (each_split (λ g. test g.control ≡ true → IsNoReturn g.deed) (λ front g gs f t. no_return g.deed (is_subroutine g.control) _ (other g.control t) f.paired) [] all facts)
+    not_sr : (test : ControlLevel → Bool) → ((c : ControlLevel) → test c ≡ true → is_subroutine c ≡ false) → Each (λ g. IsNoReturn g.statement) (of_control test all)
+    not_sr test other = each_of (λ g. IsNoReturn g.statement) test all (each_split (λ g. test g.control ≡ true → IsNoReturn g.statement) (λ front g gs f t. no_return g.statement (is_subroutine g.control) _ (other g.control t) f.paired) [] all facts)
 
     detail_other : (c : ControlLevel) → is_detail c ≡ true → is_subroutine c ≡ false
     detail_other control.Detail e = refl
@@ -364,18 +364,18 @@ module _ (cards : List SpecCard) where
     total_other control.And e = absurd cc
     total_other control.Or e = absurd cc
 
-    abbrev IsGoodBody : Calculation Key → Type 0
-    IsGoodBody g = (g.level ≡ None) × ((is_endsr g.deed ≡ true → tests g.alternatives ≡ 0) × IsFound (subs all) g.deed)
+    abbrev IsValidBody : Calculation Key → Type 0
+    IsValidBody g = (g.level ≡ None) × ((is_endsr g.statement ≡ true → tests g.alternatives ≡ 0) × IsFound (subs all) g.statement)
 
-    good_bodies : Each IsGoodBody (bodies all)
-    good_bodies = each_of IsGoodBody is_subroutine all (each_split (λ g. is_subroutine g.control ≡ true → IsGoodBody g) (λ front g gs f s. (f.waits s, (f.free, found_at g f.named f.found))) [] all facts)
+    valid_bodies : Each IsValidBody (bodies all)
+    valid_bodies = each_of IsValidBody is_subroutine all (each_split (λ g. is_subroutine g.control ≡ true → IsValidBody g) (λ front g gs f s. (f.waits s, (f.free, found_at g f.named f.found))) [] all facts)
 
-    plain_bodies : (ss : List (Subroutine Key)) → Each (λ s. EndsWell s.body) ss → Each (λ s. Each IsGoodBody s.body) ss → Each (λ (s : Subroutine Key). Each (λ g. HasGoal s.body g.deed) s.body) ss → ArePlainBodies (subs all) ss
+    plain_bodies : (ss : List (Subroutine Key)) → Each (λ s. EndsWell s.body) ss → Each (λ s. Each IsValidBody s.body) ss → Each (λ (s : Subroutine Key). Each (λ g. HasGoal s.body g.statement) s.body) ss → ArePlainBodies (subs all) ss
     plain_bodies [] e b g = tt
     plain_bodies (s ∷ ss) e b g =
         let w = e.0 in
-        let last = each_front IsGoodBody w.front w.last (subst (Each IsGoodBody) w.split b.0) in
-        let goals = each_front (λ g. HasGoal s.body g.deed) w.front w.last (subst (Each (λ g. HasGoal s.body g.deed)) w.split g.0) in (
+        let last = each_front IsValidBody w.front w.last (subst (Each IsValidBody) w.split b.0) in
+        let goals = each_front (λ g. HasGoal s.body g.statement) w.front w.last (subst (Each (λ g. HasGoal s.body g.statement)) w.split g.0) in (
           record {
             front = w.front;
             last = w.last;
@@ -390,7 +390,7 @@ module _ (cards : List SpecCard) where
           plain_bodies ss e.1 b.1 g.1,
         )
       where
-        founds : (gs : List (Calculation Key)) → Each IsGoodBody gs → Each (λ g. IsFound (subs all) g.deed) gs
+        founds : (gs : List (Calculation Key)) → Each IsValidBody gs → Each (λ g. IsFound (subs all) g.statement) gs
         founds [] h = tt
         founds (g ∷ gs) h = (h.0.1.1, founds gs h.1)
 
@@ -398,20 +398,20 @@ module _ (cards : List SpecCard) where
     plain few = record {
       detail_ends = not_sr is_detail detail_other;
       total_ends = not_sr is_total total_other;
-      detail_found = each_control (λ g. IsFound (subs all) g.deed) is_detail all found_all;
-      total_found = each_control (λ g. IsFound (subs all) g.deed) is_total all found_all;
-      bodies = plain_bodies (subs all) (all_end_well (bodies all) false pairs) (each_body IsGoodBody (bodies all) good_bodies) (goals_after [] all (at_first all) facts).1;
+      detail_found = each_control (λ g. IsFound (subs all) g.statement) is_detail all found_all;
+      total_found = each_control (λ g. IsFound (subs all) g.statement) is_total all found_all;
+      bodies = plain_bodies (subs all) (all_end_well (bodies all) false pairs) (each_body IsValidBody (bodies all) valid_bodies) (goals_after [] all (at_first all) facts).1;
       forward = forward (length (subs all));
       few = few;
     }
 
 -- F9, F10, F12, F13, F14 of cards, and F6's count, give plain sections
-pub plain_of_rules : (cards : List SpecCard) → KeepsRule bad_calculation_columns cards → KeepsRule breaks_order cards → KeepsRule (goes_nowhere cards) cards → KeepsRule (goes_apart cards) cards → KeepsRule (calls_itself cards) cards
+pub plain_of_rules : (cards : List SpecCard) → KeepsRule bad_calculation_columns cards → KeepsRule breaks_order cards → KeepsRule (lacks_target cards) cards → KeepsRule (leaves_its_section cards) cards → KeepsRule (calls_itself cards) cards
     → length (sections_of (calculations cards)).subroutines ≤ 100 → ArePlain (sections_of (calculations cards))
 plain_of_rules cards f9 f12 f10 f13 f14 few = plain cards (each_fact cards f9 f12 f10 f13 f14) few
 
 -- the same with F6's count: as many BEGSRs among SR cards
-pub plain_of_counts : (cards : List SpecCard) → KeepsRule bad_calculation_columns cards → KeepsRule breaks_order cards → KeepsRule (goes_nowhere cards) cards → KeepsRule (goes_apart cards) cards → KeepsRule (calls_itself cards) cards
+pub plain_of_counts : (cards : List SpecCard) → KeepsRule bad_calculation_columns cards → KeepsRule breaks_order cards → KeepsRule (lacks_target cards) cards → KeepsRule (leaves_its_section cards) cards → KeepsRule (calls_itself cards) cards
     → begun_count (calculations cards) ≤ 100 → ArePlain (sections_of (calculations cards))
 plain_of_counts cards f9 f12 f10 f13 f14 few =
     let facts = each_fact cards f9 f12 f10 f13 f14 in

@@ -2,7 +2,7 @@
 use Rattle.std.proofs.Common.{◌≡◌, Bool, true, false, not, cond, ◌&&◌, ◌||◌, List, [], ◌∷◌, ◌++◌, Option, None, Some, refl, sym, ap, ◌∙◌, subst}
 use Rattle.std.specs.List.{filter, last_or}
 use Rattle.std.specs.Option.{option_map_or}
-use Rattle.rpg_cards.specs.Deeds.{Acts, Begins, Calculation, Executes, Deed, Ends, GoesTo, Marks, Nothing, PutsOut}
+use Rattle.rpg_cards.specs.Statements.{Acts, Begins, Calculation, Executes, Statement, Ends, GoesTo, Marks, Nothing, WritesExceptions}
 use Rattle.rpg_cards.specs.Keys.{Key, Name}
 use Rattle.rpg_cards.specs.Labels.{begins_subroutine, brackets, ends, is_begsr, is_endsr, is_inside_subroutine}
 use Rattle.rpg_cards.specs.Plain.{Each}
@@ -12,19 +12,19 @@ use Rattle.rpg_faults_flow.proofs.Facts.{Facts}
 use Rattle.rpg_faults_flow.proofs.Walk.{EachSplit}
 use Rattle.rpg_faults_flow.specs.Order.{is_bracket, is_closed}
 
-abbrev pub PairedAt : Deed Key → Bool → (Bool → Type 0) → Type 0
+abbrev pub PairedAt : Statement Key → Bool → (Bool → Type 0) → Type 0
 PairedAt (Begins n) false rest = rest true
 PairedAt (Begins n) true rest = ⊥
 PairedAt (Ends l) true rest = rest false
 PairedAt (Ends l) false rest = ⊥
 PairedAt (Acts a) true rest = rest true
-PairedAt PutsOut true rest = rest true
+PairedAt WritesExceptions true rest = rest true
 PairedAt (GoesTo l) true rest = rest true
 PairedAt (Executes s) true rest = rest true
 PairedAt (Marks l) true rest = rest true
 PairedAt Nothing true rest = rest true
 PairedAt (Acts a) false rest = ⊥
-PairedAt PutsOut false rest = ⊥
+PairedAt WritesExceptions false rest = ⊥
 PairedAt (GoesTo l) false rest = ⊥
 PairedAt (Executes s) false rest = ⊥
 PairedAt (Marks l) false rest = ⊥
@@ -37,7 +37,7 @@ IsOver true = ⊥
 -- with a subroutine open or not before them
 abbrev pub ArePaired : List (Calculation Key) → Bool → Type 0
 ArePaired [] inside = IsOver inside
-ArePaired (g ∷ gs) inside = PairedAt g.deed inside (λ b. ArePaired gs b)
+ArePaired (g ∷ gs) inside = PairedAt g.statement inside (λ b. ArePaired gs b)
 
 -- ---- the last one that passes a test
 
@@ -73,18 +73,18 @@ closed_cons g gs = by (begins_subroutine g || ends g)
 
 -- ---- one calculation
 
-abbrev PairedBy : Bool → Deed Key → Bool → List (Calculation Key) → Type 0
+abbrev PairedBy : Bool → Statement Key → Bool → List (Calculation Key) → Type 0
 PairedBy true d b gs = PairedAt d b (λ b. ArePaired gs b)
 PairedBy false d b gs = ArePaired gs b
 
-paired_by : (x : Bool) (g : Calculation Key) (b : Bool) (gs : List (Calculation Key)) → PairedBy x g.deed b gs → ArePaired (cond x (g ∷ gs) gs) b
+paired_by : (x : Bool) (g : Calculation Key) (b : Bool) (gs : List (Calculation Key)) → PairedBy x g.statement b gs → ArePaired (cond x (g ∷ gs) gs) b
 paired_by true g b gs h = h
 paired_by false g b gs h = h
 
-abbrev Rest : Bool → Deed Key → Bool → Bool → List (Calculation Key) → Type 0
+abbrev Rest : Bool → Statement Key → Bool → Bool → List (Calculation Key) → Type 0
 Rest s d inside closed gs = (inside_by inside (s && is_begsr d) (s && is_endsr d) ≡ true → closed ≡ true) → ArePaired gs (inside_by inside (s && is_begsr d) (s && is_endsr d))
 
-one : (s : Bool) (d : Deed Key) (inside closed : Bool) (gs : List (Calculation Key))
+one : (s : Bool) (d : Statement Key) (inside closed : Bool) (gs : List (Calculation Key))
     → (s && (not (is_bracket d) && not inside)) ≡ false
     → ((is_bracket d && not s) || (((s && is_endsr d) && not inside) || ((s && is_begsr d) && not closed))) ≡ false
     → (inside ≡ true → cond ((s && is_begsr d) || (s && is_endsr d)) (s && is_endsr d) closed ≡ true)
@@ -96,13 +96,13 @@ one true (Begins n) false false gs outside paired known rest = absurd cc
 one true (Ends l) true closed gs outside paired known rest = rest (λ e. absurd cc)
 one true (Ends l) false closed gs outside paired known rest = absurd cc
 one true (Acts a) true closed gs outside paired known rest = rest known
-one true PutsOut true closed gs outside paired known rest = rest known
+one true WritesExceptions true closed gs outside paired known rest = rest known
 one true (GoesTo l) true closed gs outside paired known rest = rest known
 one true (Executes n) true closed gs outside paired known rest = rest known
 one true (Marks l) true closed gs outside paired known rest = rest known
 one true Nothing true closed gs outside paired known rest = rest known
 one true (Acts a) false closed gs outside paired known rest = absurd cc
-one true PutsOut false closed gs outside paired known rest = absurd cc
+one true WritesExceptions false closed gs outside paired known rest = absurd cc
 one true (GoesTo l) false closed gs outside paired known rest = absurd cc
 one true (Executes n) false closed gs outside paired known rest = absurd cc
 one true (Marks l) false closed gs outside paired known rest = absurd cc
@@ -116,7 +116,7 @@ are_paired cards front [] h known = by (is_inside_subroutine front) known
     by true k = let no = k refl in absurd cc
 are_paired cards front (g ∷ gs) h known =
     paired_by (is_subroutine g.control) g (is_inside_subroutine front) (of_control is_subroutine gs)
-    (one (is_subroutine g.control) g.deed (is_inside_subroutine front) (is_closed (brackets gs)) (of_control is_subroutine gs) h.0.inside h.0.paired
+    (one (is_subroutine g.control) g.statement (is_inside_subroutine front) (is_closed (brackets gs)) (of_control is_subroutine gs) h.0.inside h.0.paired
     (λ e. sym (closed_cons g gs) ∙ known e)
     (λ k. subst (ArePaired (of_control is_subroutine gs)) (is_inside-push front g) (are_paired cards (front ++ g ∷ []) gs h.1 (λ e. k (sym (is_inside-push front g) ∙ e)))))
 
@@ -125,30 +125,30 @@ are_paired cards front (g ∷ gs) h known =
 -- after an ENDSR the next BEGSR follows, if anything does
 pub none_before : (gs : List (Calculation Key)) → ArePaired gs false → up_to_begin gs ≡ []
 none_before [] h = refl
-none_before (g ∷ gs) h = by_deed g.deed h
+none_before (g ∷ gs) h = by_statement g.statement h
   where
-    by_deed : (d : Deed Key) → PairedAt d false (λ b. ArePaired gs b) → unless_begun (begun_by d) (g ∷ up_to_begin gs) ≡ []
-    by_deed (Begins n) h = refl
-    by_deed (Acts a) h = absurd h
-    by_deed PutsOut h = absurd h
-    by_deed (GoesTo l) h = absurd h
-    by_deed (Executes s) h = absurd h
-    by_deed (Marks l) h = absurd h
-    by_deed (Ends l) h = absurd h
-    by_deed Nothing h = absurd h
+    by_statement : (d : Statement Key) → PairedAt d false (λ b. ArePaired gs b) → unless_begun (begun_by d) (g ∷ up_to_begin gs) ≡ []
+    by_statement (Begins n) h = refl
+    by_statement (Acts a) h = absurd h
+    by_statement WritesExceptions h = absurd h
+    by_statement (GoesTo l) h = absurd h
+    by_statement (Executes s) h = absurd h
+    by_statement (Marks l) h = absurd h
+    by_statement (Ends l) h = absurd h
+    by_statement Nothing h = absurd h
 
 pub record EndsWell (gs : List (Calculation Key)) : Type 0 where
   pub front : List (Calculation Key)
   pub last : Calculation Key
   pub label : Option Name
   pub split : gs ≡ front ++ last ∷ []
-  pub returns : last.deed ≡ Ends label
+  pub returns : last.statement ≡ Ends label
 
 pub ends_well : (gs : List (Calculation Key)) → ArePaired gs true → EndsWell (up_to_begin gs)
 ends_well [] h = absurd h
-ends_well (g ∷ gs) h = by_deed g.deed refl h (ends_well gs)
+ends_well (g ∷ gs) h = by_statement g.statement refl h (ends_well gs)
   where
-    more : (d : Deed Key) → begun_by d ≡ None → EndsWell (up_to_begin gs) → EndsWell (unless_begun (begun_by d) (g ∷ up_to_begin gs))
+    more : (d : Statement Key) → begun_by d ≡ None → EndsWell (up_to_begin gs) → EndsWell (unless_begun (begun_by d) (g ∷ up_to_begin gs))
     more d e r = record {
       front = g ∷ r.front;
       last = r.last;
@@ -157,34 +157,34 @@ ends_well (g ∷ gs) h = by_deed g.deed refl h (ends_well gs)
       returns = r.returns;
     }
 
-    by_deed : (d : Deed Key) → g.deed ≡ d → PairedAt d true (λ b. ArePaired gs b) → (ArePaired gs true → EndsWell (up_to_begin gs)) → EndsWell (unless_begun (begun_by d) (g ∷ up_to_begin gs))
-    by_deed (Begins n) e h r = absurd h
-    by_deed (Ends l) e h r = record { front = []; last = g; label = l; split = ap (λ xs. g ∷ xs) (none_before gs h); returns = e }
-    by_deed (Acts a) e h r = more (Acts a) refl (r h)
-    by_deed PutsOut e h r = more PutsOut refl (r h)
-    by_deed (GoesTo l) e h r = more (GoesTo l) refl (r h)
-    by_deed (Executes s) e h r = more (Executes s) refl (r h)
-    by_deed (Marks l) e h r = more (Marks l) refl (r h)
-    by_deed Nothing e h r = more Nothing refl (r h)
+    by_statement : (d : Statement Key) → g.statement ≡ d → PairedAt d true (λ b. ArePaired gs b) → (ArePaired gs true → EndsWell (up_to_begin gs)) → EndsWell (unless_begun (begun_by d) (g ∷ up_to_begin gs))
+    by_statement (Begins n) e h r = absurd h
+    by_statement (Ends l) e h r = record { front = []; last = g; label = l; split = ap (λ xs. g ∷ xs) (none_before gs h); returns = e }
+    by_statement (Acts a) e h r = more (Acts a) refl (r h)
+    by_statement WritesExceptions e h r = more WritesExceptions refl (r h)
+    by_statement (GoesTo l) e h r = more (GoesTo l) refl (r h)
+    by_statement (Executes s) e h r = more (Executes s) refl (r h)
+    by_statement (Marks l) e h r = more (Marks l) refl (r h)
+    by_statement Nothing e h r = more Nothing refl (r h)
 
 pub all_end_well : (gs : List (Calculation Key)) (inside : Bool) → ArePaired gs inside → Each (λ s. EndsWell s.body) (subroutines_of gs)
 all_end_well [] inside h = tt
-all_end_well (g ∷ gs) inside h = by_deed inside g.deed h (λ b. all_end_well gs b)
+all_end_well (g ∷ gs) inside h = by_statement inside g.statement h (λ b. all_end_well gs b)
   where
-    by_deed : (inside : Bool) (d : Deed Key) → PairedAt d inside (λ b. ArePaired gs b) → ((b : Bool) → ArePaired gs b → Each (λ s. EndsWell s.body) (subroutines_of gs)) → Each (λ s. EndsWell s.body) (with_begun (begun_by d) (up_to_begin gs) (subroutines_of gs))
-    by_deed false (Begins n) h r = (ends_well gs h, r true h)
-    by_deed true (Begins n) h r = absurd h
-    by_deed true (Ends l) h r = r false h
-    by_deed true (Acts a) h r = r true h
-    by_deed true PutsOut h r = r true h
-    by_deed true (GoesTo l) h r = r true h
-    by_deed true (Executes s) h r = r true h
-    by_deed true (Marks l) h r = r true h
-    by_deed true Nothing h r = r true h
-    by_deed false (Ends l) h r = absurd h
-    by_deed false (Acts a) h r = absurd h
-    by_deed false PutsOut h r = absurd h
-    by_deed false (GoesTo l) h r = absurd h
-    by_deed false (Executes s) h r = absurd h
-    by_deed false (Marks l) h r = absurd h
-    by_deed false Nothing h r = absurd h
+    by_statement : (inside : Bool) (d : Statement Key) → PairedAt d inside (λ b. ArePaired gs b) → ((b : Bool) → ArePaired gs b → Each (λ s. EndsWell s.body) (subroutines_of gs)) → Each (λ s. EndsWell s.body) (with_begun (begun_by d) (up_to_begin gs) (subroutines_of gs))
+    by_statement false (Begins n) h r = (ends_well gs h, r true h)
+    by_statement true (Begins n) h r = absurd h
+    by_statement true (Ends l) h r = r false h
+    by_statement true (Acts a) h r = r true h
+    by_statement true WritesExceptions h r = r true h
+    by_statement true (GoesTo l) h r = r true h
+    by_statement true (Executes s) h r = r true h
+    by_statement true (Marks l) h r = r true h
+    by_statement true Nothing h r = r true h
+    by_statement false (Ends l) h r = absurd h
+    by_statement false (Acts a) h r = absurd h
+    by_statement false WritesExceptions h r = absurd h
+    by_statement false (GoesTo l) h r = absurd h
+    by_statement false (Executes s) h r = absurd h
+    by_statement false (Marks l) h r = absurd h
+    by_statement false Nothing h r = absurd h

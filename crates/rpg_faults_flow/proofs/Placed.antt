@@ -2,10 +2,10 @@
 use Rattle.std.proofs.Common.{◌≡◌, ℕ, suc, ◌+◌, Bool, true, false, not, cond, ◌&&◌, ◌||◌, List, [], ◌∷◌, ◌++◌, Option, None, Some, refl, sym, ap, ◌∙◌, arith, ◌⊎◌, inl, inr}
 use Rattle.std.specs.Prelude.{find}
 use Rattle.std.specs.Option.{option_map, option_map_or, option_to_list}
-use Rattle.rpg_cards.specs.Deeds.{Acts, Begins, Calculation, Executes, Deed, Ends, GoesTo, Marks, Nothing, PutsOut}
+use Rattle.rpg_cards.specs.Statements.{Acts, Begins, Calculation, Executes, Statement, Ends, GoesTo, Marks, Nothing, WritesExceptions}
 use Rattle.rpg_cards.specs.Keys.{Key, Name}
 use Rattle.rpg_cards.specs.Labels as labels
-use Rattle.rpg_cards.specs.Labels.{as_label, begins_subroutine, begun_count, gives, is_begsr, label_named, labels_after, section_by, section_of}
+use Rattle.rpg_cards.specs.Labels.{as_label, begins_subroutine, begun_count, defined_name, is_begsr, label_named, labels_after, section_by, section_of}
 use Rattle.rpg_cards.specs.declared.labels.Label.{Label}
 use Rattle.rpg_cards.specs.declared.labels.Section.{Section}
 use Rattle.rpg_cards.specs.declared.labels.Section.TheVariants as section_kind
@@ -18,22 +18,22 @@ use Rattle.rpg_faults_flow.specs.Order.{is_bracket, unpaired}
 use Rattle.rpg_sheet_specs.specs.declared.calculation.ControlLevel.{ControlLevel}
 use Rattle.rpg_sheet_specs.specs.declared.calculation.ControlLevel.TheVariants as control
 
--- ---- deeds: BEGSR, and the others
+-- ---- statements: BEGSR, and the others
 
-pub record IsOther (d : Deed Key) : Type 0 where
+pub record IsOther (d : Statement Key) : Type 0 where
   pub begun : begun_by d ≡ None
   pub begsr : is_begsr d ≡ false
-  pub gives : gives d ≡ as_label (label_on d)
+  pub defined_name : defined_name d ≡ as_label (label_on d)
 
-pub view : (d : Deed Key) → ((n : Option Name) × (d ≡ Begins n)) ⊎ IsOther d
+pub view : (d : Statement Key) → ((n : Option Name) × (d ≡ Begins n)) ⊎ IsOther d
 view (Begins n) = inl (n, refl)
-view (Acts a) = inr (record { begun = refl; begsr = refl; gives = refl })
-view PutsOut = inr (record { begun = refl; begsr = refl; gives = refl })
-view (GoesTo l) = inr (record { begun = refl; begsr = refl; gives = refl })
-view (Executes n) = inr (record { begun = refl; begsr = refl; gives = refl })
-view (Marks l) = inr (record { begun = refl; begsr = refl; gives = refl })
-view (Ends l) = inr (record { begun = refl; begsr = refl; gives = refl })
-view Nothing = inr (record { begun = refl; begsr = refl; gives = refl })
+view (Acts a) = inr (record { begun = refl; begsr = refl; defined_name = refl })
+view WritesExceptions = inr (record { begun = refl; begsr = refl; defined_name = refl })
+view (GoesTo l) = inr (record { begun = refl; begsr = refl; defined_name = refl })
+view (Executes n) = inr (record { begun = refl; begsr = refl; defined_name = refl })
+view (Marks l) = inr (record { begun = refl; begsr = refl; defined_name = refl })
+view (Ends l) = inr (record { begun = refl; begsr = refl; defined_name = refl })
+view Nothing = inr (record { begun = refl; begsr = refl; defined_name = refl })
 
 -- ---- the calculations of subroutines
 
@@ -48,32 +48,32 @@ or_first true b e = absurd cc
 or_first false b e = refl
 
 -- BEGSR is among SR cards
-pub begin_control : (front : List (Calculation Key)) (g : Calculation Key) (gs : List (Calculation Key)) (n : Option Name) → g.deed ≡ Begins n → unpaired front g gs ≡ false → is_subroutine g.control ≡ true
+pub begin_control : (front : List (Calculation Key)) (g : Calculation Key) (gs : List (Calculation Key)) (n : Option Name) → g.statement ≡ Begins n → unpaired front g gs ≡ false → is_subroutine g.control ≡ true
 begin_control front g gs n e h =
-    by (is_subroutine g.control) (ap (λ d. is_bracket d && not (is_subroutine g.control)) (sym e) ∙ or_first (is_bracket g.deed && not (is_subroutine g.control)) _ h)
+    by (is_subroutine g.control) (ap (λ d. is_bracket d && not (is_subroutine g.control)) (sym e) ∙ or_first (is_bracket g.statement && not (is_subroutine g.control)) _ h)
   where
     by : (s : Bool) → (true && not s) ≡ false → s ≡ true
     by true e = refl
     by false e = absurd cc
 
-pub subs_begin : (g : Calculation Key) (gs : List (Calculation Key)) (n : Option Name) → g.deed ≡ Begins n → is_subroutine g.control ≡ true → subs (g ∷ gs) ≡ record { name = n; body = up_to_begin (bodies gs) } ∷ subs gs
+pub subs_begin : (g : Calculation Key) (gs : List (Calculation Key)) (n : Option Name) → g.statement ≡ Begins n → is_subroutine g.control ≡ true → subs (g ∷ gs) ≡ record { name = n; body = up_to_begin (bodies gs) } ∷ subs gs
 subs_begin g gs n e s =
     ap (λ b. subroutines_of (cond b (g ∷ bodies gs) (bodies gs))) s
-    ∙ ap (λ (d : Deed Key). with_begun (begun_by d) (up_to_begin (bodies gs)) (subs gs)) e
+    ∙ ap (λ (d : Statement Key). with_begun (begun_by d) (up_to_begin (bodies gs)) (subs gs)) e
 
-pub subs_other : (g : Calculation Key) (gs : List (Calculation Key)) → begun_by g.deed ≡ None → subs (g ∷ gs) ≡ subs gs
+pub subs_other : (g : Calculation Key) (gs : List (Calculation Key)) → begun_by g.statement ≡ None → subs (g ∷ gs) ≡ subs gs
 subs_other g gs e = by (is_subroutine g.control)
   where
     by : (b : Bool) → subroutines_of (cond b (g ∷ bodies gs) (bodies gs)) ≡ subs gs
     by true = ap (λ o. with_begun o (up_to_begin (bodies gs)) (subs gs)) e
     by false = refl
 
-pub up_begin : (g : Calculation Key) (gs : List (Calculation Key)) (n : Option Name) → g.deed ≡ Begins n → is_subroutine g.control ≡ true → up_to_begin (bodies (g ∷ gs)) ≡ []
+pub up_begin : (g : Calculation Key) (gs : List (Calculation Key)) (n : Option Name) → g.statement ≡ Begins n → is_subroutine g.control ≡ true → up_to_begin (bodies (g ∷ gs)) ≡ []
 up_begin g gs n e s =
     ap (λ b. up_to_begin (cond b (g ∷ bodies gs) (bodies gs))) s
-    ∙ ap (λ (d : Deed Key). unless_begun (begun_by d) (g ∷ up_to_begin (bodies gs))) e
+    ∙ ap (λ (d : Statement Key). unless_begun (begun_by d) (g ∷ up_to_begin (bodies gs))) e
 
-pub up_other : (g : Calculation Key) (gs : List (Calculation Key)) → begun_by g.deed ≡ None → up_to_begin (bodies (g ∷ gs)) ≡ cond (is_subroutine g.control) (g ∷ up_to_begin (bodies gs)) (up_to_begin (bodies gs))
+pub up_other : (g : Calculation Key) (gs : List (Calculation Key)) → begun_by g.statement ≡ None → up_to_begin (bodies (g ∷ gs)) ≡ cond (is_subroutine g.control) (g ∷ up_to_begin (bodies gs)) (up_to_begin (bodies gs))
 up_other g gs e = by (is_subroutine g.control)
   where
     by : (b : Bool) → up_to_begin (cond b (g ∷ bodies gs) (bodies gs)) ≡ cond b (g ∷ up_to_begin (bodies gs)) (up_to_begin (bodies gs))
@@ -94,17 +94,17 @@ count_push (h ∷ hs) g = by (begins_subroutine h) (count_push hs g)
     by true e = omega (arith, e)
     by false e = e
 
-pub begun_more : (front : List (Calculation Key)) (g : Calculation Key) (n : Option Name) → g.deed ≡ Begins n → is_subroutine g.control ≡ true → begun_count (front ++ g ∷ []) ≡ begun_count front + 1
-begun_more front g n e s = count_push front g ∙ ap (λ b. begun_count front + cond b 1 0) (ap (λ b. b && is_begsr g.deed) s ∙ ap is_begsr e)
+pub begun_more : (front : List (Calculation Key)) (g : Calculation Key) (n : Option Name) → g.statement ≡ Begins n → is_subroutine g.control ≡ true → begun_count (front ++ g ∷ []) ≡ begun_count front + 1
+begun_more front g n e s = count_push front g ∙ ap (λ b. begun_count front + cond b 1 0) (ap (λ b. b && is_begsr g.statement) s ∙ ap is_begsr e)
 
 and_false : (a : Bool) → (a && false) ≡ false
 and_false true = refl
 and_false false = refl
 
-pub not_begins : (g : Calculation Key) → is_begsr g.deed ≡ false → begins_subroutine g ≡ false
+pub not_begins : (g : Calculation Key) → is_begsr g.statement ≡ false → begins_subroutine g ≡ false
 not_begins g e = ap (λ b. is_subroutine g.control && b) e ∙ and_false (is_subroutine g.control)
 
-pub begun_same : (front : List (Calculation Key)) (g : Calculation Key) → is_begsr g.deed ≡ false → begun_count (front ++ g ∷ []) ≡ begun_count front
+pub begun_same : (front : List (Calculation Key)) (g : Calculation Key) → is_begsr g.statement ≡ false → begun_count (front ++ g ∷ []) ≡ begun_count front
 begun_same front g e = count_push front g ∙ ap (λ b. begun_count front + cond b 1 0) (not_begins g e) ∙ omega arith
 
 -- ---- looking a name up
@@ -150,14 +150,14 @@ Found m front gs L = (defines_subroutine (Some m) (subs gs) ≡ true) × (L.sect
 
 pub subroutine_found : (cards : List SpecCard) (m : Name) (front gs : List (Calculation Key)) (L : Label) → EachSplit (Facts cards) front gs → label_named m (labels_after front gs) ≡ Some L → L.named.is_subroutine ≡ true → Found m front gs L
 subroutine_found cards m front [] L h e is = absurd cc
-subroutine_found cards m front (g ∷ gs) L h e is = by_view (λ f. subroutine_found cards m (front ++ g ∷ []) gs L h.1 f is) (view g.deed)
+subroutine_found cards m front (g ∷ gs) L h e is = by_view (λ f. subroutine_found cards m (front ++ g ∷ []) gs L h.1 f is) (view g.statement)
   where
-    by_view : (label_named m (labels_after (front ++ g ∷ []) gs) ≡ Some L → (defines_subroutine (Some m) (subs gs) ≡ true) × (L.section ≡ section_kind.Subroutine (begun_count (front ++ g ∷ []) + callee (Some m) (subs gs)))) → ((n : Option Name) × (g.deed ≡ Begins n)) ⊎ IsOther g.deed → (defines_subroutine (Some m) (subs (g ∷ gs)) ≡ true) × (L.section ≡ section_kind.Subroutine (begun_count front + callee (Some m) (subs (g ∷ gs))))
+    by_view : (label_named m (labels_after (front ++ g ∷ []) gs) ≡ Some L → (defines_subroutine (Some m) (subs gs) ≡ true) × (L.section ≡ section_kind.Subroutine (begun_count (front ++ g ∷ []) + callee (Some m) (subs gs)))) → ((n : Option Name) × (g.statement ≡ Begins n)) ⊎ IsOther g.statement → (defines_subroutine (Some m) (subs (g ∷ gs)) ≡ true) × (L.section ≡ section_kind.Subroutine (begun_count front + callee (Some m) (subs (g ∷ gs))))
     by_view rec (inr o) =
-        by_found (find_label m (section_of front g) (label_on g.deed) (labels_after (front ++ g ∷ []) gs) L
-        (ap (λ x. find (named_so m) (option_to_list (option_map (λ n. record { named = n; section = section_of front g }) x) ++ labels_after (front ++ g ∷ []) gs)) (sym o.gives) ∙ e))
+        by_found (find_label m (section_of front g) (label_on g.statement) (labels_after (front ++ g ∷ []) gs) L
+        (ap (λ x. find (named_so m) (option_to_list (option_map (λ n. record { named = n; section = section_of front g }) x) ++ labels_after (front ++ g ∷ []) gs)) (sym o.defined_name) ∙ e))
       where
-        by_found : ((is_same_name (Some m) (label_on g.deed) ≡ true) × (L.named.is_subroutine ≡ false) × (L.section ≡ section_of front g)) ⊎ (find (named_so m) (labels_after (front ++ g ∷ []) gs) ≡ Some L)
+        by_found : ((is_same_name (Some m) (label_on g.statement) ≡ true) × (L.named.is_subroutine ≡ false) × (L.section ≡ section_of front g)) ⊎ (find (named_so m) (labels_after (front ++ g ∷ []) gs) ≡ Some L)
             → (defines_subroutine (Some m) (subs (g ∷ gs)) ≡ true) × (L.section ≡ section_kind.Subroutine (begun_count front + callee (Some m) (subs (g ∷ gs))))
         by_found (inl x) = let no = sym x.1 ∙ is in absurd cc
         by_found (inr f) =
@@ -167,13 +167,13 @@ subroutine_found cards m front (g ∷ gs) L h e is = by_view (λ f. subroutine_f
             )
     by_view rec (inl (n, d)) =
         by_found (find_begin m (section_of front g) n (labels_after (front ++ g ∷ []) gs) L
-        (ap (λ (x : Deed Key). find (named_so m) (option_to_list (option_map (λ n. record { named = n; section = section_of front g }) (gives x)) ++ labels_after (front ++ g ∷ []) gs)) (sym d) ∙ e))
+        (ap (λ (x : Statement Key). find (named_so m) (option_to_list (option_map (λ n. record { named = n; section = section_of front g }) (defined_name x)) ++ labels_after (front ++ g ∷ []) gs)) (sym d) ∙ e))
       where
         is_sub : is_subroutine g.control ≡ true
         is_sub = begin_control front g gs n d h.0.paired
 
         section : section_of front g ≡ section_kind.Subroutine (begun_count front)
-        section = ap (λ b. section_by front b g.control) (ap (λ b. b && is_begsr g.deed) is_sub ∙ ap is_begsr d) ∙ by_control g.control is_sub
+        section = ap (λ b. section_by front b g.control) (ap (λ b. b && is_begsr g.statement) is_sub ∙ ap is_begsr d) ∙ by_control g.control is_sub
           where
             by_control : (c : ControlLevel) → is_subroutine c ≡ true → section_by front true c ≡ section_kind.Subroutine (begun_count front)
             by_control control.Detail e = absurd cc

@@ -1,10 +1,10 @@
 -- The rules for a card, given the group of the previous card.
 use Rattle.std.specs.Prelude.{List, Bool, false, not, ◌&&◌, ◌||◌, Option, None, Some, is_none, is_some, if◌then◌else◌}
 use Rattle.std.specs.Option.{option_and_then, option_map, option_map_or}
-use Rattle.rpg_cards.specs.Calculations.{CalculationGroup, calculations, card_ending, depends, goes_on, group_end}
-use Rattle.rpg_cards.specs.Deeds.{Calculation, deed_of}
+use Rattle.rpg_cards.specs.Calculations.{CalculationGroup, calculations, card_ending, depends, continues, group_end}
+use Rattle.rpg_cards.specs.Statements.{Calculation, statement_of}
 use Rattle.rpg_cards.specs.Keys.{Key}
-use Rattle.rpg_cards.specs.Labels.{begins_subroutine, ends, is_endsr, labels, wants}
+use Rattle.rpg_cards.specs.Labels.{begins_subroutine, ends, is_endsr, labels, target_name}
 use Rattle.rpg_cards.specs.declared.labels.Label.{Label}
 use Rattle.rpg_cards.specs.Sections.{is_subroutine}
 use Rattle.rpg_cards.specs.Cards.{calculation_on}
@@ -39,7 +39,7 @@ bracket_of g = if begins_subroutine g || ends g then Some (ends g) else None
 
 -- whether a BEGSR or ENDSR of an SR group is ENDSR; none for any other card
 abbrev pub bracket_in : ControlLevel → CalculationSpec → Option Bool
-bracket_in level k = if is_subroutine level && is_bracket (deed_of k) then Some (is_endsr (deed_of k)) else None
+bracket_in level k = if is_subroutine level && is_bracket (statement_of k) then Some (is_endsr (statement_of k)) else None
 
 -- likewise for the card with the operation, if a group ends on the card
 abbrev pub bracket_at : Option ControlLevel → SpecCard → List SpecCard → Option Bool
@@ -53,7 +53,7 @@ bad_dependence in_group on k after = ((on || (joins k.control_level && in_group)
 
 -- F9 of a C card, given whether a group is open
 abbrev pub bad_card : Bool → CalculationSpec → List SpecCard → Bool
-bad_card in_group k after = bad_dependence in_group (goes_on after) k after || ((is_some k.length && is_none k.result_field) || bad_by_end (goes_on after) k)
+bad_card in_group k after = bad_dependence in_group (continues after) k after || ((is_some k.length && is_none k.result_field) || bad_by_end (continues after) k)
 
 -- ---- F10
 
@@ -63,4 +63,4 @@ labels_in cards = labels (calculations cards)
 
 -- F10 of a calculation: its GOTO or EXSR names an undefined label or subroutine
 abbrev pub calculation_lacks_label : List SpecCard → CalculationSpec → Bool
-calculation_lacks_label cards k = option_map_or (λ n. not (is_given_as (labels_in cards) n)) (wants (deed_of k)) false
+calculation_lacks_label cards k = option_map_or (λ n. not (is_given_as (labels_in cards) n)) (target_name (statement_of k)) false

@@ -1,7 +1,7 @@
 -- F9 of calculation cards: columns that are missing or not allowed (except the sequence of what LOKUP searches, which needs forms).
 use Rattle.std.specs.Prelude.{ℕ, ◌==◌, nat_lt, List, Bool, true, false, not, ◌&&◌, ◌||◌, Option, is_some, is_none}
 use Rattle.std.specs.Option.{option_map, option_map_or}
-use Rattle.rpg_cards.specs.Calculations.{CalculationGroup, depends, goes_on, group_end, open_calculation_group}
+use Rattle.rpg_cards.specs.Calculations.{CalculationGroup, depends, continues, group_end, open_calculation_group}
 use Rattle.rpg_cards.specs.Keys.{plain_name}
 use Rattle.rpg_sheet_specs.specs.Operations.{card_columns}
 use Rattle.rpg_sheet_specs.specs.declared.operations.Column.{Column}
@@ -68,7 +68,7 @@ may_depend last = option_map_or (λ o. (card_columns o).may_depend) last.operati
 
 -- a card of several has no conditions, or a card has some although the group's operation allows none
 abbrev pub bad_conditions : Option CalculationGroup → CalculationSpec → List SpecCard → Bool
-bad_conditions group k after = ((goes_on after || (joins k.control_level && is_some group)) && not (depends k)) || (depends k && not (may_depend (group_end k after)))
+bad_conditions group k after = ((continues after || (joins k.control_level && is_some group)) && not (depends k)) || (depends k && not (may_depend (group_end k after)))
 
 -- the last card of a group has no operation, or an operation with bad columns
 abbrev pub bad_last : CalculationSpec → Bool
@@ -81,7 +81,7 @@ bad_by_end false k = bad_last k
 
 -- F9 of a calculation card, with the group that is open before it
 abbrev pub bad_calculation : Option CalculationGroup → CalculationSpec → List SpecCard → Bool
-bad_calculation group k after = bad_conditions group k after || ((is_some k.length && is_none k.result_field) || bad_by_end (goes_on after) k)
+bad_calculation group k after = bad_conditions group k after || ((is_some k.length && is_none k.result_field) || bad_by_end (continues after) k)
 
 -- F9 of a card, if it is a C card
 abbrev pub bad_calculation_columns : List SpecCard → SpecCard → List SpecCard → Bool

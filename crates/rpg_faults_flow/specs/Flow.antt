@@ -4,9 +4,9 @@ use Rattle.std.specs.List.{list_any}
 use Rattle.std.specs.Option.{option_and_then, option_map_or}
 use Rattle.rpg_cards.specs.Calculations.{calculation_ending, calculations, calculations_before}
 use Rattle.rpg_cards.specs.Calls.{call_at, calls, reaches}
-use Rattle.rpg_cards.specs.Deeds.{Calculation}
+use Rattle.rpg_cards.specs.Statements.{Calculation}
 use Rattle.rpg_cards.specs.Keys.{Key, Name}
-use Rattle.rpg_cards.specs.Labels.{gives, label_named, labels, section_of, wants}
+use Rattle.rpg_cards.specs.Labels.{defined_name, label_named, labels, section_of, target_name}
 use Rattle.rpg_cards.specs.declared.labels.Label.{Label}
 use Rattle.rpg_cards.specs.declared.labels.Named.{Named}
 use Rattle.rpg_cards.specs.declared.labels.Section.{Section}
@@ -28,11 +28,11 @@ is_given_as given n = option_map_or (λ (l : Label). alike l.named.is_subroutine
 
 -- a calculation's GOTO or EXSR names an undefined label or subroutine
 abbrev pub lacks_label : List Label → Calculation Key → Bool
-lacks_label given g = option_map_or (λ n. not (is_given_as given n)) (wants g.deed) false
+lacks_label given g = option_map_or (λ n. not (is_given_as given n)) (target_name g.statement) false
 
 -- F10: the calculation that ends on the card names an undefined label or subroutine
-abbrev pub goes_nowhere : List SpecCard → List SpecCard → SpecCard → List SpecCard → Bool
-goes_nowhere cards before c after = option_map_or (lacks_label (labels (calculations cards))) (calculation_ending before c after) false
+abbrev pub lacks_target : List SpecCard → List SpecCard → SpecCard → List SpecCard → Bool
+lacks_target cards before c after = option_map_or (lacks_label (labels (calculations cards))) (calculation_ending before c after) false
 
 -- ---- F11: at the later of the two cards
 
@@ -41,18 +41,18 @@ abbrev pub is_defined : Name → List Definition → Bool
 is_defined name ds = list_any (is_of name) given_names || list_any (is_of name) ds
 
 -- a label that is already defined, or is a field by then
-abbrev pub gives_again : List SpecCard → SpecCard → List SpecCard → Calculation Key → Bool
-gives_again before c after g =
-    option_map_or (λ (n : Named). is_some (label_named n.name (labels (calculations_before before (c ∷ after)))) || is_defined n.name (definitions (before ++ c ∷ []))) (gives g.deed) false
+abbrev pub defines_again : List SpecCard → SpecCard → List SpecCard → Calculation Key → Bool
+defines_again before c after g =
+    option_map_or (λ (n : Named). is_some (label_named n.name (labels (calculations_before before (c ∷ after)))) || is_defined n.name (definitions (before ++ c ∷ []))) (defined_name g.statement) false
 
 -- a field that is already a label
 abbrev pub defines_label : List Label → SpecCard → Bool
 defines_label given c = list_any (λ (d : Definition). is_some (label_named d.name given)) (definitions_on c.spec)
 
 -- F11: the calculation that ends on the card defines a name again, or the card defines a field whose name is a label
-abbrev pub names_twice : List SpecCard → SpecCard → List SpecCard → Bool
-names_twice before c after =
-    option_map_or (gives_again before c after) (calculation_ending before c after) false
+abbrev pub repeats_name : List SpecCard → SpecCard → List SpecCard → Bool
+repeats_name before c after =
+    option_map_or (defines_again before c after) (calculation_ending before c after) false
     || defines_label (labels (calculations_before before (c ∷ after))) c
 
 -- ---- F13: GOTO to a label of another section; no fault if one of them is outside the sections
@@ -72,11 +72,11 @@ leaves_by own n l = not l.named.is_subroutine && (not n.is_subroutine && are_apa
 
 -- the calculation's GOTO leaves its section
 abbrev pub leaves_section : List Label → List (Calculation Key) → Calculation Key → Bool
-leaves_section given before g = option_map_or (λ (n : Named). option_map_or (leaves_by (section_of before g) n) (label_named n.name given) false) (wants g.deed) false
+leaves_section given before g = option_map_or (λ (n : Named). option_map_or (leaves_by (section_of before g) n) (label_named n.name given) false) (target_name g.statement) false
 
 -- F13: the calculation that ends on the card goes to a label of another section
-abbrev pub goes_apart : List SpecCard → List SpecCard → SpecCard → List SpecCard → Bool
-goes_apart cards before c after = option_map_or (leaves_section (labels (calculations cards)) (calculations_before before (c ∷ after))) (calculation_ending before c after) false
+abbrev pub leaves_its_section : List SpecCard → List SpecCard → SpecCard → List SpecCard → Bool
+leaves_its_section cards before c after = option_map_or (leaves_section (labels (calculations cards)) (calculations_before before (c ∷ after))) (calculation_ending before c after) false
 
 -- ---- F14: an EXSR in a subroutine that the one called reaches
 

@@ -1,5 +1,6 @@
 pub mod ByCard
 pub mod Columns
+pub mod Faultless
 pub mod Flow
 pub mod Kept
 pub mod Marks

@@ -1,13 +1,13 @@
 -- Which columns of a calculation card a fault of control flow points at.
 use Rattle.std.specs.Prelude.{ℕ, List, Bool, true, false, ◌&&◌, Option, is_some, is_none, if◌then◌else◌}
 use Rattle.std.specs.Option.{option_map, option_map_or}
-use Rattle.rpg_cards.specs.Calculations.{calculation_ending, card_ending, goes_on}
+use Rattle.rpg_cards.specs.Calculations.{calculation_ending, card_ending, continues}
 use Rattle.rpg_cards.specs.Cards.{calculation_on}
-use Rattle.rpg_cards.specs.Deeds.{deed_of}
+use Rattle.rpg_cards.specs.Statements.{statement_of}
 use Rattle.rpg_sheet_specs.specs.Operations.{card_columns}
 use Rattle.rpg_cards.specs.declared.spec_card.SpecCard.{SpecCard}
 use Rattle.rpg_faults_flow.specs.Columns.{bad_by_end, misses}
-use Rattle.rpg_faults_flow.specs.Flow.{gives_again}
+use Rattle.rpg_faults_flow.specs.Flow.{defines_again}
 use Rattle.rpg_faults_flow.specs.Order.{is_bracket}
 use Rattle.rpg_faults_flow.specs.Rounding.{rounds_nothing}
 use Rattle.rpg_sheet_specs.specs.declared.calculation.CalculationSpec.{CalculationSpec}
@@ -68,7 +68,7 @@ calculation_range on k =
 
 -- F9 of a card, if it is a C card
 abbrev pub calculation_columns : SpecCard → List SpecCard → Option ColumnRange
-calculation_columns c after = option_map (calculation_range (goes_on after)) (calculation_on c.spec)
+calculation_columns c after = option_map (calculation_range (continues after)) (calculation_on c.spec)
 
 -- ---- F10, F13, F14: the target
 
@@ -81,14 +81,14 @@ target_range = range.SecondFactor
 -- F11 of a card
 abbrev pub twice_range : List SpecCard → SpecCard → List SpecCard → ColumnRange
 twice_range before c after =
-    if option_map_or (gives_again before c after) (calculation_ending before c after) false then range.FirstFactor
+    if option_map_or (defines_again before c after) (calculation_ending before c after) false then range.FirstFactor
     else range.ResultName
 
 -- ---- F12: BEGSR or ENDSR; otherwise the columns for the section or for AND and OR
 
 -- F12 of a calculation card
 abbrev pub order_range : CalculationSpec → ColumnRange
-order_range k = if is_bracket (deed_of k) then range.Operation else range.ControlLevel
+order_range k = if is_bracket (statement_of k) then range.Operation else range.ControlLevel
 
 -- F12 of a card, if it is a C card
 abbrev pub calculation_order_columns : SpecCard → Option ColumnRange

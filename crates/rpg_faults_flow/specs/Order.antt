@@ -3,7 +3,7 @@ use Rattle.std.specs.Prelude.{ℕ, nat_lt, List, [], ◌∷◌, Bool, true, fals
 use Rattle.std.specs.List.{list_any}
 use Rattle.std.specs.Option.{option_map_or}
 use Rattle.rpg_cards.specs.Calculations.{CalculationGroup, alone, calculation_of, calculations_before, calculations_from, completed, group_ending, last_card, open_calculation_group}
-use Rattle.rpg_cards.specs.Deeds.{Calculation, Deed, deed_of}
+use Rattle.rpg_cards.specs.Statements.{Calculation, Statement, statement_of}
 use Rattle.rpg_cards.specs.Keys.{Key}
 use Rattle.rpg_cards.specs.Labels.{begins_subroutine, brackets, ends, is_begsr, is_endsr, is_inside_subroutine}
 use Rattle.rpg_cards.specs.Sections.{is_subroutine}
@@ -27,12 +27,12 @@ abbrev pub is_early : List SpecCard → CalculationSpec → Bool
 is_early before k = list_any (λ (j : CalculationSpec). nat_lt (section_rank k.control_level) (section_rank j.control_level)) (calculation_specs_in before)
 
 -- BEGSR or ENDSR
-abbrev pub is_bracket : Deed Key → Bool
+abbrev pub is_bracket : Statement Key → Bool
 is_bracket d = is_begsr d || is_endsr d
 
 -- a group with SR in columns 7 and 8 outside all subroutines, whose operation is neither BEGSR nor ENDSR
 abbrev pub is_outside_subroutine : List (Calculation Key) → CalculationGroup → Bool
-is_outside_subroutine before g = is_subroutine g.first.control_level && (not (is_bracket (deed_of (last_card g))) && not (is_inside_subroutine before))
+is_outside_subroutine before g = is_subroutine g.first.control_level && (not (is_bracket (statement_of (last_card g))) && not (is_inside_subroutine before))
 
 -- on the first card of a group
 abbrev pub misplaces_group : List SpecCard → SpecCard → CalculationSpec → List SpecCard → Bool
@@ -51,7 +51,7 @@ is_closed (g ∷ gs) = ends g
 -- BEGSR or ENDSR outside SR groups, ENDSR without BEGSR, or BEGSR without ENDSR
 abbrev pub unpaired : List (Calculation Key) → Calculation Key → List (Calculation Key) → Bool
 unpaired before g following =
-    (is_bracket g.deed && not (is_subroutine g.control))
+    (is_bracket g.statement && not (is_subroutine g.control))
     || ((ends g && not (is_inside_subroutine before)) || (begins_subroutine g && not (is_closed (brackets following))))
 
 -- the group that ends on the card has an unpaired BEGSR or ENDSR

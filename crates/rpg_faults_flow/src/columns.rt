@@ -8,7 +8,7 @@ ghost use Rattle.rpg_faults_flow.specs.ByCard as by_card;
 ghost use Rattle.rpg_sheet_specs.specs.declared.literal.Factor.TheVariants as factor;
 
 use rpg_cards::{
-    Column, Content, Shown, SpecCard, columns, depends, goes_on, group_end, joins, plain_name,
+    Column, Content, Shown, SpecCard, columns, continues, depends, group_end, joins, plain_name,
 };
 use rpg_sheet_specs::{CalculationSpec, Entry, Factor, Indicator, Operation, Three};
 
@@ -35,26 +35,26 @@ fn is_in_group(before: &[SpecCard]) -> bool
 fn bad_card(is_in_group: bool, calculation: &CalculationSpec, after: &[SpecCard]) -> bool
     ensures { result ≡ by_card.bad_card is_in_group calculation.now after.now }
 {
-    let goes_on = goes_on(after);
-    bad_conditions(is_in_group, goes_on, calculation, after)
+    let continues = continues(after);
+    bad_conditions(is_in_group, continues, calculation, after)
         || (calculation.length.is_some() && calculation.result_field.is_none())
-        || bad_by_end(goes_on, calculation)
+        || bad_by_end(continues, calculation)
 }
 
 /// Whether a card of several has no conditions, or a card has some although the group's operation
 /// allows none.
 fn bad_conditions(
     is_in_group: bool,
-    goes_on: bool,
+    continues: bool,
     calculation: &CalculationSpec,
     after: &[SpecCard],
 ) -> bool
-    ensures { result ≡ by_card.bad_dependence is_in_group goes_on calculation.now after.now }
+    ensures { result ≡ by_card.bad_dependence is_in_group continues calculation.now after.now }
 {
     if depends(calculation) {
         !may_depend(group_end(calculation, after))
     } else {
-        goes_on || (joins(calculation) && is_in_group)
+        continues || (joins(calculation) && is_in_group)
     }
 }
 
@@ -68,10 +68,10 @@ pub fn may_depend(last: &CalculationSpec) -> bool
     }
 }
 
-pub(crate) fn bad_by_end(goes_on: bool, calculation: &CalculationSpec) -> bool
-    ensures { result ≡ spec.bad_by_end goes_on calculation.now }
+pub(crate) fn bad_by_end(continues: bool, calculation: &CalculationSpec) -> bool
+    ensures { result ≡ spec.bad_by_end continues calculation.now }
 {
-    if goes_on {
+    if continues {
         has_more(calculation)
     } else {
         match calculation.operation {

@@ -7,32 +7,32 @@ ghost use Rattle.rpg_faults_flow.specs.Marks as marks;
 ghost use Rattle.rpg_faults_flow.specs.Rounding as rounding;
 
 use crate::columns::{bad_by_end, misses, misses_result};
-use rpg_cards::{SpecCard, begins_subroutine, columns, ends_subroutine, goes_on, last_card};
+use rpg_cards::{SpecCard, begins_subroutine, columns, continues, ends_subroutine, last_card};
 use rpg_sheet_specs::{CalculationSpec, ColumnRange, ConditionSpec, Indicator, Operation, Three};
 
 /// F9 of a calculation: what is missing or not allowed.
 pub fn calculation_columns(card: &SpecCard, after: &[SpecCard]) -> Option<ColumnRange>
     ensures { result ≡ marks.calculation_columns card.now after.now }
 {
-    Some(calculation_range(goes_on(after), card.calculation()?))
+    Some(calculation_range(continues(after), card.calculation()?))
 }
 
-fn calculation_range(goes_on: bool, calculation: &CalculationSpec) -> ColumnRange
-    ensures { result ≡ marks.calculation_range goes_on calculation.now }
+fn calculation_range(continues: bool, calculation: &CalculationSpec) -> ColumnRange
+    ensures { result ≡ marks.calculation_range continues calculation.now }
 {
     if calculation.length.is_some() && calculation.result_field.is_none() {
         ColumnRange::ResultLength
-    } else if bad_by_end(goes_on, calculation) {
-        end_range(goes_on, calculation)
+    } else if bad_by_end(continues, calculation) {
+        end_range(continues, calculation)
     } else {
         condition_range(calculation.conditions)
     }
 }
 
-fn end_range(goes_on: bool, calculation: &CalculationSpec) -> ColumnRange
-    ensures { result ≡ marks.end_range goes_on calculation.now }
+fn end_range(continues: bool, calculation: &CalculationSpec) -> ColumnRange
+    ensures { result ≡ marks.end_range continues calculation.now }
 {
-    if goes_on {
+    if continues {
         further_range(calculation)
     } else {
         match calculation.operation {

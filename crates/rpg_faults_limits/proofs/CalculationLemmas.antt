@@ -5,8 +5,8 @@ use Rattle.std.proofs.lemmas.List.Sums.{sum_by_push}
 use Rattle.std.specs.Option.{option_map, option_map_or, option_to_list}
 use Rattle.std.specs.Prelude.{is_some}
 use Rattle.rpg_cards.proofs.GroupEnds.{last_card-joined}
-use Rattle.rpg_cards.specs.Calculations.{CalculationGroup, alone, calculation_ending, calculation_of, calculations_before, calculations_from, card_ending, goes_on, group_at, group_with, joined_group, last_card, open_after, open_calculation_group, open_with}
-use Rattle.rpg_cards.specs.Deeds.{Calculation, deed_of}
+use Rattle.rpg_cards.specs.Calculations.{CalculationGroup, alone, calculation_ending, calculation_of, calculations_before, calculations_from, card_ending, continues, group_at, group_with, joined_group, last_card, open_after, open_calculation_group, open_with}
+use Rattle.rpg_cards.specs.Statements.{Calculation, statement_of}
 use Rattle.rpg_cards.specs.Keys.{Key}
 use Rattle.rpg_cards.specs.Labels.{begins_subroutine, begun_count, is_begsr}
 use Rattle.rpg_cards.specs.Cards.{calculation_on}
@@ -34,7 +34,7 @@ group_with-last (Some g) k = by (joins k.control_level)
     by false = refl
 
 group_at-card : (o : Option CalculationGroup) (c : SpecCard) (after : List SpecCard) (k : CalculationSpec) → Some k ≡ card_ending c after → group_at o c after ≡ Some (group_with o k)
-group_at-card o c after k e = by (goes_on after) (calculation_on c.spec) e
+group_at-card o c after k e = by (continues after) (calculation_on c.spec) e
   where
     by : (b : Bool) (m : Option CalculationSpec) → Some k ≡ cond b None m → cond b None (option_map (group_with o) m) ≡ Some (group_with o k)
     by true m e = absurd cc
@@ -42,10 +42,10 @@ group_at-card o c after k e = by (goes_on after) (calculation_on c.spec) e
 
 -- the group's first card shows whether it is a subroutine's, and its last card whether that begins there
 pub begins-on : (before : List SpecCard) (c : SpecCard) (after : List SpecCard) (k : CalculationSpec) → Some k ≡ card_ending c after
-    → option_map_or begins_subroutine (calculation_ending before c after) false ≡ (is_of_subroutine (group_with (open_calculation_group before) k) && is_begsr (deed_of k))
+    → option_map_or begins_subroutine (calculation_ending before c after) false ≡ (is_of_subroutine (group_with (open_calculation_group before) k) && is_begsr (statement_of k))
 begins-on before c after k e =
     ap (λ o. option_map_or begins_subroutine (option_map calculation_of o) false) (group_at-card (open_calculation_group before) c after k e)
-    ∙ ap (λ j. is_of_subroutine (group_with (open_calculation_group before) k) && is_begsr (deed_of j)) (group_with-last (open_calculation_group before) k)
+    ∙ ap (λ j. is_of_subroutine (group_with (open_calculation_group before) k) && is_begsr (statement_of j)) (group_with-last (open_calculation_group before) k)
 
 -- ---- one card more
 

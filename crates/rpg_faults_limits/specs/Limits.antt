@@ -3,7 +3,7 @@ use Rattle.std.specs.Prelude.{ℕ, ◌+◌, ◌==◌, Bool, true, false, not, �
 use Rattle.std.specs.Option.{option_map_or}
 use Rattle.rpg_cards.specs.Calculations.{calculation_ending, calculations_before}
 use Rattle.rpg_cards.specs.Labels.{begins_subroutine, begun_count}
-use Rattle.rpg_cards.specs.Cards.{calculation_on, extension_on, output_field_in}
+use Rattle.rpg_cards.specs.Cards.{calculation_on, extension_on, is_output_field}
 use Rattle.rpg_cards.specs.Constants.{constant_form, constants}
 use Rattle.rpg_cards.specs.Groups.{Group, group_count, input_role, open_group, output_role}
 use Rattle.rpg_cards.specs.Names.{names}
@@ -81,10 +81,6 @@ is_or_line (output.Record r) = false
 is_or_line (output.And t) = false
 is_or_line (output.Or t) = true
 is_or_line (output.Field f) = false
-
--- an O card with a field
-abbrev pub is_output_field : OutputSpec → Bool
-is_output_field x = is_some (output_field_in x)
 
 -- the conditions of the last alternative, with one more card
 abbrev pub conditions_with : ℕ → OutputSpec → ℕ

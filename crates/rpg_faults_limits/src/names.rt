@@ -53,7 +53,7 @@ pub(crate) fn is_other(source: &IndexedCards, place: usize, definition: &Definit
     };
     match source.form_before(&definition.name, place) {
         Defined::Missing | Defined::Bad => false,
-        Defined::Good(first) => !is_same_form(&first, &form),
+        Defined::Valid(first) => !is_same_form(&first, &form),
     }
 }
 

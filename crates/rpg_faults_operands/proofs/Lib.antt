@@ -1,4 +1,4 @@
-pub mod GoodLemmas
+pub mod ValidLemmas
 pub mod Listed
 pub mod SizeLemmas
 pub mod Unedited

@@ -16,7 +16,7 @@ as_it_is None None none = refl
 as_it_is None (Some t) none = absurd cc
 as_it_is (Some k) text none = absurd cc
 
--- a field of each form may be put out as it is
+-- a field of each form may be output as it is
 suits_all : (form : Option FieldForm) (f : OutputField) → (is_none f.code && is_none f.text) ≡ true → unedited form f ≡ false
 suits_all None f none = ap (λ (o : Option (How (List ℕ))). option_map_or (λ how. not (has_fill how)) o true) (as_it_is f.code f.text none)
 suits_all (Some form) f none = ap (λ (o : Option (How (List ℕ))). is_none (option_and_then (if_suited form) o)) (as_it_is f.code f.text none)

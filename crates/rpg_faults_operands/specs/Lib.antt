@@ -1,6 +1,6 @@
 pub mod Columns
 pub mod Editing
-pub mod Good
+pub mod Valid
 pub mod Indexes
 pub mod IndicatorMarks
 pub mod Indicators

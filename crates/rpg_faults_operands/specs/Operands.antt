@@ -99,7 +99,7 @@ operands_on c after = operands_listed (operands_ending c after) ++ option_to_lis
 
 -- ---- forms
 
--- the form of an entry's field, if its name has a good one
+-- the form of an entry's field, if its name has a valid one
 abbrev pub card_entry_form : List SpecCard → Entry → Option FieldForm
 card_entry_form cards e = form_in (form_of_name e.name cards)
 
@@ -111,6 +111,6 @@ factor_form cards column f = option_and_then (λ c. option_and_then (λ x. form_
 abbrev pub result_form : List SpecCard → Column → Option Entry → Option FieldForm
 result_form cards column e = option_and_then (λ c. option_and_then (card_entry_form cards) e) (field_content column)
 
--- the form of an output field, if its name has a good one
+-- the form of an output field, if its name has a valid one
 abbrev pub output_form : List SpecCard → OutputField → Option FieldForm
 output_form cards f = option_and_then (card_entry_form cards) f.operand

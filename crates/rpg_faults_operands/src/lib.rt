@@ -5,7 +5,6 @@
 mod columns;
 mod editing;
 mod forms;
-mod good;
 mod indexes;
 mod indicator_marks;
 mod indicators;
@@ -13,10 +12,10 @@ mod kinds;
 mod marks;
 mod names;
 mod operands;
+mod valid;
 
 pub use columns::bad_columns;
 pub use editing::{bad_editing, fill_in, width};
-pub use good::has_good_operands;
 pub use indexes::bad_index;
 pub use indicator_marks::indicator_columns;
 pub use indicators::bad_indicator;
@@ -27,3 +26,4 @@ pub use operands::{
     Operand, entry_form, factor_form, field_content, form_in, operands_ending, output_operand,
     result_form,
 };
+pub use valid::has_valid_operands;

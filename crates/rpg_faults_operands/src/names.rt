@@ -50,6 +50,6 @@ fn is_undefined(source: &IndexedCards, name: &Name) -> bool
 {
     match source.form_of_name(name) {
         Defined::Missing => true,
-        Defined::Bad | Defined::Good(_) => false,
+        Defined::Bad | Defined::Valid(_) => false,
     }
 }

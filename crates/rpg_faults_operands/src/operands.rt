@@ -142,7 +142,7 @@ pub fn form_in(defined: Defined) -> Option<FieldForm>
 {
     match defined {
         Defined::Missing | Defined::Bad => None,
-        Defined::Good(form) => Some(form),
+        Defined::Valid(form) => Some(form),
     }
 }
 

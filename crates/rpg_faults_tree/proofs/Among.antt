@@ -2,9 +2,9 @@
 use Rattle.std.proofs.Common.{◌≡◌, Bool, true, false, cond, List, [], ◌∷◌, ◌++◌, Option, None, refl, ap, ◌∙◌}
 use Rattle.std.specs.List.{cons_option}
 use Rattle.std.specs.Option.{option_map, option_map_or, option_to_list}
-use Rattle.rpg_cards.specs.Calculations.{CalculationGroup, calculation_of, calculations_from, completed, goes_on, group_with, joined_group, open_after}
+use Rattle.rpg_cards.specs.Calculations.{CalculationGroup, calculation_of, calculations_from, completed, continues, group_with, joined_group, open_after}
 use Rattle.rpg_cards.specs.Cards.{calculation_on, calculation_specs_in}
-use Rattle.rpg_cards.specs.Deeds.{Calculation}
+use Rattle.rpg_cards.specs.Statements.{Calculation}
 use Rattle.rpg_cards.specs.Groups.{joins}
 use Rattle.rpg_cards.specs.Keys.{Key}
 use Rattle.rpg_cards.specs.declared.spec_card.SpecCard.{SpecCard}
@@ -43,8 +43,8 @@ open_none (c ∷ cs) none = ap (λ o. open_after (option_map (group_with None) o
 pub done_none : (cs after : List SpecCard) → NoC cs → (o : Option CalculationGroup) → calculations_from o cs after ≡ []
 done_none [] after none o = refl
 done_none (c ∷ cs) after none o =
-    ap (λ k. emitted (cond (goes_on (cs ++ after)) None (option_map (group_with o) k)) ++ calculations_from (option_map (group_with o) k) cs after) none.0
-    ∙ ap (λ gs. gs ++ calculations_from None cs after) (nothing (goes_on (cs ++ after))) ∙ done_none cs after none.1 None
+    ap (λ k. emitted (cond (continues (cs ++ after)) None (option_map (group_with o) k)) ++ calculations_from (option_map (group_with o) k) cs after) none.0
+    ∙ ap (λ gs. gs ++ calculations_from None cs after) (nothing (continues (cs ++ after))) ∙ done_none cs after none.1 None
 
 pub specs_none : (cs : List SpecCard) → NoC cs → calculation_specs_in cs ≡ []
 specs_none [] none = refl
@@ -52,9 +52,9 @@ specs_none (c ∷ cs) none = ap (λ o. cons_option o (calculation_specs_in cs)) 
 
 -- ---- after them
 
-pub goes_nowhere_on : (cs : List SpecCard) → NoC cs → goes_on cs ≡ false
-goes_nowhere_on [] none = refl
-goes_nowhere_on (c ∷ cs) none = ap (λ o. option_map_or (λ (k : CalculationSpec). joins k.control_level) o false) none.0
+pub lacks_target_on : (cs : List SpecCard) → NoC cs → continues cs ≡ false
+lacks_target_on [] none = refl
+lacks_target_on (c ∷ cs) none = ap (λ o. option_map_or (λ (k : CalculationSpec). joins k.control_level) o false) none.0
 
 pub completed_none : (cs : List SpecCard) → NoC cs → (g : CalculationGroup) → completed g cs ≡ g
 completed_none [] none g = refl

@@ -4,9 +4,9 @@ use Rattle.std.specs.Prelude.{is_none, nat_lt}
 use Rattle.std.specs.List.{list_any}
 use Rattle.std.specs.Option.{option_map_or}
 use Rattle.std.proofs.lemmas.List.Elements.{filter_map-append}
-use Rattle.rpg_cards.specs.Calculations.{CalculationGroup, alone, calculation_of, calculations_before, completed, goes_on, group_with, joined_group, open_calculation_group}
+use Rattle.rpg_cards.specs.Calculations.{CalculationGroup, alone, calculation_of, calculations_before, completed, continues, group_with, joined_group, open_calculation_group}
 use Rattle.rpg_cards.specs.Cards.{calculation_on, calculation_specs_in}
-use Rattle.rpg_cards.specs.Deeds.{Calculation}
+use Rattle.rpg_cards.specs.Statements.{Calculation}
 use Rattle.rpg_cards.specs.Groups.{joins}
 use Rattle.rpg_cards.specs.Keys.{Key}
 use Rattle.rpg_cards.specs.declared.spec_card.SpecCard.{SpecCard}
@@ -57,7 +57,7 @@ module _ (post : List SpecCard) (none : NoC post) where
       by false more = ap (λ fs. record { first = g.first; followers = fs }) (sym (append-nil g.followers))
 
   abbrev closed : CalculationGroup → List (Card CalculationSpec) → Option CalculationGroup
-  closed g xs = cond (goes_on (rest xs)) None (Some g)
+  closed g xs = cond (continues (rest xs)) None (Some g)
 
   -- on a card, by whether it joins
   abbrev breaks : Bool → Option CalculationGroup → List (Calculation Key) → List CalculationSpec → CalculationSpec → List (Card CalculationSpec) → Bool

@@ -2,10 +2,10 @@
 use Rattle.std.proofs.Common.{◌≡◌, ℕ, Bool, true, false, not, ◌&&◌, ◌||◌, cond, List, [], ◌∷◌, ◌++◌, Option, None, Some, refl, sym, ap, ◌∙◌, append-nil}
 use Rattle.std.specs.Prelude.{is_none}
 use Rattle.std.specs.Option.{option_and_then, option_map, option_map_or}
-use Rattle.rpg_cards.specs.Calculations.{CalculationGroup, calculation_ending, calculation_of, card_ending, calculations, calculations_before, calculations_from, goes_on, group_ending, group_with, open_calculation_group}
-use Rattle.rpg_cards.specs.Cards.{calculation_on, data_on, extension_on, file_on, input_on, output_on}
+use Rattle.rpg_cards.specs.Calculations.{CalculationGroup, calculation_ending, calculation_of, card_ending, calculations, calculations_before, calculations_from, continues, group_ending, group_with, open_calculation_group}
+use Rattle.rpg_cards.specs.Cards.{calculation_on, data_on, extension_on, file_on, input_on, is_output_field, output_on}
 use Rattle.rpg_cards.specs.Groups as flat
-use Rattle.rpg_cards.specs.Deeds.{Calculation}
+use Rattle.rpg_cards.specs.Statements.{Calculation}
 use Rattle.rpg_cards.specs.Groups.{input_card_role, input_role, joins, open_group, output_card_role, output_role, role_on, with_card}
 use Rattle.rpg_cards.specs.Keys.{Key}
 use Rattle.rpg_cards.specs.Calls as old_calls
@@ -29,8 +29,8 @@ use Rattle.rpg_faults_tree.proofs.Rounds.{rounds-are}
 use Rattle.rpg_faults_tree.proofs.Stepping.{IsTestOf, all_join, back_is, ends-steps, leaves_is, nowhere_is, starts-steps, unpaired_is}
 use Rattle.rpg_faults_tree.proofs.Straying as strays
 use Rattle.rpg_faults_tree.specs.Numbers.{at_operations}
-use Rattle.rpg_faults_tree.specs.Order.{cut_off_in, misplaced_from, passing_numbers, strays_on_input, strays_on_output, is_and, is_and_or, is_input_field, is_line_field, is_unpaired}
-use Rattle.rpg_faults_tree.specs.Rules.{calls_back, recursive_cards, step_goes_nowhere, step_leaves_section, leaving_cards, lost_cards, misplaced_cards, wrongly_rounding_cards}
+use Rattle.rpg_faults_tree.specs.Order.{cut_off_in, misplaced_from, passing_numbers, strays_on_input, strays_on_output, is_and, is_and_or, is_input_field, is_unpaired}
+use Rattle.rpg_faults_tree.specs.Rules.{calls_back, recursive_cards, step_lacks_target, step_leaves_section, leaving_cards, lost_cards, misplaced_cards, wrongly_rounding_cards}
 use Rattle.rpg_faults_flow.specs.Flow as flow
 use Rattle.rpg_faults_flow.specs.Kept.{Rule}
 use Rattle.rpg_faults_flow.specs.Order.{breaks_group, breaks_order, unpaired}
@@ -87,7 +87,7 @@ input_sheet = record {
     no_field (input.And codes) is = refl
     no_field (input.Field f) is = absurd cc
 
-output_sheet : strays.Sheet output_on spec.Output output_role is_output_line is_and_or takes_conditions is_line_field
+output_sheet : strays.Sheet output_on spec.Output output_role is_output_line is_and_or takes_conditions is_output_field
 output_sheet = record {
   on_sheet = λ x. refl;
   apart = λ s is. ap (role_on output_card_role) is;
@@ -123,7 +123,7 @@ output_sheet = record {
     takes_some (output.Or t) is = refl
     takes_some (output.Field f) is = absurd cc
 
-    no_field : (x : OutputSpec) → is_output_line x ≡ true → is_line_field x ≡ false
+    no_field : (x : OutputSpec) → is_output_line x ≡ true → is_output_field x ≡ false
     no_field (output.Record r) is = refl
     no_field (output.And t) is = refl
     no_field (output.Or t) is = refl
@@ -147,10 +147,10 @@ abbrev input_field : Rule
 input_field = strays.field_rule input_on spec.Input input_role is_type is_and takes_codes is_input_field
 
 abbrev output_cut : Rule
-output_cut = strays.cut_rule output_on spec.Output output_role is_output_line is_and_or takes_conditions is_line_field
+output_cut = strays.cut_rule output_on spec.Output output_role is_output_line is_and_or takes_conditions is_output_field
 
 abbrev output_field : Rule
-output_field = strays.field_rule output_on spec.Output output_role is_output_line is_and_or takes_conditions is_line_field
+output_field = strays.field_rule output_on spec.Output output_role is_output_line is_and_or takes_conditions is_output_field
 
 input_same : (before : List SpecCard) (c : SpecCard) (after : List SpecCard) → either input_cut input_field before c after ≡ input_rule before c after
 input_same before c after = by (input_on c.spec)
@@ -164,7 +164,7 @@ input_same before c after = by (input_on c.spec)
 output_same : (before : List SpecCard) (c : SpecCard) (after : List SpecCard) → either output_cut output_field before c after ≡ output_rule before c after
 output_same before c after = by (output_on c.spec)
   where
-    by : (o : Option OutputSpec) → (option_map_or (λ x. is_and_or x && not (stray_rules.follows_conditions before)) o false || option_map_or (λ x. is_line_field x && is_none (open_group output_role before)) o false) ≡ option_map_or (stray_rules.is_stray_output before) o false
+    by : (o : Option OutputSpec) → (option_map_or (λ x. is_and_or x && not (stray_rules.follows_conditions before)) o false || option_map_or (λ x. is_output_field x && is_none (open_group output_role before)) o false) ≡ option_map_or (stray_rules.is_stray_output before) o false
     by None = refl
     by (Some (output.Record r)) = refl
     by (Some (output.And t)) = sym (or_false (not (stray_rules.follows_conditions before)))
@@ -252,20 +252,20 @@ module _ (cards : List SpecCard) where
       (strays.none_on-append input_on spec.Input input_role is_type is_and takes_codes is_input_field (sheet header_on spec.Header cards) (sheet file_on spec.File cards) (strays.none_on-back input_on spec.Input input_role is_type is_and takes_codes is_input_field spec.Header (λ x. refl) (cards_on header_on cards)) (strays.none_on-back input_on spec.Input input_role is_type is_and takes_codes is_input_field spec.File (λ x. refl) (cards_on file_on cards)))
       (strays.none_on-back input_on spec.Input input_role is_type is_and takes_codes is_input_field spec.Extension (λ x. refl) (cards_on extension_on cards))
 
-  no_output : strays.NoneOn output_on spec.Output output_role is_output_line is_and_or takes_conditions is_line_field (up_to_i ++ c_cards (cards_on calculation_on cards))
+  no_output : strays.NoneOn output_on spec.Output output_role is_output_line is_and_or takes_conditions is_output_field (up_to_i ++ c_cards (cards_on calculation_on cards))
   no_output =
-      strays.none_on-append output_on spec.Output output_role is_output_line is_and_or takes_conditions is_line_field up_to_i (c_cards (cards_on calculation_on cards))
-      (strays.none_on-append output_on spec.Output output_role is_output_line is_and_or takes_conditions is_line_field up_to_e (sheet input_on spec.Input cards)
-      (strays.none_on-append output_on spec.Output output_role is_output_line is_and_or takes_conditions is_line_field (sheet header_on spec.Header cards ++ sheet file_on spec.File cards) (sheet extension_on spec.Extension cards)
-      (strays.none_on-append output_on spec.Output output_role is_output_line is_and_or takes_conditions is_line_field (sheet header_on spec.Header cards) (sheet file_on spec.File cards) (strays.none_on-back output_on spec.Output output_role is_output_line is_and_or takes_conditions is_line_field spec.Header (λ x. refl) (cards_on header_on cards)) (strays.none_on-back output_on spec.Output output_role is_output_line is_and_or takes_conditions is_line_field spec.File (λ x. refl) (cards_on file_on cards)))
-      (strays.none_on-back output_on spec.Output output_role is_output_line is_and_or takes_conditions is_line_field spec.Extension (λ x. refl) (cards_on extension_on cards)))
-      (strays.none_on-back output_on spec.Output output_role is_output_line is_and_or takes_conditions is_line_field spec.Input (λ x. refl) (cards_on input_on cards)))
-      (strays.none_on-back output_on spec.Output output_role is_output_line is_and_or takes_conditions is_line_field spec.Calculation (λ x. refl) (cards_on calculation_on cards))
+      strays.none_on-append output_on spec.Output output_role is_output_line is_and_or takes_conditions is_output_field up_to_i (c_cards (cards_on calculation_on cards))
+      (strays.none_on-append output_on spec.Output output_role is_output_line is_and_or takes_conditions is_output_field up_to_e (sheet input_on spec.Input cards)
+      (strays.none_on-append output_on spec.Output output_role is_output_line is_and_or takes_conditions is_output_field (sheet header_on spec.Header cards ++ sheet file_on spec.File cards) (sheet extension_on spec.Extension cards)
+      (strays.none_on-append output_on spec.Output output_role is_output_line is_and_or takes_conditions is_output_field (sheet header_on spec.Header cards) (sheet file_on spec.File cards) (strays.none_on-back output_on spec.Output output_role is_output_line is_and_or takes_conditions is_output_field spec.Header (λ x. refl) (cards_on header_on cards)) (strays.none_on-back output_on spec.Output output_role is_output_line is_and_or takes_conditions is_output_field spec.File (λ x. refl) (cards_on file_on cards)))
+      (strays.none_on-back output_on spec.Output output_role is_output_line is_and_or takes_conditions is_output_field spec.Extension (λ x. refl) (cards_on extension_on cards)))
+      (strays.none_on-back output_on spec.Output output_role is_output_line is_and_or takes_conditions is_output_field spec.Input (λ x. refl) (cards_on input_on cards)))
+      (strays.none_on-back output_on spec.Output output_role is_output_line is_and_or takes_conditions is_output_field spec.Calculation (λ x. refl) (cards_on calculation_on cards))
 
   off_end : (test : Test) → IsOff (at_end test) calculation_on
   off_end test before c after none =
-      ap (λ k. option_map_or (λ g. test (calculations_before before (c ∷ after)) (calculation_of g) (calculations_from (Some g) after [])) (cond (goes_on after) None (option_map (group_with (open_calculation_group before)) k)) false) none
-      ∙ by (goes_on after)
+      ap (λ k. option_map_or (λ g. test (calculations_before before (c ∷ after)) (calculation_of g) (calculations_from (Some g) after [])) (cond (continues after) None (option_map (group_with (open_calculation_group before)) k)) false) none
+      ∙ by (continues after)
     where
       by : (b : Bool) → option_map_or (λ g. test (calculations_before before (c ∷ after)) (calculation_of g) (calculations_from (Some g) after [])) (cond b None None) false ≡ false
       by true = refl
@@ -318,18 +318,18 @@ module _ (cards : List SpecCard) where
     abbrev given : List Label
     given = steps.labels_of_steps (steps_in (tree cards))
 
-    pub nowhere-broken : AreBroken (λ before c after. flow.goes_nowhere (before ++ c ∷ after) before c after) cards (lost_cards (tree cards))
-    nowhere-broken = broken-same (at_end (λ done g following. flow.lacks_label given g)) _ cards (lost_cards (tree cards)) same (ends_broken (λ done g following. flow.lacks_label given g) (λ s after. step_goes_nowhere given s) (nowhere_is given))
+    pub nowhere-broken : AreBroken (λ before c after. flow.lacks_target (before ++ c ∷ after) before c after) cards (lost_cards (tree cards))
+    nowhere-broken = broken-same (at_end (λ done g following. flow.lacks_label given g)) _ cards (lost_cards (tree cards)) same (ends_broken (λ done g following. flow.lacks_label given g) (λ s after. step_lacks_target given s) (nowhere_is given))
       where
-        same : (before : List SpecCard) (c : SpecCard) (after : List SpecCard) → cards ≡ before ++ c ∷ after → at_end (λ done g following. flow.lacks_label given g) before c after ≡ flow.goes_nowhere (before ++ c ∷ after) before c after
+        same : (before : List SpecCard) (c : SpecCard) (after : List SpecCard) → cards ≡ before ++ c ∷ after → at_end (λ done g following. flow.lacks_label given g) before c after ≡ flow.lacks_target (before ++ c ∷ after) before c after
         same before c after split =
             of_calculation (flow.lacks_label given) false (group_ending before c after)
             ∙ ap (λ ls. option_map_or (flow.lacks_label ls) (calculation_ending before c after) false) (sym given_labels ∙ ap (λ cs. old.labels (calculations cs)) split)
 
-    pub apart-broken : AreBroken (λ before c after. flow.goes_apart (before ++ c ∷ after) before c after) cards (leaving_cards (tree cards))
+    pub apart-broken : AreBroken (λ before c after. flow.leaves_its_section (before ++ c ∷ after) before c after) cards (leaving_cards (tree cards))
     apart-broken = broken-same (at_end (λ done g following. flow.leaves_section given done g)) _ cards (leaving_cards (tree cards)) same (ends_broken (λ done g following. flow.leaves_section given done g) (λ s after. step_leaves_section given s) (leaves_is given))
       where
-        same : (before : List SpecCard) (c : SpecCard) (after : List SpecCard) → cards ≡ before ++ c ∷ after → at_end (λ done g following. flow.leaves_section given done g) before c after ≡ flow.goes_apart (before ++ c ∷ after) before c after
+        same : (before : List SpecCard) (c : SpecCard) (after : List SpecCard) → cards ≡ before ++ c ∷ after → at_end (λ done g following. flow.leaves_section given done g) before c after ≡ flow.leaves_its_section (before ++ c ∷ after) before c after
         same before c after split =
             of_calculation (flow.leaves_section given (calculations_before before (c ∷ after))) false (group_ending before c after)
             ∙ ap (λ ls. option_map_or (flow.leaves_section ls (calculations_before before (c ∷ after))) (calculation_ending before c after) false) (sym given_labels ∙ ap (λ cs. old.labels (calculations cs)) split)
@@ -372,10 +372,10 @@ module _ (cards : List SpecCard) where
         broken-either output_cut output_field cards _ _
         (by-each output_cut cards (cut_off_in is_and_or takes_conditions (tree cards).lines)
         (flat_cards output_cut ∙ at_o output_cut (λ before c after none. ap (λ o. option_map_or (λ x. is_and_or x && not (stray_rules.follows_conditions before)) o false) none)
-        ∙ strays.cut-are output_on spec.Output output_role is_output_line is_and_or takes_conditions is_line_field output_sheet (up_to_i ++ c_cards all_c) no_output (cards_on output_on cards) (sheet data_on spec.Data cards ++ [])))
-        (by-each output_field cards (passing_numbers is_line_field (tree cards).lines.strays)
-        (flat_cards output_field ∙ at_o output_field (λ before c after none. ap (λ o. option_map_or (λ x. is_line_field x && is_none (open_group output_role before)) o false) none)
-        ∙ strays.fields-are output_on spec.Output output_role is_output_line is_and_or takes_conditions is_line_field output_sheet (up_to_i ++ c_cards all_c) no_output (cards_on output_on cards) (sheet data_on spec.Data cards ++ [])))
+        ∙ strays.cut-are output_on spec.Output output_role is_output_line is_and_or takes_conditions is_output_field output_sheet (up_to_i ++ c_cards all_c) no_output (cards_on output_on cards) (sheet data_on spec.Data cards ++ [])))
+        (by-each output_field cards (passing_numbers is_output_field (tree cards).lines.strays)
+        (flat_cards output_field ∙ at_o output_field (λ before c after none. ap (λ o. option_map_or (λ x. is_output_field x && is_none (open_group output_role before)) o false) none)
+        ∙ strays.fields-are output_on spec.Output output_role is_output_line is_and_or takes_conditions is_output_field output_sheet (up_to_i ++ c_cards all_c) no_output (cards_on output_on cards) (sheet data_on spec.Data cards ++ [])))
 
     abbrev parts : Rule
     parts = either (either at_start (at_end unpaired)) (either (either input_cut input_field) (either output_cut output_field))

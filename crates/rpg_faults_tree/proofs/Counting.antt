@@ -3,9 +3,9 @@ use Rattle.std.proofs.Common.{◌≡◌, ℕ, ◌+◌, ◌≤◌, ◌*◌, Bool,
 use Rattle.std.specs.Option.{option_and_then, option_map, option_map_or, option_to_list}
 use Rattle.std.specs.Prelude.{is_some}
 use Rattle.rpg_cards.specs.Calculations.{CalculationGroup, calculation_of, calculations_before, calculations_from, calculations, card_ending, group_at, group_with, last_card, open_after, open_calculation_group, open_with}
-use Rattle.rpg_cards.specs.Deeds.{Calculation, deed_of}
+use Rattle.rpg_cards.specs.Statements.{Calculation, statement_of}
 use Rattle.rpg_cards.specs.Keys.{Key}
-use Rattle.rpg_cards.specs.Labels.{gives, label_at, labels, labels_after}
+use Rattle.rpg_cards.specs.Labels.{defined_name, label_at, labels, labels_after}
 use Rattle.rpg_cards.specs.declared.labels.Label.{Label}
 use Rattle.rpg_cards.specs.declared.labels.Named.{Named}
 use Rattle.rpg_cards.proofs.ItemLemmas.{definitions-push, few_definitions}
@@ -65,11 +65,11 @@ module _ (before : List SpecCard) (c : SpecCard) (after : List SpecCard) where
       count None f = refl
       count (Some n) f = refl
 
-      by : (x : Option CalculationSpec) → length (option_to_list (option_and_then (label_at front) (option_map calculation_of (option_map (group_with (open_calculation_group before)) x)))) ≡ one_if (option_map_or (λ k. is_some (gives (deed_of k))) x false)
+      by : (x : Option CalculationSpec) → length (option_to_list (option_and_then (label_at front) (option_map calculation_of (option_map (group_with (open_calculation_group before)) x)))) ≡ one_if (option_map_or (λ k. is_some (defined_name (statement_of k))) x false)
       by None = refl
       by (Some k) =
-          count (gives (deed_of (last_card (group_with (open_calculation_group before) k)))) _
-          ∙ ap (λ d. one_if (is_some (gives (deed_of d)))) (last_with (open_calculation_group before) k)
+          count (defined_name (statement_of (last_card (group_with (open_calculation_group before) k)))) _
+          ∙ ap (λ d. one_if (is_some (defined_name (statement_of d)))) (last_with (open_calculation_group before) k)
 
 -- ---- few
 

@@ -2,8 +2,8 @@
 use Rattle.std.proofs.Common.{◌≡◌, ℕ, Bool, true, false, not, cond, List, [], ◌∷◌, ◌++◌, map, drop, Option, None, Some, unwrap_or, refl, sym, ap, ◌∙◌, append_assoc, append-nil}
 use Rattle.std.specs.List.{last_or}
 use Rattle.std.specs.Option.{option_map_or}
-use Rattle.rpg_cards.specs.Calculations.{CalculationGroup, alone, calculation_of, calculations_before, calculations_from, goes_on, group_ending, group_with, joined_group, open_calculation_group}
-use Rattle.rpg_cards.specs.Deeds.{Calculation}
+use Rattle.rpg_cards.specs.Calculations.{CalculationGroup, alone, calculation_of, calculations_before, calculations_from, continues, group_ending, group_with, joined_group, open_calculation_group}
+use Rattle.rpg_cards.specs.Statements.{Calculation}
 use Rattle.rpg_cards.specs.Groups.{joins}
 use Rattle.rpg_cards.specs.Keys.{Key}
 use Rattle.rpg_cards.specs.declared.spec_card.SpecCard.{SpecCard}
@@ -14,7 +14,7 @@ use Rattle.rpg_deck.specs.Steps as steps
 use Rattle.rpg_deck.specs.Steps.{operation_card}
 use Rattle.rpg_deck.specs.Tree.{begins_calculation}
 use Rattle.rpg_deck.specs.declared.card.Card.{Card}
-use Rattle.rpg_faults_tree.proofs.Among.{NoC, done_none, emitted, goes_nowhere_on}
+use Rattle.rpg_faults_tree.proofs.Among.{NoC, done_none, emitted, lacks_target_on}
 use Rattle.rpg_faults_tree.proofs.Each.{each}
 use Rattle.rpg_faults_tree.specs.Numbers.{one_if}
 use Rattle.rpg_faults_flow.proofs.Walk.{calculations_from-push, open_after-push}
@@ -63,15 +63,15 @@ module _ (test : Test) where
 
     -- the calculations from an open group on
     abbrev Calculated : CalculationGroup → List (Card CalculationSpec) → Type 0
-    Calculated g xs = emitted (cond (goes_on (rest xs)) None (Some g)) ++ calculations_from (Some g) (rest xs) [] ≡ calculation_of (with_cards g (strays begins_calculation xs)) ∷ map calculation_in (groups_begun begins_calculation xs)
+    Calculated g xs = emitted (cond (continues (rest xs)) None (Some g)) ++ calculations_from (Some g) (rest xs) [] ≡ calculation_of (with_cards g (strays begins_calculation xs)) ∷ map calculation_in (groups_begun begins_calculation xs)
 
     calculations_of : (g : CalculationGroup) (xs : List (Card CalculationSpec)) → Calculated g xs
     calculations_of g [] =
-        ap (λ b. emitted (cond b None (Some g)) ++ calculations_from (Some g) post []) (goes_nowhere_on post none)
+        ap (λ b. emitted (cond b None (Some g)) ++ calculations_from (Some g) post []) (lacks_target_on post none)
         ∙ ap (λ gs. calculation_of g ∷ gs) (done_none post [] none (Some g)) ∙ ap (λ fs. calculation_of (record { first = g.first; followers = fs }) ∷ []) (sym (append-nil g.followers))
-    calculations_of g (x ∷ xs) = ap (λ cs. emitted (cond (joins x.spec.control_level) None (Some g)) ++ (emitted (cond (goes_on cs) None (Some (group_with (Some g) x.spec))) ++ calculations_from (Some (group_with (Some g) x.spec)) (rest xs) [])) (append-nil (rest xs)) ∙ by (joins x.spec.control_level) (calculations_of (joined_group g x.spec) xs) (calculations_of (alone x.spec) xs)
+    calculations_of g (x ∷ xs) = ap (λ cs. emitted (cond (joins x.spec.control_level) None (Some g)) ++ (emitted (cond (continues cs) None (Some (group_with (Some g) x.spec))) ++ calculations_from (Some (group_with (Some g) x.spec)) (rest xs) [])) (append-nil (rest xs)) ∙ by (joins x.spec.control_level) (calculations_of (joined_group g x.spec) xs) (calculations_of (alone x.spec) xs)
       where
-        by : (b : Bool) → Calculated (joined_group g x.spec) xs → Calculated (alone x.spec) xs → emitted (cond b None (Some g)) ++ (emitted (cond (goes_on (rest xs)) None (Some (cond b (joined_group g x.spec) (alone x.spec)))) ++ calculations_from (Some (cond b (joined_group g x.spec) (alone x.spec))) (rest xs) [])
+        by : (b : Bool) → Calculated (joined_group g x.spec) xs → Calculated (alone x.spec) xs → emitted (cond b None (Some g)) ++ (emitted (cond (continues (rest xs)) None (Some (cond b (joined_group g x.spec) (alone x.spec)))) ++ calculations_from (Some (cond b (joined_group g x.spec) (alone x.spec))) (rest xs) [])
             ≡ calculation_of (with_cards g (cond (not b) [] (x ∷ strays begins_calculation xs))) ∷ map calculation_in (cond (not b) (record { first = x; followers = strays begins_calculation xs } ∷ groups_begun begins_calculation xs) (groups_begun begins_calculation xs))
         by true in_group alone_is =
             in_group
@@ -81,12 +81,12 @@ module _ (test : Test) where
             ∙ ap (λ fs. calculation_of (record { first = g.first; followers = fs }) ∷ (calculation_of (with_cards (alone x.spec) (strays begins_calculation xs)) ∷ map calculation_in (groups_begun begins_calculation xs))) (sym (append-nil g.followers))
 
     -- those after a group that ends
-    calculations_after : (g : CalculationGroup) (xs : List (Card CalculationSpec)) → goes_on (rest xs) ≡ false → calculations_from (Some g) (rest xs) [] ≡ map calculation_in (groups_begun begins_calculation xs)
+    calculations_after : (g : CalculationGroup) (xs : List (Card CalculationSpec)) → continues (rest xs) ≡ false → calculations_from (Some g) (rest xs) [] ≡ map calculation_in (groups_begun begins_calculation xs)
     calculations_after g xs ends = sym (ap (λ b. drop 1 (emitted (cond b None (Some g)) ++ calculations_from (Some g) (rest xs) [])) ends) ∙ ap (drop 1) (calculations_of g xs)
 
     -- a group that is open once a card has been read
     abbrev closed : CalculationGroup → List (Card CalculationSpec) → Option CalculationGroup
-    closed g xs = cond (goes_on (rest xs)) None (Some g)
+    closed g xs = cond (continues (rest xs)) None (Some g)
 
     abbrev here : List (Calculation Key) → CalculationGroup → ℕ → List (Card CalculationSpec) → List ℕ
     here done g n xs = one_if (option_map_or (λ h. test done (calculation_of h) (calculations_from (Some h) (rest xs) [])) (closed g xs) false) n
@@ -115,7 +115,7 @@ module _ (test : Test) where
 
     from_open : (xs : List (Card CalculationSpec)) (g : CalculationGroup) (n : ℕ) (done : List (Calculation Key)) → Goes xs g n done
     from_open [] g n done =
-        ap (λ b. one_if (option_map_or (λ h. test done (calculation_of h) (calculations_from (Some h) post [])) (cond b None (Some g)) false) n ++ []) (goes_nowhere_on post none)
+        ap (λ b. one_if (option_map_or (λ h. test done (calculation_of h) (calculations_from (Some h) post [])) (cond b None (Some g)) false) n ++ []) (lacks_target_on post none)
         ∙ ap (λ gs. one_if (test done (calculation_of g) gs) n ++ []) (done_none post [] none (Some g))
         ∙ ap (λ fs. one_if (test done (calculation_of (record { first = g.first; followers = fs })) []) n ++ []) (sym (append-nil g.followers))
     from_open (x ∷ xs) g n done = by (joins x.spec.control_level) (λ ends. calculations_after g (x ∷ xs) ends) (from_open xs (joined_group g x.spec) x.number done) (from_open xs (alone x.spec) x.number (done ++ calculation_of g ∷ []))

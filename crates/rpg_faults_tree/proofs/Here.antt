@@ -50,7 +50,7 @@ nat_equivalence = record {
   congr = λ x y z same. ap (λ w. nat_eq w z) (eqb-true x y same);
 }
 
--- the list of a rule tells whether a card breaks it
+-- the list of a rule shows whether a card breaks it
 module _ (r : Rule) (before : List SpecCard) (c : SpecCard) (after : List SpecCard) (ns : List ℕ) (numbered : Numbered 1 (before ++ c ∷ after)) (are : AreBroken r (before ++ c ∷ after) ns) where
   breaks : BreaksRule r (before ++ c ∷ after) c.number → r before c after ≡ true
   breaks b =
@@ -70,7 +70,7 @@ module _ (r : Rule) (before : List SpecCard) (c : SpecCard) (after : List SpecCa
       by false has false broken = refl
 
 -- of a set with just the cards that break it
-pub told : (r : Rule) (cards before : List SpecCard) (c : SpecCard) (after : List SpecCard) (set : CardSet) (ns : List ℕ) → Numbered 1 cards → AreBroken r cards ns → AreMarked set ns → cards ≡ before ++ c ∷ after
+pub reported : (r : Rule) (cards before : List SpecCard) (c : SpecCard) (after : List SpecCard) (set : CardSet) (ns : List ℕ) → Numbered 1 cards → AreBroken r cards ns → AreMarked set ns → cards ≡ before ++ c ∷ after
     → get_or set.marks.items c.number false ≡ r before c after
-told r cards before c after set ns numbered are marked split =
+reported r cards before c after set ns numbered are marked split =
     marked c.number ∙ here r before c after ns (subst (Numbered 1) split numbered) (subst (λ cs. AreBroken r cs ns) split are)

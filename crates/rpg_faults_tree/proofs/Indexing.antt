@@ -40,10 +40,10 @@ module _ (all : List Step) (i : ℕ) (s : Step) (within : i < length all) (here 
   pub count_next : (place : ℕ) → place ≡ length (labels_of_steps (map step_in (take i all))) → place + length (labels_of_steps (step_in s ∷ [])) ≡ length (labels_of_steps (map step_in (take (i + 1) all)))
   count_next place at = ap (λ n. n + length (labels_of_steps (step_in s ∷ []))) at ∙ sym (length-append (labels_of_steps (map step_in (take i all))) (labels_of_steps (step_in s ∷ []))) ∙ ap length (sym one_more)
 
-  -- ---- a step that gives no label, and one that gives one
+  -- ---- a step that defines no label, and one that defines one
 
-  gives-here : (o : Option Label) → label_of (step_in s) ≡ o → labels_of_steps (step_in s ∷ []) ≡ option_to_list o
-  gives-here o is = ap (λ x. cons_option x []) is ∙ by o
+  defined_name-here : (o : Option Label) → label_of (step_in s) ≡ o → labels_of_steps (step_in s ∷ []) ≡ option_to_list o
+  defined_name-here o is = ap (λ x. cons_option x []) is ∙ by o
     where
       by : (x : Option Label) → cons_option x [] ≡ option_to_list x
       by None = refl
@@ -53,7 +53,7 @@ module _ (all : List Step) (i : ℕ) (s : Step) (within : i < length all) (here 
       → IsLabelIndex names (labels_of_steps (map step_in (take (i + 1) all)))
   index_passed none names place at index =
       index_next names names place at index (λ q.
-      kept (lookup (pointwise nat_eq q) names) ∙ ap (λ ls. option_or (lookup (pointwise nat_eq q) names) (first_at (is_for q) first_label place ls)) (sym (gives-here None none)))
+      kept (lookup (pointwise nat_eq q) names) ∙ ap (λ ls. option_or (lookup (pointwise nat_eq q) names) (first_at (is_for q) first_label place ls)) (sym (defined_name-here None none)))
     where
       kept : (x : Option FirstLabel) → x ≡ option_or x None
       kept None = refl
@@ -64,10 +64,10 @@ module _ (all : List Step) (i : ℕ) (s : Step) (within : i < length all) (here 
       → IsLabelIndex new (labels_of_steps (map step_in (take (i + 1) all)))
   index_noted l some names new place at index noted =
       index_next names new place at index (λ q.
-      noted q ∙ ap (λ ls. option_or (lookup (pointwise nat_eq q) names) (first_at (is_for q) first_label place ls)) (sym (gives-here (Some l) some)))
+      noted q ∙ ap (λ ls. option_or (lookup (pointwise nat_eq q) names) (first_at (is_for q) first_label place ls)) (sym (defined_name-here (Some l) some)))
 
   pub count_passed : label_of (step_in s) ≡ None → (place : ℕ) → place ≡ length (labels_of_steps (map step_in (take i all))) → place ≡ length (labels_of_steps (map step_in (take (i + 1) all)))
-  count_passed none place at = let more = count_next place at in let here = ap length (gives-here None none) in omega arith
+  count_passed none place at = let more = count_next place at in let here = ap length (defined_name-here None none) in omega arith
 
   pub count_noted : (l : Label) → label_of (step_in s) ≡ Some l → (place : ℕ) → place ≡ length (labels_of_steps (map step_in (take i all))) → place + 1 ≡ length (labels_of_steps (map step_in (take (i + 1) all)))
-  count_noted l some place at = let more = count_next place at in let here = ap length (gives-here (Some l) some) in omega arith
+  count_noted l some place at = let more = count_next place at in let here = ap length (defined_name-here (Some l) some) in omega arith

@@ -3,7 +3,7 @@ use Rattle.std.proofs.Common.{◌≡◌, ℕ, Bool, true, false, not, ◌&&◌, 
 use Rattle.std.specs.List.{last_or}
 use Rattle.std.specs.Prelude.{unwrap_or}
 use Rattle.std.specs.Option.{option_map_or}
-use Rattle.rpg_cards.specs.Calculations.{CalculationGroup, alone, goes_on, group_with, joined_group, open_calculation_group}
+use Rattle.rpg_cards.specs.Calculations.{CalculationGroup, alone, continues, group_with, joined_group, open_calculation_group}
 use Rattle.rpg_cards.specs.Calculations as flat
 use Rattle.rpg_cards.specs.Groups.{joins}
 use Rattle.rpg_cards.specs.declared.spec_card.SpecCard.{SpecCard}
@@ -13,7 +13,7 @@ use Rattle.rpg_deck.specs.Steps as steps
 use Rattle.rpg_deck.specs.Steps.{operation_card}
 use Rattle.rpg_deck.specs.Tree.{begins_calculation}
 use Rattle.rpg_deck.specs.declared.card.Card.{Card}
-use Rattle.rpg_faults_tree.proofs.Among.{NoC, goes_nowhere_on}
+use Rattle.rpg_faults_tree.proofs.Among.{NoC, lacks_target_on}
 use Rattle.rpg_faults_tree.proofs.Each.{each}
 use Rattle.rpg_faults_tree.proofs.Ends.{c_cards}
 use Rattle.rpg_faults_tree.specs.Numbers.{one_if}
@@ -39,13 +39,13 @@ module _ (post : List SpecCard) (none : NoC post) where
 
   abbrev rounds_on : Option CalculationGroup → List (Card CalculationSpec) → List ℕ
   rounds_on o [] = []
-  rounds_on o (x ∷ xs) = one_if (wrong (divides o) x.spec (cond (goes_on (rest xs)) None (Some x.spec))) x.number ++ rounds_on (Some (group_with o x.spec)) xs
+  rounds_on o (x ∷ xs) = one_if (wrong (divides o) x.spec (cond (continues (rest xs)) None (Some x.spec))) x.number ++ rounds_on (Some (group_with o x.spec)) xs
 
   by_state : (before : List SpecCard) (xs : List (Card CalculationSpec)) → each bad_rounding before (c_cards xs) post ≡ rounds_on (open_calculation_group before) xs
   by_state before [] = refl
   by_state before (x ∷ xs) =
       let c : SpecCard = record { number = x.number; spec = spec.Calculation x.spec } in
-      ap (λ ns. one_if (wrong (divides (open_calculation_group before)) x.spec (cond (goes_on (rest xs)) None (Some x.spec))) x.number ++ ns)
+      ap (λ ns. one_if (wrong (divides (open_calculation_group before)) x.spec (cond (continues (rest xs)) None (Some x.spec))) x.number ++ ns)
       (by_state (before ++ c ∷ []) xs ∙ ap (λ o. rounds_on o xs) (open_after-push None before c))
 
   -- a card that isn't the last of its group
@@ -84,11 +84,11 @@ module _ (post : List SpecCard) (none : NoC post) where
   -- a card with the open group before it; only the first of a group looks at that
   abbrev Goes : List (Card CalculationSpec) → Card CalculationSpec → Bool → CalculationGroup → Type 0
   Goes xs x division g =
-      one_if (wrong division x.spec (cond (goes_on (rest xs)) None (Some x.spec))) x.number ++ rounds_on (Some g) xs
+      one_if (wrong division x.spec (cond (continues (rest xs)) None (Some x.spec))) x.number ++ rounds_on (Some g) xs
       ≡ tree.wrong_in division x (strays begins_calculation xs) ++ tree.wrong_from (leaves_remainder (end_of x (strays begins_calculation xs)).spec) (groups_begun begins_calculation xs)
 
   from_card : (xs : List (Card CalculationSpec)) (x : Card CalculationSpec) (division : Bool) (g : CalculationGroup) → Ends g x → Goes xs x division g
-  from_card [] x division g ends = ap (λ b. one_if (wrong division x.spec (cond b None (Some x.spec))) x.number ++ []) (goes_nowhere_on post none)
+  from_card [] x division g ends = ap (λ b. one_if (wrong division x.spec (cond b None (Some x.spec))) x.number ++ []) (lacks_target_on post none)
   from_card (y ∷ ys) x division g ends = by (joins y.spec.control_level) refl (from_card ys y division (joined_group g y.spec) (record { last = last_card-joined g y.spec })) (from_card ys y (leaves_remainder x.spec) (alone y.spec) (record { last = refl }))
     where
       ss : List (Card CalculationSpec)
@@ -98,7 +98,7 @@ module _ (post : List SpecCard) (none : NoC post) where
       gs = groups_begun begins_calculation ys
 
       more : Bool → CalculationGroup → List ℕ
-      more d h = one_if (wrong d y.spec (cond (goes_on (rest ys)) None (Some y.spec))) y.number ++ rounds_on (Some h) ys
+      more d h = one_if (wrong d y.spec (cond (continues (rest ys)) None (Some y.spec))) y.number ++ rounds_on (Some h) ys
 
       Goal : Bool → Type 0
       Goal b =
@@ -113,7 +113,7 @@ module _ (post : List SpecCard) (none : NoC post) where
       by : (b : Bool) → joins y.spec.control_level ≡ b → Goes ys y division (joined_group g y.spec) → Goes ys y (leaves_remainder x.spec) (alone y.spec) → Goal b
       by true is joined alone_is =
           ap (λ h. one_if h x.number ++ more (leaves_remainder (flat.last_card g)) (joined_group g y.spec)) (not_last division x.spec)
-          ∙ ap (λ h. one_if x.spec.half_adjust x.number ++ (one_if h y.number ++ rounds_on (Some (joined_group g y.spec)) ys)) (joined_last (leaves_remainder (flat.last_card g)) division (cond (goes_on (rest ys)) None (Some y.spec)) is)
+          ∙ ap (λ h. one_if x.spec.half_adjust x.number ++ (one_if h y.number ++ rounds_on (Some (joined_group g y.spec)) ys)) (joined_last (leaves_remainder (flat.last_card g)) division (cond (continues (rest ys)) None (Some y.spec)) is)
           ∙ ap (λ ns. one_if x.spec.half_adjust x.number ++ ns) joined
           ∙ sym (append_assoc (one_if x.spec.half_adjust x.number) (tree.wrong_in division y ss) (tree.wrong_from (leaves_remainder (end_of y ss).spec) gs))
           ∙ ap (λ (e : Card CalculationSpec). (one_if x.spec.half_adjust x.number ++ tree.wrong_in division y ss) ++ tree.wrong_from (leaves_remainder e.spec) gs) (sym (end_more x y ss))

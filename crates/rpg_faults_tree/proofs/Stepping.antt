@@ -6,28 +6,28 @@ use Rattle.std.specs.Option.{option_and_then, option_map, option_map_or}
 use Rattle.std.proofs.lemmas.Bool.{cases_lt, le-ltb, lt-ltb, or_left, or_right}
 use Rattle.std.proofs.lemmas.List.Folds.{list_any-append}
 use Rattle.rpg_cards.specs.Calls.{call_at, called_subroutine, subroutine_in}
-use Rattle.rpg_cards.specs.Deeds.{Acts, Begins, Calculation, Deed, Ends, Executes, GoesTo, Marks, Nothing, PutsOut}
+use Rattle.rpg_cards.specs.Statements.{Acts, Begins, Calculation, Statement, Ends, Executes, GoesTo, Marks, Nothing, WritesExceptions}
 use Rattle.rpg_cards.specs.Groups.{joins}
 use Rattle.rpg_cards.specs.Keys.{Key}
 use Rattle.rpg_cards.specs.Labels as old
-use Rattle.rpg_cards.specs.Labels.{brackets, is_begsr, is_endsr, is_inside_subroutine, label_named, wants}
+use Rattle.rpg_cards.specs.Labels.{brackets, is_begsr, is_endsr, is_inside_subroutine, label_named, target_name}
 use Rattle.rpg_cards.specs.Sections.{is_subroutine}
 use Rattle.rpg_cards.specs.declared.labels.Label.{Label}
 use Rattle.rpg_cards.specs.declared.labels.Named.{Named}
 use Rattle.rpg_cards.specs.declared.labels.Section.{Section}
 use Rattle.rpg_cards.specs.declared.labels.Section.TheVariants.{Outside, Subroutine}
-use Rattle.rpg_deck.proofs.Placing.{Matches, matches_next, open_one, same_begins, same_deed, same_ends, same_section}
+use Rattle.rpg_deck.proofs.Placing.{Matches, matches_next, open_one, same_begins, same_statement, same_ends, same_section}
 use Rattle.rpg_deck.specs.Cut.{all_groups, group_cards, groups_begun, strays}
 use Rattle.rpg_deck.specs.Same.{calculation_in, flat_group}
 use Rattle.rpg_deck.specs.Steps as steps
-use Rattle.rpg_deck.specs.Steps.{CalculationCards, SubroutineState, Step, group_deed, subroutine_state_after, section_of_group, steps_from}
+use Rattle.rpg_deck.specs.Steps.{CalculationCards, SubroutineState, Step, group_statement, subroutine_state_after, section_of_group, steps_from}
 use Rattle.rpg_deck.specs.Tree.{begins_calculation}
 use Rattle.rpg_deck.specs.declared.card.Card.{Card}
 use Rattle.rpg_faults_tree.proofs.Begins.{specs_of, starts_from}
 use Rattle.rpg_faults_tree.proofs.Ends.{Test, ends_from, last_number}
 use Rattle.rpg_faults_tree.specs.Numbers.{at_operations, one_if}
 use Rattle.rpg_faults_tree.specs.Order.{next_is_endsr, is_misplaced, in_no_section, is_unpaired, misplaced_from}
-use Rattle.rpg_faults_tree.specs.Rules.{calls_back, step_goes_nowhere, step_leaves_section}
+use Rattle.rpg_faults_tree.specs.Rules.{calls_back, step_lacks_target, step_leaves_section}
 use Rattle.rpg_faults_flow.specs.Flow as flow
 use Rattle.rpg_faults_flow.specs.Flow.{is_given_as, leaves_by}
 use Rattle.rpg_faults_flow.specs.Order as order
@@ -56,20 +56,20 @@ pub ends-steps : (test : Test) (of : Step → List Step → Bool) → IsTestOf t
 ends-steps test of same gs = ends_of test of same gs steps.before_calculations [] (record { begun = refl; own = refl })
 
 -- F10
-pub nowhere_is : (given : List Label) → IsTestOf (λ done g following. flow.lacks_label given g) (λ s after. step_goes_nowhere given s)
-nowhere_is given p done g gs m = ap (λ d. option_map_or (λ n. not (is_given_as given n)) (wants d) false) (same_deed g)
+pub nowhere_is : (given : List Label) → IsTestOf (λ done g following. flow.lacks_label given g) (λ s after. step_lacks_target given s)
+nowhere_is given p done g gs m = ap (λ d. option_map_or (λ n. not (is_given_as given n)) (target_name d) false) (same_statement g)
 
 -- F13
 pub leaves_is : (given : List Label) → IsTestOf (λ done g following. flow.leaves_section given done g) (λ s after. step_leaves_section given s)
 leaves_is given p done g gs m =
-    ap (λ x. option_map_or (λ (n : Named). option_map_or (leaves_by x n) (label_named n.name given) false) (wants (calculation_in g).deed) false) (same_section p done g m)
-    ∙ ap (λ d. option_map_or (λ (n : Named). option_map_or (leaves_by (section_of_group p g) n) (label_named n.name given) false) (wants d) false) (same_deed g)
+    ap (λ x. option_map_or (λ (n : Named). option_map_or (leaves_by x n) (label_named n.name given) false) (target_name (calculation_in g).statement) false) (same_section p done g m)
+    ∙ ap (λ d. option_map_or (λ (n : Named). option_map_or (leaves_by (section_of_group p g) n) (label_named n.name given) false) (target_name d) false) (same_statement g)
 
 -- F14
 pub back_is : (given : List Label) (all : List (ℕ × ℕ)) → IsTestOf (λ done g following. flow.comes_back all (call_at given done g)) (λ s after. calls_back given all s)
 back_is given all p done g gs m =
-    ap (λ x. flow.comes_back all (option_and_then (λ caller. option_map (λ callee. (caller, callee)) (option_and_then (called_subroutine given) (wants (calculation_in g).deed))) (subroutine_in x))) (same_section p done g m)
-    ∙ ap (λ d. flow.comes_back all (option_and_then (λ caller. option_map (λ callee. (caller, callee)) (option_and_then (called_subroutine given) (wants d))) (subroutine_in (section_of_group p g)))) (same_deed g)
+    ap (λ x. flow.comes_back all (option_and_then (λ caller. option_map (λ callee. (caller, callee)) (option_and_then (called_subroutine given) (target_name (calculation_in g).statement))) (subroutine_in x))) (same_section p done g m)
+    ∙ ap (λ d. flow.comes_back all (option_and_then (λ caller. option_map (λ callee. (caller, callee)) (option_and_then (called_subroutine given) (target_name d))) (subroutine_in (section_of_group p g)))) (same_statement g)
 
 -- ---- F12 where calculations end
 
@@ -82,7 +82,7 @@ outside_by p done m = ap (λ o. in_no_section (option_map_or Subroutine o Outsid
     by false = refl
 
 -- the section of a group of that level and operation
-abbrev section : SubroutineState → ControlLevel → Deed Key → Section
+abbrev section : SubroutineState → ControlLevel → Statement Key → Section
 section p l d = steps.section_by_level l (cond (is_begsr d) (Subroutine p.begun) (option_map_or Subroutine p.own Outside))
 
 and_true : (b : Bool) → b ≡ (b && true)
@@ -101,13 +101,13 @@ module _ (p : SubroutineState) (done : List (Calculation Key)) (m : Matches p do
   inside = is_inside_subroutine done
 
   -- ENDSR in no subroutine
-  ends_outside : (l : ControlLevel) (d : Deed Key) → ((is_subroutine l && is_endsr d) && not inside) ≡ ((is_subroutine l && is_endsr d) && in_no_section (section p l d))
+  ends_outside : (l : ControlLevel) (d : Statement Key) → ((is_subroutine l && is_endsr d) && not inside) ≡ ((is_subroutine l && is_endsr d) && in_no_section (section p l d))
   ends_outside control.Detail d = refl
   ends_outside (control.Total i) d = refl
   ends_outside control.And d = refl
   ends_outside control.Or d = refl
   ends_outside control.Subroutine (Acts a) = refl
-  ends_outside control.Subroutine PutsOut = refl
+  ends_outside control.Subroutine WritesExceptions = refl
   ends_outside control.Subroutine (GoesTo n) = refl
   ends_outside control.Subroutine (Executes n) = refl
   ends_outside control.Subroutine (Marks n) = refl
@@ -119,13 +119,13 @@ module _ (p : SubroutineState) (done : List (Calculation Key)) (m : Matches p do
   plain_outside = sym (outside_by p done m) ∙ and_true open_outside
 
   -- SR in no subroutine, and neither BEGSR nor ENDSR
-  loose_outside : (l : ControlLevel) (d : Deed Key) → (is_subroutine l && (not (is_bracket d) && not inside)) ≡ ((is_subroutine l && in_no_section (section p l d)) && not (is_bracket d))
+  loose_outside : (l : ControlLevel) (d : Statement Key) → (is_subroutine l && (not (is_bracket d) && not inside)) ≡ ((is_subroutine l && in_no_section (section p l d)) && not (is_bracket d))
   loose_outside control.Detail d = refl
   loose_outside (control.Total i) d = refl
   loose_outside control.And d = refl
   loose_outside control.Or d = refl
   loose_outside control.Subroutine (Acts a) = plain_outside
-  loose_outside control.Subroutine PutsOut = plain_outside
+  loose_outside control.Subroutine WritesExceptions = plain_outside
   loose_outside control.Subroutine (GoesTo n) = plain_outside
   loose_outside control.Subroutine (Executes n) = plain_outside
   loose_outside control.Subroutine (Marks n) = plain_outside
@@ -139,14 +139,14 @@ closed_is [] p = refl
 closed_is (g ∷ gs) p =
     ap (λ b. order.is_closed (cond (b || old.ends (calculation_in g)) (calculation_in g ∷ brackets (map calculation_in gs)) (brackets (map calculation_in gs)))) (same_begins g)
     ∙ ap (λ e. order.is_closed (cond (steps.opens_subroutine g || e) (calculation_in g ∷ brackets (map calculation_in gs)) (brackets (map calculation_in gs)))) (same_ends g)
-    ∙ by (is_subroutine g.first.spec.control_level) (group_deed g) (same_ends g) (closed_is gs (subroutine_state_after p g))
+    ∙ by (is_subroutine g.first.spec.control_level) (group_statement g) (same_ends g) (closed_is gs (subroutine_state_after p g))
   where
-    by : (s : Bool) (d : Deed Key) → old.ends (calculation_in g) ≡ (s && is_endsr d) → order.is_closed (brackets (map calculation_in gs)) ≡ next_is_endsr (steps_from (subroutine_state_after p g) gs)
+    by : (s : Bool) (d : Statement Key) → old.ends (calculation_in g) ≡ (s && is_endsr d) → order.is_closed (brackets (map calculation_in gs)) ≡ next_is_endsr (steps_from (subroutine_state_after p g) gs)
         → order.is_closed (cond ((s && is_begsr d) || (s && is_endsr d)) (calculation_in g ∷ brackets (map calculation_in gs)) (brackets (map calculation_in gs)))
         ≡ cond (s && is_begsr d) false (cond (s && is_endsr d) true (next_is_endsr (steps_from (subroutine_state_after p g) gs)))
     by false d is more = more
     by true (Acts a) is more = more
-    by true PutsOut is more = more
+    by true WritesExceptions is more = more
     by true (GoesTo n) is more = more
     by true (Executes n) is more = more
     by true (Marks n) is more = more
@@ -157,9 +157,9 @@ closed_is (g ∷ gs) p =
 -- F12 of the card where a calculation ends
 pub unpaired_is : IsTestOf unpaired is_unpaired
 unpaired_is p done g gs m =
-    ap (λ d. (is_bracket d && not (is_subroutine l)) || (((is_subroutine l && is_endsr d) && not (is_inside_subroutine done)) || ((is_subroutine l && is_begsr d) && not (order.is_closed (brackets (map calculation_in gs)))))) (same_deed g)
-    ∙ ap (λ b. (is_bracket (group_deed g) && not (is_subroutine l)) || (b || ((is_subroutine l && is_begsr (group_deed g)) && not (order.is_closed (brackets (map calculation_in gs)))))) (ends_outside p done m l (group_deed g))
-    ∙ ap (λ b. (is_bracket (group_deed g) && not (is_subroutine l)) || (((is_subroutine l && is_endsr (group_deed g)) && in_no_section (section p l (group_deed g))) || ((is_subroutine l && is_begsr (group_deed g)) && not b))) (closed_is gs (subroutine_state_after p g))
+    ap (λ d. (is_bracket d && not (is_subroutine l)) || (((is_subroutine l && is_endsr d) && not (is_inside_subroutine done)) || ((is_subroutine l && is_begsr d) && not (order.is_closed (brackets (map calculation_in gs)))))) (same_statement g)
+    ∙ ap (λ b. (is_bracket (group_statement g) && not (is_subroutine l)) || (b || ((is_subroutine l && is_begsr (group_statement g)) && not (order.is_closed (brackets (map calculation_in gs)))))) (ends_outside p done m l (group_statement g))
+    ∙ ap (λ b. (is_bracket (group_statement g) && not (is_subroutine l)) || (((is_subroutine l && is_endsr (group_statement g)) && in_no_section (section p l (group_statement g))) || ((is_subroutine l && is_begsr (group_statement g)) && not b))) (closed_is gs (subroutine_state_after p g))
   where
     l : ControlLevel
     l = g.first.spec.control_level
@@ -218,8 +218,8 @@ starts_of : (gs : List CalculationCards) (p : SubroutineState) (done : List (Cal
 starts_of [] p done ks highest joined m is = refl
 starts_of (g ∷ gs) p done ks highest joined m is =
     ap (λ b. one_if (joins l || (b || is_outside_subroutine done (flat_group g))) g.first.number ++ later) (is (section_rank l))
-    ∙ ap (λ d. one_if (joins l || (nat_lt (section_rank l) highest || (is_subroutine l && (not (is_bracket d) && not (is_inside_subroutine done))))) g.first.number ++ later) (same_deed g)
-    ∙ ap (λ b. one_if (joins l || (nat_lt (section_rank l) highest || b)) g.first.number ++ later) (loose_outside p done m l (group_deed g))
+    ∙ ap (λ d. one_if (joins l || (nat_lt (section_rank l) highest || (is_subroutine l && (not (is_bracket d) && not (is_inside_subroutine done))))) g.first.number ++ later) (same_statement g)
+    ∙ ap (λ b. one_if (joins l || (nat_lt (section_rank l) highest || b)) g.first.number ++ later) (loose_outside p done m l (group_statement g))
     ∙ ap (λ ns. one_if (is_misplaced highest (step p g)) g.first.number ++ ns)
     (starts_of gs (subroutine_state_after p g) (done ++ calculation_in g ∷ []) (ks ++ specs_of (group_cards g)) (max highest (section_rank l)) joined.1 (matches_next p done g m) (highest_next ks highest g joined.0 is))
   where

@@ -36,12 +36,12 @@ and_false true = refl
 and_false false = refl
 
 -- a sheet whose cards make groups: how a card is on it, and what the cards of its groups are
-module _ {X H F : Type 0} (on : Spec → Option X) (make : X → Spec) (role : Spec → Role H F) (begins goes_on takes is_field : X → Bool) where
+module _ {X H F : Type 0} (on : Spec → Option X) (make : X → Spec) (role : Spec → Role H F) (begins continues takes is_field : X → Bool) where
   pub record Sheet : Type 0 where
     pub on_sheet : (x : X) → on (make x) ≡ Some x
     pub apart : (s : Spec) → on s ≡ None → role s ≡ Apart
     pub opened : (o : Option (flat.Group H F)) (x : X) → is_none (with_card o (role (make x))) ≡ (is_none o && not (begins x))
-    pub no_follower : (x : X) → begins x ≡ true → goes_on x ≡ false
+    pub no_follower : (x : X) → begins x ≡ true → continues x ≡ false
     pub takes_some : (x : X) → begins x ≡ true → takes x ≡ true
     pub no_field : (x : X) → begins x ≡ true → is_field x ≡ false
 
@@ -63,7 +63,7 @@ module _ {X H F : Type 0} (on : Spec → Option X) (make : X → Spec) (role : S
   is_taken before = option_map_or takes (option_and_then (λ (c : SpecCard). on c.spec) (card_right_before before)) false
 
   abbrev pub cut_rule : Rule
-  cut_rule before c after = option_map_or (λ x. goes_on x && not (is_taken before)) (on c.spec) false
+  cut_rule before c after = option_map_or (λ x. continues x && not (is_taken before)) (on c.spec) false
 
   abbrev pub field_rule : Rule
   field_rule before c after = option_map_or (λ x. is_field x && is_none (open_group role before)) (on c.spec) false
@@ -77,39 +77,39 @@ module _ {X H F : Type 0} (on : Spec → Option X) (make : X → Spec) (role : S
     none_get (c ∷ cs) none zero = none.0
     none_get (c ∷ cs) none (suc i) = none_get cs none.1 i
 
-    cut_on : (before : List SpecCard) (xs : List (Card X)) (after : List SpecCard) → each cut_rule before (back make xs) after ≡ cut_off goes_on takes (is_taken before) xs
+    cut_on : (before : List SpecCard) (xs : List (Card X)) (after : List SpecCard) → each cut_rule before (back make xs) after ≡ cut_off continues takes (is_taken before) xs
     cut_on before [] after = refl
     cut_on before (x ∷ xs) after =
-        ap (λ o. one_if (option_map_or (λ y. goes_on y && not (is_taken before)) o false) x.number ++ each cut_rule (before ++ card x ∷ []) (back make xs) after) (s.on_sheet x.spec)
-        ∙ ap (λ ns. one_if (goes_on x.spec && not (is_taken before)) x.number ++ ns)
+        ap (λ o. one_if (option_map_or (λ y. continues y && not (is_taken before)) o false) x.number ++ each cut_rule (before ++ card x ∷ []) (back make xs) after) (s.on_sheet x.spec)
+        ∙ ap (λ ns. one_if (continues x.spec && not (is_taken before)) x.number ++ ns)
         (cut_on (before ++ card x ∷ []) xs after
-        ∙ ap (λ o. cut_off goes_on takes (option_map_or takes (option_and_then (λ (c : SpecCard). on c.spec) o) false) xs) (right_before before (card x))
-        ∙ ap (λ o. cut_off goes_on takes (option_map_or takes o false) xs) (s.on_sheet x.spec))
+        ∙ ap (λ o. cut_off continues takes (option_map_or takes (option_and_then (λ (c : SpecCard). on c.spec) o) false) xs) (right_before before (card x))
+        ∙ ap (λ o. cut_off continues takes (option_map_or takes o false) xs) (s.on_sheet x.spec))
 
     abbrev begins_card : Card X → Bool
     begins_card x = begins x.spec
 
     abbrev in_groups : List (Card X) → List ℕ
-    in_groups xs = flat_map (λ g. cut_off goes_on takes true g.followers) (groups_begun begins_card xs)
+    in_groups xs = flat_map (λ g. cut_off continues takes true g.followers) (groups_begun begins_card xs)
 
     abbrev Parted : List (Card X) → Bool → Type 0
-    Parted xs taken = cut_off goes_on takes taken xs ≡ cut_off goes_on takes taken (strays begins_card xs) ++ in_groups xs
+    Parted xs taken = cut_off continues takes taken xs ≡ cut_off continues takes taken (strays begins_card xs) ++ in_groups xs
 
     cut_parts : (xs : List (Card X)) (taken : Bool) → Parted xs taken
     cut_parts [] taken = refl
     cut_parts (x ∷ xs) taken = by (begins x.spec) refl (cut_parts xs true) (cut_parts xs (takes x.spec))
       where
-        by : (b : Bool) → begins x.spec ≡ b → Parted xs true → Parted xs (takes x.spec) → one_if (goes_on x.spec && not taken) x.number ++ cut_off goes_on takes (takes x.spec) xs
-            ≡ cut_off goes_on takes taken (cond b [] (x ∷ strays begins_card xs)) ++ flat_map (λ g. cut_off goes_on takes true g.followers) (cond b (record { first = x; followers = strays begins_card xs } ∷ groups_begun begins_card xs) (groups_begun begins_card xs))
+        by : (b : Bool) → begins x.spec ≡ b → Parted xs true → Parted xs (takes x.spec) → one_if (continues x.spec && not taken) x.number ++ cut_off continues takes (takes x.spec) xs
+            ≡ cut_off continues takes taken (cond b [] (x ∷ strays begins_card xs)) ++ flat_map (λ g. cut_off continues takes true g.followers) (cond b (record { first = x; followers = strays begins_card xs } ∷ groups_begun begins_card xs) (groups_begun begins_card xs))
         by true is begun more =
-            ap (λ b. one_if (b && not taken) x.number ++ cut_off goes_on takes (takes x.spec) xs) (s.no_follower x.spec is)
-            ∙ ap (λ b. cut_off goes_on takes b xs) (s.takes_some x.spec is) ∙ begun
+            ap (λ b. one_if (b && not taken) x.number ++ cut_off continues takes (takes x.spec) xs) (s.no_follower x.spec is)
+            ∙ ap (λ b. cut_off continues takes b xs) (s.takes_some x.spec is) ∙ begun
         by false is begun more =
-            ap (λ ns. one_if (goes_on x.spec && not taken) x.number ++ ns) more
-            ∙ sym (append_assoc (one_if (goes_on x.spec && not taken) x.number) (cut_off goes_on takes (takes x.spec) (strays begins_card xs)) (in_groups xs))
+            ap (λ ns. one_if (continues x.spec && not taken) x.number ++ ns) more
+            ∙ sym (append_assoc (one_if (continues x.spec && not taken) x.number) (cut_off continues takes (takes x.spec) (strays begins_card xs)) (in_groups xs))
 
-    pub cut-are : (before : List SpecCard) → NoneOn before → (xs : List (Card X)) (after : List SpecCard) → each cut_rule before (back make xs) after ≡ cut_off_in goes_on takes (cut_sheet begins_card xs)
-    cut-are before none xs after = cut_on before xs after ∙ ap (λ o. cut_off goes_on takes (option_map_or takes o false) xs) (none_get before none (length before - 1)) ∙ cut_parts xs false
+    pub cut-are : (before : List SpecCard) → NoneOn before → (xs : List (Card X)) (after : List SpecCard) → each cut_rule before (back make xs) after ≡ cut_off_in continues takes (cut_sheet begins_card xs)
+    cut-are before none xs after = cut_on before xs after ∙ ap (λ o. cut_off continues takes (option_map_or takes o false) xs) (none_get before none (length before - 1)) ∙ cut_parts xs false
 
     -- ---- fields
 

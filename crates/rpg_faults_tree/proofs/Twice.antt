@@ -5,8 +5,8 @@ use Rattle.std.proofs.lemmas.List.{take-append-le}
 use Rattle.std.specs.Option.{option_and_then, option_map_or}
 use Rattle.std.specs.Prelude.{is_some}
 use Rattle.rpg_cards.specs.Calculations.{calculation_ending, calculations, card_ending, open_calculation_group}
-use Rattle.rpg_cards.specs.Deeds.{deed_of}
-use Rattle.rpg_cards.specs.Labels.{gives, label_named, labels}
+use Rattle.rpg_cards.specs.Statements.{statement_of}
+use Rattle.rpg_cards.specs.Labels.{defined_name, label_named, labels}
 use Rattle.rpg_cards.specs.declared.labels.Named.{Named}
 use Rattle.rpg_cards.proofs.ItemLemmas.{definitions-append, definitions-push}
 use Rattle.rpg_cards.specs.Names.{definitions, definitions_on, is_new_name}
@@ -20,7 +20,7 @@ use Rattle.rpg_deck.specs.Steps.{steps_in}
 use Rattle.rpg_deck.specs.Tree.{tree}
 use Rattle.rpg_faults_flow.proofs.Ending.{asked}
 use Rattle.rpg_faults_tree.proofs.Counting.{front, labels_after_front, labels_split}
-use Rattle.rpg_faults_flow.specs.Flow.{gives_again, is_defined}
+use Rattle.rpg_faults_flow.specs.Flow.{defines_again, is_defined}
 use Rattle.rpg_faults_tree.specs.Counted.{AreCounts}
 use Rattle.rpg_faults_tree.specs.declared.counts.Counts.{Counts}
 use Rattle.rpg_sheet_specs.specs.declared.calculation.CalculationSpec.{CalculationSpec}
@@ -30,12 +30,12 @@ module _ (before : List SpecCard) (c : SpecCard) (after : List SpecCard) where
   abbrev pub is_again : Named → Bool
   is_again n = is_some (label_named n.name (labels (front before c after))) || is_defined n.name (definitions (before ++ c ∷ []))
 
-  pub again-is : option_map_or (gives_again before c after) (calculation_ending before c after) false ≡ option_map_or is_again (option_and_then (λ k. gives (deed_of k)) (card_ending c after)) false
+  pub again-is : option_map_or (defines_again before c after) (calculation_ending before c after) false ≡ option_map_or is_again (option_and_then (λ k. defined_name (statement_of k)) (card_ending c after)) false
   again-is =
-      asked before c after (gives_again before c after) (λ k. option_map_or is_again (gives (deed_of k)) false) (λ k. ap (λ d. option_map_or is_again (gives (deed_of d)) false) (last_with (open_calculation_group before) k))
+      asked before c after (defines_again before c after) (λ k. option_map_or is_again (defined_name (statement_of k)) false) (λ k. ap (λ d. option_map_or is_again (defined_name (statement_of d)) false) (last_with (open_calculation_group before) k))
       ∙ by (card_ending c after)
     where
-      by : (x : Option CalculationSpec) → option_map_or (λ k. option_map_or is_again (gives (deed_of k)) false) x false ≡ option_map_or is_again (option_and_then (λ k. gives (deed_of k)) x) false
+      by : (x : Option CalculationSpec) → option_map_or (λ k. option_map_or is_again (defined_name (statement_of k)) false) x false ≡ option_map_or is_again (option_and_then (λ k. defined_name (statement_of k)) x) false
       by None = refl
       by (Some k) = refl
 

@@ -2,9 +2,9 @@
 use Rattle.std.specs.Prelude.{◌≡◌, List, ◌∷◌, ◌++◌, length, Bool, false, is_some}
 use Rattle.std.specs.Option.{option_map_or}
 use Rattle.rpg_cards.specs.Calculations.{calculations_before, card_ending}
-use Rattle.rpg_cards.specs.Deeds.{deed_of}
+use Rattle.rpg_cards.specs.Statements.{statement_of}
 use Rattle.rpg_cards.specs.Keys.{Name}
-use Rattle.rpg_cards.specs.Labels.{gives, label_named, labels}
+use Rattle.rpg_cards.specs.Labels.{defined_name, label_named, labels}
 use Rattle.rpg_cards.specs.Names.{definitions}
 use Rattle.rpg_cards.specs.declared.spec_card.SpecCard.{SpecCard}
 use Rattle.rpg_faults_tree.specs.declared.counts.Counts.{Counts}
@@ -16,11 +16,11 @@ pub record AreCounts (before rest : List SpecCard) (c : Counts) : Type 0 where
 
 -- the card defines a label or a subroutine
 abbrev pub is_label_at : SpecCard → List SpecCard → Bool
-is_label_at c after = option_map_or (λ k. is_some (gives (deed_of k))) (card_ending c after) false
+is_label_at c after = option_map_or (λ k. is_some (defined_name (statement_of k))) (card_ending c after) false
 
 -- the answer is whether a label or a subroutine before a card of a source has the name, given how many labels and definitions come before
 -- it
-abbrev pub TellsGiven : List SpecCard → Counts → Name → Bool → Type 0
-TellsGiven cards n name answer =
+abbrev pub DetectsGiven : List SpecCard → Counts → Name → Bool → Type 0
+DetectsGiven cards n name answer =
     (before after : List SpecCard) → (c : SpecCard) → cards ≡ before ++ c ∷ after → AreCounts before (c ∷ after) n
     → answer ≡ is_some (label_named name (labels (calculations_before before (c ∷ after))))

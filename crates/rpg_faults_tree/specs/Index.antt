@@ -58,20 +58,20 @@ pub record AreLabelsOf (ss : List Step) (l : Labels) : Type 0 where
   pub index : IsLabelIndex l.names.entries (labels_of_steps ss)
   pub cycles : AreCycles l.cycles.items (calls_of_steps ss)
 
--- ---- what an index is asked
+-- ---- lookups in an index
 
 -- the answer is the first label of the name, as a target
-abbrev pub TellsTarget : Labels → Name → Option Target → Type 0
-TellsTarget l name answer = (ss : List Step) → AreLabelsOf ss l → answer ≡ option_map label_target (label_named name (labels_of_steps ss))
+abbrev pub DetectsTarget : Labels → Name → Option Target → Type 0
+DetectsTarget l name answer = (ss : List Step) → AreLabelsOf ss l → answer ≡ option_map label_target (label_named name (labels_of_steps ss))
 
 -- the answer is whether one of the first n labels has the name
-abbrev pub TellsFront : Labels → Name → ℕ → Bool → Type 0
-TellsFront l name count answer =
+abbrev pub DetectsFront : Labels → Name → ℕ → Bool → Type 0
+DetectsFront l name count answer =
     (ss : List Step) → (front following : List Label) → AreLabelsOf ss l → labels_of_steps ss ≡ front ++ following → count ≡ length front → answer ≡ is_some (label_named name front)
 
 -- the answer is whether the call of a step leads back to its own subroutine
-abbrev pub TellsRecursion : Labels → Step → Bool → Type 0
-TellsRecursion l s answer = (ss : List Step) → AreLabelsOf ss l → Contains ss s → answer ≡ calls_back (labels_of_steps ss) (calls_of_steps ss) s
+abbrev pub DetectsRecursion : Labels → Step → Bool → Type 0
+DetectsRecursion l s answer = (ss : List Step) → AreLabelsOf ss l → Contains ss s → answer ≡ calls_back (labels_of_steps ss) (calls_of_steps ss) s
 
 -- ---- which subroutines reach which, 64 of them at a time: each is a bit of a word
 

@@ -13,14 +13,14 @@ use Rattle.rpg_faults_flow.specs.Strays.{is_stray}
 use Rattle.rpg_faults_tree.specs.Index.{AreLabelsOf}
 use Rattle.rpg_faults_tree.specs.Rules.{leaving_cards, lost_cards, misplaced_cards, recursive_cards, wrongly_rounding_cards}
 use Rattle.rpg_faults_tree.specs.declared.card_set.CardSet.{CardSet}
-use Rattle.rpg_faults_tree.specs.declared.found.Found.{Found}
+use Rattle.rpg_faults_tree.specs.declared.found.FlowFaults.{FlowFaults}
 
 -- the set has just these numbers
 abbrev pub AreMarked : CardSet → List ℕ → Type 0
 AreMarked set numbers = (n : ℕ) → get_or set.marks.items n false ≡ list_any (nat_eq n) numbers
 
 -- for each rule, exactly the cards of a tree that break it are found
-pub record IsFoundInTree (t : Tree) (f : Found) : Type 0 where
+pub record IsFoundInTree (t : Tree) (f : FlowFaults) : Type 0 where
   pub labels : AreLabelsOf (steps_in t) f.labels
   pub lost : AreMarked f.lost (lost_cards t)
   pub misplaced : AreMarked f.misplaced (misplaced_cards t)
@@ -35,26 +35,26 @@ pub record AreOrdered (cards : List SpecCard) : Type 0 where
   pub few : length cards ≤ 2000
 
 -- the cards of a source are in order, and for each rule exactly those that break it are found
-pub record IsFoundIn (cards : List SpecCard) (f : Found) : Type 0 where
+pub record IsFoundIn (cards : List SpecCard) (f : FlowFaults) : Type 0 where
   pub numbered : Numbered 1 cards
   pub ordered : IsInOrder 0 cards
   pub found : IsFoundInTree (tree cards) f
 
 -- the answer is whether a card of a source breaks the rule, seen with the cards before and after it
-abbrev pub TellsBreach : Rule → List SpecCard → SpecCard → Bool → Type 0
-TellsBreach r cards c answer = (before after : List SpecCard) → cards ≡ before ++ c ∷ after → answer ≡ r before c after
+abbrev pub DetectsBreach : Rule → List SpecCard → SpecCard → Bool → Type 0
+DetectsBreach r cards c answer = (before after : List SpecCard) → cards ≡ before ++ c ∷ after → answer ≡ r before c after
 
 -- F12 of C cards, and of I and O cards
 abbrev pub breaks_any_order : Rule
 breaks_any_order before c after = flow.breaks_order before c after || is_stray before c
 
 -- F10
-abbrev pub goes_nowhere_in_source : Rule
-goes_nowhere_in_source before c after = goals.goes_nowhere (before ++ c ∷ after) before c after
+abbrev pub lacks_target_in_source : Rule
+lacks_target_in_source before c after = goals.lacks_target (before ++ c ∷ after) before c after
 
 -- F13
-abbrev pub goes_apart_in_source : Rule
-goes_apart_in_source before c after = goals.goes_apart (before ++ c ∷ after) before c after
+abbrev pub leaves_its_section_in_source : Rule
+leaves_its_section_in_source before c after = goals.leaves_its_section (before ++ c ∷ after) before c after
 
 -- F14
 abbrev pub calls_itself_in_source : Rule

@@ -1,13 +1,13 @@
 -- F12 over a tree: sections out of order, BEGSR and ENDSR that aren't paired, and cards that need one before them.
 use Rattle.std.specs.Prelude.{ℕ, max, nat_lt, List, [], ◌∷◌, ◌++◌, Bool, true, false, not, ◌&&◌, ◌||◌, is_some, if◌then◌else◌}
 use Rattle.std.specs.List.{flat_map}
-use Rattle.rpg_cards.specs.Cards.{input_field_in, output_field_in}
+use Rattle.rpg_cards.specs.Cards.{input_field_in, is_output_field}
 use Rattle.rpg_cards.specs.Groups.{joins}
 use Rattle.rpg_cards.specs.Sections.{is_subroutine}
 use Rattle.rpg_cards.specs.declared.labels.Section.{Section}
 use Rattle.rpg_cards.specs.declared.labels.Section.TheVariants.{Detail, Outside, Subroutine, Total}
 use Rattle.rpg_deck.specs.Cut.{GroupOfCards, Sheet}
-use Rattle.rpg_deck.specs.Steps.{Step, opens_subroutine, control_of, closes_subroutine, group_deed}
+use Rattle.rpg_deck.specs.Steps.{Step, opens_subroutine, control_of, closes_subroutine, group_statement}
 use Rattle.rpg_deck.specs.declared.card.Card.{Card}
 use Rattle.rpg_faults_tree.specs.Numbers.{at_operations, one_if}
 use Rattle.rpg_faults_flow.specs.Order.{is_bracket, section_rank}
@@ -36,7 +36,7 @@ is_loose s = is_subroutine (control_of s.group) && in_no_section s.section
 
 -- its operation is BEGSR or ENDSR
 abbrev pub has_bracket : Step → Bool
-has_bracket s = is_bracket (group_deed s.group)
+has_bracket s = is_bracket (group_statement s.group)
 
 -- an AN or OR card without a card to continue, a section that belongs before an earlier one, or SR outside all subroutines
 abbrev pub is_misplaced : ℕ → Step → Bool
@@ -60,11 +60,11 @@ is_unpaired s after =
 
 -- ---- I and O cards
 
-module _ {X : Type 0} (goes_on takes : X → Bool) where
-  -- the cards that have to go on with the card right before them, if that takes none such
+module _ {X : Type 0} (continues takes : X → Bool) where
+  -- the cards that have to continue the card right before them, if that takes none such
   abbrev pub cut_off : Bool → List (Card X) → List ℕ
   cut_off taken [] = []
-  cut_off taken (c ∷ cs) = one_if (goes_on c.spec && not taken) c.number ++ cut_off (takes c.spec) cs
+  cut_off taken (c ∷ cs) = one_if (continues c.spec && not taken) c.number ++ cut_off (takes c.spec) cs
 
   -- those among the followers of groups: the card that a group begins with takes them
   abbrev pub cut_off_followers : List (GroupOfCards (Card X)) → List ℕ
@@ -80,7 +80,7 @@ passing_numbers test cs = flat_map (λ c. one_if (test c.spec) c.number) cs
 
 -- those of a sheet that need one before them
 abbrev pub strays_in : {X : Type 0} → (X → Bool) → (X → Bool) → (X → Bool) → Sheet (Card X) → List ℕ
-strays_in goes_on takes is_field s = cut_off_in goes_on takes s ++ passing_numbers is_field s.strays
+strays_in continues takes is_field s = cut_off_in continues takes s ++ passing_numbers is_field s.strays
 
 -- an AND card of a record type
 abbrev pub is_and : InputSpec → Bool
@@ -103,13 +103,9 @@ is_and_or (output.And t) = true
 is_and_or (output.Or t) = true
 is_and_or (output.Field f) = false
 
--- a field card of a line
-abbrev pub is_line_field : OutputSpec → Bool
-is_line_field x = is_some (output_field_in x)
-
 -- AND and OR cards without conditions right before them, and fields of no line
 abbrev pub strays_on_output : Sheet (Card OutputSpec) → List ℕ
-strays_on_output s = strays_in is_and_or takes_conditions is_line_field s
+strays_on_output s = strays_in is_and_or takes_conditions is_output_field s
 
 -- ---- all of them
 

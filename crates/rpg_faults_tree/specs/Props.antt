@@ -7,7 +7,7 @@ use Rattle.rpg_cards.specs.Cards.{Numbered}
 use Rattle.rpg_cards.specs.declared.spec_card.SpecCard.{SpecCard}
 use Rattle.rpg_deck.specs.Flat.{IsInOrder, place}
 use Rattle.rpg_faults_tree.specs.Marked.{IsFoundIn}
-use Rattle.rpg_faults_tree.specs.declared.found.Found.{Found}
+use Rattle.rpg_faults_tree.specs.declared.found.FlowFaults.{FlowFaults}
 
 pub Numbered-prop : (low : ℕ) (cards : List SpecCard) → IsProp (Numbered low cards)
 Numbered-prop low [] = Unit-prop
@@ -17,5 +17,5 @@ pub IsInOrder-prop : (low : ℕ) (cards : List SpecCard) → IsProp (IsInOrder l
 IsInOrder-prop low [] = Unit-prop
 IsInOrder-prop low (c ∷ cs) = let first : IsProp (low ≤ place c.spec) = hlevel props in ×_prop first (IsInOrder-prop (place c.spec) cs)
 
-pub IsFoundIn-prop : (cards : List SpecCard) (f : Found) → IsProp (IsFoundIn cards f)
+pub IsFoundIn-prop : (cards : List SpecCard) (f : FlowFaults) → IsProp (IsFoundIn cards f)
 IsFoundIn-prop cards f = hlevel (props, ⊎_set, Numbered-prop, IsInOrder-prop)

@@ -1,13 +1,13 @@
 -- F10, F12, F13, F14 and F15 as rules of a tree: for each the numbers of the cards that break it.
 use Rattle.std.specs.Prelude.{◌↔◌, ℕ, List, Contains, Bool, false, not}
 use Rattle.std.specs.Option.{option_map_or}
-use Rattle.rpg_cards.specs.Labels.{label_named, wants}
+use Rattle.rpg_cards.specs.Labels.{label_named, target_name}
 use Rattle.rpg_cards.specs.declared.labels.Label.{Label}
 use Rattle.rpg_cards.specs.declared.labels.Named.{Named}
 use Rattle.rpg_cards.specs.declared.labels.Section.{Section}
 use Rattle.rpg_cards.specs.declared.spec_card.SpecCard.{SpecCard}
 use Rattle.rpg_deck.specs.Flat.{IsInOrder}
-use Rattle.rpg_deck.specs.Steps.{Step, call_of, calls_of_steps, deed, labels_of_steps, steps_in}
+use Rattle.rpg_deck.specs.Steps.{Step, call_of, calls_of_steps, statement, labels_of_steps, steps_in}
 use Rattle.rpg_deck.specs.Tree.{Tree, tree}
 use Rattle.rpg_faults_tree.specs.Numbers.{at_operations}
 use Rattle.rpg_faults_tree.specs.Order.{out_of_order}
@@ -21,12 +21,12 @@ abbrev pub Finds : (Tree → List ℕ) → Rule → Type 0
 Finds list r = (cards : List SpecCard) → IsInOrder 0 cards → (number : ℕ) → Contains (list (tree cards)) number ↔ BreaksRule r cards number
 
 -- a GOTO to a label, or an EXSR of a subroutine, that isn't defined
-abbrev pub step_goes_nowhere : List Label → Step → Bool
-step_goes_nowhere given s = option_map_or (λ n. not (is_given_as given n)) (wants (deed s)) false
+abbrev pub step_lacks_target : List Label → Step → Bool
+step_lacks_target given s = option_map_or (λ n. not (is_given_as given n)) (target_name (statement s)) false
 
 -- of these steps, the cards with a GOTO or an EXSR to an undefined name
 abbrev pub lost_among : List Step → List ℕ
-lost_among ss = at_operations (λ s after. step_goes_nowhere (labels_of_steps ss) s) ss
+lost_among ss = at_operations (λ s after. step_lacks_target (labels_of_steps ss) s) ss
 
 -- F10: those of a tree
 abbrev pub lost_cards : Tree → List ℕ
@@ -42,7 +42,7 @@ name_leaves given own n = option_map_or (leaves_by own n) (label_named n.name gi
 
 -- a GOTO to a label of another section
 abbrev pub step_leaves_section : List Label → Step → Bool
-step_leaves_section given s = option_map_or (name_leaves given s.section) (wants (deed s)) false
+step_leaves_section given s = option_map_or (name_leaves given s.section) (target_name (statement s)) false
 
 -- of these steps, the cards with a GOTO to another section
 abbrev pub leaving_among : List Step → List ℕ

@@ -5,10 +5,10 @@ ghost use Rattle.rpg_cards.specs.Cards.{Numbered};
 ghost use Rattle.rpg_deck.specs.Flat.{IsInOrder};
 ghost use Rattle.rpg_faults_flow.specs.Rounding.{bad_rounding};
 ghost use Rattle.rpg_faults_tree.specs.Marked as marked;
-ghost use Rattle.rpg_faults_tree.specs.Marked.{AreOrdered, IsFoundIn, TellsBreach};
+ghost use Rattle.rpg_faults_tree.specs.Marked.{AreOrdered, IsFoundIn, DetectsBreach};
 ghost use Rattle.rpg_faults_tree.specs.Props.{IsFoundIn-prop};
 
-use crate::found::Found;
+use crate::found::FlowFaults;
 use crate::in_order::are_in_order;
 use rpg_cards::{IndexedCards, SpecCard};
 use std::alloc::{AllocError, Global};
@@ -20,7 +20,7 @@ const MOST_CARDS: usize = 2000;
 #[derive(Drop)]
 pub struct AnalyzedCards<'a> {
     pub cards: &'a IndexedCards<'a>,
-    pub(crate) found: Found,
+    pub(crate) found: FlowFaults,
     pub ghost few: { length cards.now ≤ 2000 },
     pub ghost exact: { IsFoundIn cards.now found } by { IsFoundIn-prop cards.now found },
 }
@@ -33,7 +33,7 @@ impl<'a> AnalyzedCards<'a> {
         requires few { length cards.now ≤ 2000 }
         ensures { IfOk result (λ analyzed. analyzed.cards.now ≡ cards.now) }
     {
-        let found = Found::new(alloc, cards.as_slice())?;
+        let found = FlowFaults::new(alloc, cards.as_slice())?;
         Ok(AnalyzedCards { cards, found })
     }
 
@@ -53,36 +53,36 @@ impl<'a> AnalyzedCards<'a> {
     }
 
     /// F10.
-    pub fn goes_nowhere(&self, card: &SpecCard) -> bool
-        ensures { TellsBreach marked.goes_nowhere_in_source self.now.cards.now card.now result }
+    pub fn lacks_target(&self, card: &SpecCard) -> bool
+        ensures { DetectsBreach marked.lacks_target_in_source self.now.cards.now card.now result }
     {
         self.found.lost.has(card.number)
     }
 
     /// F12.
     pub fn breaks_order(&self, card: &SpecCard) -> bool
-        ensures { TellsBreach marked.breaks_any_order self.now.cards.now card.now result }
+        ensures { DetectsBreach marked.breaks_any_order self.now.cards.now card.now result }
     {
         self.found.misplaced.has(card.number)
     }
 
     /// F13.
-    pub fn goes_apart(&self, card: &SpecCard) -> bool
-        ensures { TellsBreach marked.goes_apart_in_source self.now.cards.now card.now result }
+    pub fn leaves_its_section(&self, card: &SpecCard) -> bool
+        ensures { DetectsBreach marked.leaves_its_section_in_source self.now.cards.now card.now result }
     {
         self.found.leaving.has(card.number)
     }
 
     /// F14.
     pub fn calls_itself(&self, card: &SpecCard) -> bool
-        ensures { TellsBreach marked.calls_itself_in_source self.now.cards.now card.now result }
+        ensures { DetectsBreach marked.calls_itself_in_source self.now.cards.now card.now result }
     {
         self.found.recursive.has(card.number)
     }
 
     /// F15.
     pub fn rounds_wrongly(&self, card: &SpecCard) -> bool
-        ensures { TellsBreach bad_rounding self.now.cards.now card.now result }
+        ensures { DetectsBreach bad_rounding self.now.cards.now card.now result }
     {
         self.found.wrongly_rounding.has(card.number)
     }

@@ -7,7 +7,7 @@ ghost use Rattle.rpg_cards.specs.declared.spec_card.SpecCard.{SpecCard};
 ghost use Rattle.rpg_faults_tree.specs.Counted as counted;
 ghost use Rattle.rpg_faults_tree.specs.Counted.{AreCounts};
 
-use rpg_cards::{SpecCard, gives, last_card};
+use rpg_cards::{SpecCard, defined_name, last_card};
 use rpg_sheet_specs::{CalculationSpec, InputSpec, Spec};
 
 /// How many are defined before a card.
@@ -49,7 +49,7 @@ fn is_label_at(card: &SpecCard, after: &[SpecCard]) -> bool
 {
     match last_card(card, after) {
         None => false,
-        Some(calculation) => gives(calculation).is_some(),
+        Some(calculation) => defined_name(calculation).is_some(),
     }
 }
 

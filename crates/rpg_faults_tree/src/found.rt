@@ -17,7 +17,7 @@ use std::alloc::{AllocError, Global};
 
 /// The cards that break F10 and F12 to F15, and an index of labels.
 #[derive(Drop)]
-pub struct Found {
+pub struct FlowFaults {
     pub(crate) labels: Labels,
     pub(crate) lost: CardSet,
     pub(crate) misplaced: CardSet,
@@ -26,7 +26,7 @@ pub struct Found {
     pub(crate) wrongly_rounding: CardSet,
 }
 
-impl Found {
+impl FlowFaults {
     pub(crate) fn new(alloc: Global, cards: &[SpecCard]) -> Result<Self, AllocError>
         requires numbered { Numbered 1 cards.now }
         requires ordered { IsInOrder 0 cards.now }
@@ -39,7 +39,7 @@ impl Found {
     }
 }
 
-fn found_in(alloc: Global, tree: &Tree) -> Result<Found, AllocError>
+fn found_in(alloc: Global, tree: &Tree) -> Result<FlowFaults, AllocError>
     requires { length tree.now.calculations.items ≤ 2000 }
     ensures { IfOk result (λ found. IsFoundInTree (tree_in tree.now) found) }
 {
@@ -52,7 +52,7 @@ fn found_in(alloc: Global, tree: &Tree) -> Result<Found, AllocError>
     let leaving = leaving_cards(alloc, &labels, steps)?;
     let recursive = recursive_cards(alloc, &labels, steps)?;
     let wrongly_rounding = wrongly_rounding_cards(alloc, groups)?;
-    Ok(Found {
+    Ok(FlowFaults {
         labels,
         lost: CardSet::of(alloc, lost.as_slice())?,
         leaving: CardSet::of(alloc, leaving.as_slice())?,

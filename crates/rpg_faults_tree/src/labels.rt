@@ -10,7 +10,7 @@ ghost use Rattle.rpg_deck.specs.Steps as steps_of;
 ghost use Rattle.rpg_faults_tree.specs.Index as index;
 
 use crate::cycles::{cycles, has_call};
-use rpg_cards::{Named, Section, gives, wants};
+use rpg_cards::{Named, Section, defined_name, target_name};
 use rpg_deck::{Step, last_card};
 use rpg_symbols::Name;
 use std::alloc::{AllocError, Global};
@@ -52,14 +52,14 @@ impl Labels {
 
     /// Returns the target that a name has first.
     pub(crate) fn target(&self, name: &Name) -> Option<Target>
-        ensures { index.TellsTarget self.now name.now result }
+        ensures { index.DetectsTarget self.now name.now result }
     {
         target_in(&self.names, name)
     }
 
     /// Whether a name is among the first `count` labels.
     pub fn is_given(&self, name: &Name, count: u16) -> bool
-        ensures { index.TellsFront self.now name.now count result }
+        ensures { index.DetectsFront self.now name.now count result }
     {
         match self.names.get(name) {
             None => false,
@@ -69,7 +69,7 @@ impl Labels {
 
     /// Whether a step calls a subroutine that reaches its caller.
     pub(crate) fn calls_back(&self, step: &Step) -> bool
-        ensures { index.TellsRecursion self.now (step_in step.now) result }
+        ensures { index.DetectsRecursion self.now (step_in step.now) result }
     {
         match call_in(&self.names, step) {
             None => false,
@@ -86,7 +86,7 @@ fn names_of(alloc: Global, steps: &[Step]) -> Result<HashMap<Name, FirstLabel>, 
     let mut names = HashMap::new(alloc);
     let mut place = 0;
     for step in steps {
-        let Some(named) = gives(last_card(step.group).spec) else {
+        let Some(named) = defined_name(last_card(step.group).spec) else {
             continue;
         };
         let target = Target {
@@ -151,7 +151,7 @@ fn call_in(names: &HashMap<Name, FirstLabel>, step: &Step) -> Option<(u16, u16)>
     ensures { (ls : List Label) → index.IsLabelIndex names.now.entries ls → result ≡ steps_of.call_of ls (step_in step.now) }
 {
     let caller = subroutine_in(step.section)?;
-    let callee = called(names, &wants(last_card(step.group).spec)?)?;
+    let callee = called(names, &target_name(last_card(step.group).spec)?)?;
     Some((caller, callee))
 }
 

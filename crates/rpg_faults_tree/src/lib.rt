@@ -17,4 +17,4 @@ mod targets;
 
 pub use analyzed::AnalyzedCards;
 pub use counts::Counts;
-pub use names::{names_twice, twice_range};
+pub use names::{repeats_name, twice_range};

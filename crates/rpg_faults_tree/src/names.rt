@@ -3,20 +3,20 @@
 ghost use Rattle.std.specs.Prelude.{◌≡◌, ◌∷◌, ◌++◌, false};
 ghost use Rattle.std.specs.Option.{option_and_then, option_map_or};
 ghost use Rattle.rpg_cards.specs.Calculations as calculations;
-ghost use Rattle.rpg_cards.specs.Deeds as deeds;
+ghost use Rattle.rpg_cards.specs.Statements as statements;
 ghost use Rattle.rpg_cards.specs.Labels as labels_of;
 ghost use Rattle.rpg_faults_flow.specs.Flow as spec;
 ghost use Rattle.rpg_faults_flow.specs.Marks as marks;
-ghost use Rattle.rpg_faults_tree.specs.Counted.{AreCounts, TellsGiven};
+ghost use Rattle.rpg_faults_tree.specs.Counted.{AreCounts, DetectsGiven};
 
 use crate::analyzed::AnalyzedCards;
 use crate::counts::Counts;
-use rpg_cards::{Named, SpecCard, gives, last_card};
+use rpg_cards::{Named, SpecCard, defined_name, last_card};
 use rpg_sheet_specs::ColumnRange;
 use rpg_symbols::Name;
 
 /// F11, on the later of the two cards.
-pub fn names_twice(
+pub fn repeats_name(
     source: &AnalyzedCards,
     counts: &Counts,
     before: &[SpecCard],
@@ -25,9 +25,9 @@ pub fn names_twice(
 ) -> bool
     requires split { source.now.cards.now ≡ before.now ++ card.now ∷ after.now }
     requires counts { AreCounts before.now (card.now ∷ after.now) counts.now }
-    ensures { result ≡ spec.names_twice before.now card.now after.now }
+    ensures { result ≡ spec.repeats_name before.now card.now after.now }
 {
-    gives_again(source, counts, before, card, after)
+    defines_again(source, counts, before, card, after)
         || defines_label(source, counts, before, card, after)
 }
 
@@ -43,7 +43,7 @@ pub fn twice_range(
     requires counts { AreCounts before.now (card.now ∷ after.now) counts.now }
     ensures { result ≡ marks.twice_range before.now card.now after.now }
 {
-    if gives_again(source, counts, before, card, after) {
+    if defines_again(source, counts, before, card, after) {
         ColumnRange::FirstFactor
     } else {
         ColumnRange::ResultName
@@ -51,7 +51,7 @@ pub fn twice_range(
 }
 
 /// Whether a label or a subroutine repeats a name that is defined before, or that a field has by then.
-fn gives_again(
+fn defines_again(
     source: &AnalyzedCards,
     counts: &Counts,
     before: &[SpecCard],
@@ -60,7 +60,7 @@ fn gives_again(
 ) -> bool
     requires split { source.now.cards.now ≡ before.now ++ card.now ∷ after.now }
     requires counts { AreCounts before.now (card.now ∷ after.now) counts.now }
-    ensures { result ≡ option_map_or (spec.gives_again before.now card.now after.now) (calculations.calculation_ending before.now card.now after.now) false }
+    ensures { result ≡ option_map_or (spec.defines_again before.now card.now after.now) (calculations.calculation_ending before.now card.now after.now) false }
 {
     match name_given(card, after) {
         None => false,
@@ -74,16 +74,16 @@ fn gives_again(
 
 /// Whether a label or a subroutine before a card has the name.
 fn is_given(source: &AnalyzedCards, counts: &Counts, name: &Name) -> bool
-    ensures { TellsGiven source.now.cards.now counts.now name.now result }
+    ensures { DetectsGiven source.now.cards.now counts.now name.now result }
 {
     source.found.labels.is_given(name, counts.labels)
 }
 
 /// Returns the name of the label or subroutine that a card defines.
 fn name_given(card: &SpecCard, after: &[SpecCard]) -> Option<Named>
-    ensures { result ≡ option_and_then (λ k. labels_of.gives (deeds.deed_of k)) (calculations.card_ending card.now after.now) }
+    ensures { result ≡ option_and_then (λ k. labels_of.defined_name (statements.statement_of k)) (calculations.card_ending card.now after.now) }
 {
-    gives(last_card(card, after)?)
+    defined_name(last_card(card, after)?)
 }
 
 /// Whether a card defines a field whose name a label or a subroutine has.

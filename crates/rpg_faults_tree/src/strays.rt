@@ -1,6 +1,7 @@
 //! F12 of I and O cards: cards without the card that they continue or belong to.
 
 ghost use Rattle.std.specs.Prelude.{◌≡◌, ◌++◌, Bool, map, OnOk};
+ghost use Rattle.rpg_cards.specs.Cards as cards;
 ghost use Rattle.rpg_deck.specs.Seen.{card_in_memory, sheet_in};
 ghost use Rattle.rpg_faults_flow.specs.Strays as rules;
 ghost use Rattle.rpg_faults_tree.specs.Order as order;
@@ -57,7 +58,7 @@ impl Joined for OutputSpec {
 
     ghost takes = { rules.takes_conditions };
 
-    ghost is_field = { order.is_line_field };
+    ghost is_field = { cards.is_output_field };
 
     fn joins(&self) -> bool {
         matches!(self, OutputSpec::And(_) | OutputSpec::Or(_))

@@ -9,7 +9,7 @@ ghost use Rattle.rpg_faults_tree.specs.Rules as rules;
 
 use crate::labels::Labels;
 use crate::numbers::add;
-use rpg_cards::{Named, Section, wants};
+use rpg_cards::{Named, Section, target_name};
 use rpg_deck::{Step, last_card};
 use std::alloc::{AllocError, Global};
 
@@ -25,7 +25,7 @@ pub(crate) fn lost_cards(
     let mut found = Vec::new(alloc);
     for step in steps {
         let last = last_card(step.group);
-        add(&mut found, goes_nowhere(labels, step), last.number)?;
+        add(&mut found, lacks_target(labels, step), last.number)?;
     }
     Ok(found)
 }
@@ -64,10 +64,10 @@ pub(crate) fn recursive_cards(
     Ok(found)
 }
 
-fn goes_nowhere(labels: &Labels, step: &Step) -> bool
-    ensures { (ss : List steps_of.Step) → AreLabelsOf ss labels.now → result ≡ rules.step_goes_nowhere (steps_of.labels_of_steps ss) (step_in step.now) }
+fn lacks_target(labels: &Labels, step: &Step) -> bool
+    ensures { (ss : List steps_of.Step) → AreLabelsOf ss labels.now → result ≡ rules.step_lacks_target (steps_of.labels_of_steps ss) (step_in step.now) }
 {
-    match wants(last_card(step.group).spec) {
+    match target_name(last_card(step.group).spec) {
         None => false,
         Some(wanted) => !is_given_as(labels, &wanted),
     }
@@ -86,7 +86,7 @@ fn is_given_as(labels: &Labels, wanted: &Named) -> bool
 fn leaves_section(labels: &Labels, step: &Step) -> bool
     ensures { (ss : List steps_of.Step) → AreLabelsOf ss labels.now → result ≡ rules.step_leaves_section (steps_of.labels_of_steps ss) (step_in step.now) }
 {
-    match wants(last_card(step.group).spec) {
+    match target_name(last_card(step.group).spec) {
         None => false,
         Some(wanted) => leaves_by(labels, step.section, &wanted),
     }

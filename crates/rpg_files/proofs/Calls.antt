@@ -6,7 +6,7 @@ use Rattle.std.proofs.lemmas.Bool.{cases_Bool, lt-ltb, le-ltb, ltb-true, ltb-fal
 use Rattle.std.proofs.lemmas.List.{append-nil}
 use Rattle.rpg_files.specs.Answers.{GivesAll, is_device_fault, given_records, input_with, last_answer}
 use Rattle.rpg_files.specs.NextLine.{CanFollow}
-use Rattle.rpg_files.specs.Records.{records, is_good, max_records}
+use Rattle.rpg_files.specs.Records.{records, is_valid, max_records}
 use Rattle.rpg_files.specs.Reading.{Advances, GivesNext, Input, is_record}
 use Rattle.rpg_files.proofs.Lines.{some_record}
 use Rattle.rpg_files.specs.declared.reader.Next.{Next}
@@ -44,13 +44,13 @@ leaves old new bytes Fact known adv =
 
 -- the same words, of so many records that may still come
 abbrev given_of : ℕ → ℕ → List (List ℕ) → List (List ℕ)
-given_of limit left rs = take_while (is_good limit) (take left rs)
+given_of limit left rs = take_while (is_valid limit) (take left rs)
 
 abbrev last_of : ℕ → ℕ → List (List ℕ) → Result Next ReadFault
-last_of limit left rs = if list_all (is_good limit) (take left rs) then (if nat_lt left (length rs) then Err fault.TooMany else Ok next.End) else Ok next.Bad
+last_of limit left rs = if list_all (is_valid limit) (take left rs) then (if nat_lt left (length rs) then Err fault.TooMany else Ok next.End) else Ok next.Bad
 
-abbrev Told : ℕ → ℕ → List ℕ → List (List ℕ) → Result Next ReadFault → Type 0
-Told limit left bytes rs last = (rs ≡ given_of limit left (records bytes)) × (last ≡ last_of limit left (records bytes))
+abbrev Reported : ℕ → ℕ → List ℕ → List (List ℕ) → Result Next ReadFault → Type 0
+Reported limit left bytes rs last = (rs ≡ given_of limit left (records bytes)) × (last ≡ last_of limit left (records bytes))
 
 lt_suc : (m n : ℕ) → nat_lt (suc m) (suc n) ≡ nat_lt m n
 lt_suc m n = elim (cases_Bool (nat_lt m n)) [
@@ -58,39 +58,39 @@ lt_suc m n = elim (cases_Bool (nat_lt m n)) [
   | inr is ↦ let ge = ltb-false m n is in le-ltb (suc m) (suc n) (omega arith) ∙ sym is
 ]
 
-bad_told : (limit m : ℕ) (r : List ℕ) (rest : List (List ℕ)) → is_good limit r ≡ false → ([] ≡ given_of limit (suc m) (r ∷ rest)) × (Ok next.Bad ≡ last_of limit (suc m) (r ∷ rest))
-bad_told limit m r rest bad = (rw bad refl, rw bad refl)
+bad_reported : (limit m : ℕ) (r : List ℕ) (rest : List (List ℕ)) → is_valid limit r ≡ false → ([] ≡ given_of limit (suc m) (r ∷ rest)) × (Ok next.Bad ≡ last_of limit (suc m) (r ∷ rest))
+bad_reported limit m r rest bad = (rw bad refl, rw bad refl)
 
-none_told : (limit left : ℕ) → ([] ≡ given_of limit left []) × (Ok next.End ≡ last_of limit left [])
-none_told limit zero = (refl, refl)
-none_told limit (suc m) = (refl, rw (le-ltb (suc m) 0 (omega arith)) refl)
+none_reported : (limit left : ℕ) → ([] ≡ given_of limit left []) × (Ok next.End ≡ last_of limit left [])
+none_reported limit zero = (refl, refl)
+none_reported limit (suc m) = (refl, rw (le-ltb (suc m) 0 (omega arith)) refl)
 
-many_told : (limit : ℕ) (rs : List (List ℕ)) → 0 < length rs → ([] ≡ given_of limit 0 rs) × (Err fault.TooMany ≡ last_of limit 0 rs)
-many_told limit rs some = (refl, rw (lt-ltb 0 (length rs) some) refl)
+many_reported : (limit : ℕ) (rs : List (List ℕ)) → 0 < length rs → ([] ≡ given_of limit 0 rs) × (Err fault.TooMany ≡ last_of limit 0 rs)
+many_reported limit rs some = (refl, rw (lt-ltb 0 (length rs) some) refl)
 
 one_more : (k : ℕ) (r : List ℕ) (rs : List (List ℕ)) → take (1 + k) (r ∷ rs) ≡ r ∷ take k rs
 one_more k r rs = let is : 1 + k ≡ suc k = omega arith in ap (λ (n : ℕ). take n (r ∷ rs)) is
 
-given_more : (limit m : ℕ) (r : List ℕ) (rest : List (List ℕ)) → is_good limit r ≡ true → given_of limit (suc m) (r ∷ rest) ≡ r ∷ given_of limit m rest
-given_more limit m r rest good = rw good (one_more (prefix_len (is_good limit) (take m rest)) r (take m rest))
+given_more : (limit m : ℕ) (r : List ℕ) (rest : List (List ℕ)) → is_valid limit r ≡ true → given_of limit (suc m) (r ∷ rest) ≡ r ∷ given_of limit m rest
+given_more limit m r rest valid = rw valid (one_more (prefix_len (is_valid limit) (take m rest)) r (take m rest))
 
-last_more : (limit m : ℕ) (r : List ℕ) (rest : List (List ℕ)) → is_good limit r ≡ true → last_of limit (suc m) (r ∷ rest) ≡ last_of limit m rest
-last_more limit m r rest good = rw (good, lt_suc m (length rest)) refl
+last_more : (limit m : ℕ) (r : List ℕ) (rest : List (List ℕ)) → is_valid limit r ≡ true → last_of limit (suc m) (r ∷ rest) ≡ last_of limit m rest
+last_more limit m r rest valid = rw (valid, lt_suc m (length rest)) refl
 
 -- the last call
-ends_told : (limit count left : ℕ) → count + left ≡ max_records → (bytes new r : List ℕ) (last : Result Next ReadFault) → is_record last ≡ false → is_device_fault last ≡ false
-    → GivesNext limit count r last bytes new → Told limit left bytes [] last
-ends_told limit count left all bytes new r (Ok next.Record) no_record told gives = absurd cc
-ends_told limit count zero all bytes new r (Ok next.Bad) no_record told gives = absurd (let lt = gives.0 in omega arith)
-ends_told limit count (suc m) all bytes new r (Ok next.Bad) no_record told gives =
+ends_reported : (limit count left : ℕ) → count + left ≡ max_records → (bytes new r : List ℕ) (last : Result Next ReadFault) → is_record last ≡ false → is_device_fault last ≡ false
+    → GivesNext limit count r last bytes new → Reported limit left bytes [] last
+ends_reported limit count left all bytes new r (Ok next.Record) no_record reported gives = absurd cc
+ends_reported limit count zero all bytes new r (Ok next.Bad) no_record reported gives = absurd (let lt = gives.0 in omega arith)
+ends_reported limit count (suc m) all bytes new r (Ok next.Bad) no_record reported gives =
     let bad = gives.1 in
-    subst (λ (rs : List (List ℕ)). ([] ≡ given_of limit (suc m) rs) × (Ok next.Bad ≡ last_of limit (suc m) rs)) (sym bad.2) (bad_told limit m bad.0 bad.1 bad.3)
-ends_told limit count left all bytes new r (Ok next.End) no_record told gives =
-    subst (λ (xs : List ℕ). Told limit left xs [] (Ok next.End)) (sym gives.0) (none_told limit left)
-ends_told limit count left all bytes new r (Err fault.Device) no_record told gives = absurd cc
-ends_told limit count left all bytes new r (Err fault.TooMany) no_record told gives =
+    subst (λ (rs : List (List ℕ)). ([] ≡ given_of limit (suc m) rs) × (Ok next.Bad ≡ last_of limit (suc m) rs)) (sym bad.2) (bad_reported limit m bad.0 bad.1 bad.3)
+ends_reported limit count left all bytes new r (Ok next.End) no_record reported gives =
+    subst (λ (xs : List ℕ). Reported limit left xs [] (Ok next.End)) (sym gives.0) (none_reported limit left)
+ends_reported limit count left all bytes new r (Err fault.Device) no_record reported gives = absurd cc
+ends_reported limit count left all bytes new r (Err fault.TooMany) no_record reported gives =
     let none : left ≡ 0 = let is = gives.0 in omega arith in
-    subst (λ (n : ℕ). Told limit n bytes [] (Err fault.TooMany)) (sym none) (many_told limit (records bytes) (some_record bytes (sym (ne_eqb _ _ (λ empty. absurd (let some = gives.1 in omega arith))))))
+    subst (λ (n : ℕ). Reported limit n bytes [] (Err fault.TooMany)) (sym none) (many_reported limit (records bytes) (some_record bytes (sym (ne_eqb _ _ (λ empty. absurd (let some = gives.1 in omega arith))))))
 
 -- These records were given of those that may still come, and so many more may come after them.
 record Follows (limit count left : ℕ) (old : Input) (bytes : List ℕ) (rs : List (List ℕ)) (new : Input) : Type 0 where
@@ -102,9 +102,9 @@ record Follows (limit count left : ℕ) (old : Input) (bytes : List ℕ) (rs : L
   last : last_of limit left (records (old.buffered ++ bytes)) ≡ last_of limit more (records (new.buffered ++ following))
 
 -- one record more, before those that follow
-one_more_given : (limit count left m : ℕ) (old mid new : Input) (bytes following r : List ℕ) (rs : List (List ℕ)) → left ≡ suc m → is_good limit r ≡ true
+one_more_given : (limit count left m : ℕ) (old mid new : Input) (bytes following r : List ℕ) (rs : List (List ℕ)) → left ≡ suc m → is_valid limit r ≡ true
     → records (old.buffered ++ bytes) ≡ r ∷ records (mid.buffered ++ following) → Follows limit (count + 1) m mid following rs new → Follows limit count left old bytes (r ∷ rs) new
-one_more_given limit count left m old mid new bytes following r rs parts good first later =
+one_more_given limit count left m old mid new bytes following r rs parts valid first later =
     let same : given_of limit left (records (old.buffered ++ bytes)) ≡ given_of limit (suc m) (r ∷ records (mid.buffered ++ following)) = rw (parts, first) refl in
     let same_last : last_of limit left (records (old.buffered ++ bytes)) ≡ last_of limit (suc m) (r ∷ records (mid.buffered ++ following)) = rw (parts, first) refl in
     record {
@@ -112,8 +112,8 @@ one_more_given limit count left m old mid new bytes following r rs parts good fi
       all = let counts = later.all in omega arith;
       following = later.following;
       known = later.known;
-      given = same ∙ given_more limit m r (records (mid.buffered ++ following)) good ∙ ap (λ (rest : List (List ℕ)). r ∷ rest) later.given;
-      last = same_last ∙ last_more limit m r (records (mid.buffered ++ following)) good ∙ later.last;
+      given = same ∙ given_more limit m r (records (mid.buffered ++ following)) valid ∙ ap (λ (rest : List (List ℕ)). r ∷ rest) later.given;
+      last = same_last ∙ last_more limit m r (records (mid.buffered ++ following)) valid ∙ later.last;
     }
 
 follows : (limit count left : ℕ) → count + left ≡ max_records → (old : Input) (bytes : List ℕ) → IsKnown old bytes → (rs : List (List ℕ)) (new : Input) → GivesAll limit count rs old new
@@ -128,18 +128,18 @@ follows limit count left all old bytes known (r ∷ rs) new gives =
 from_start : (limit : ℕ) (bytes : List ℕ) (rs : List (List ℕ)) (new : Input) → GivesAll limit 0 rs (input_with bytes) new → Follows limit 0 10000000 (input_with bytes) bytes rs new
 from_start limit bytes rs new gives = follows limit 0 10000000 refl (input_with bytes) bytes (record { remaining = refl; at_end = λ is. absurd cc }) rs new gives
 
-pub first_told : (limit : ℕ) (bytes : List ℕ) (rs : List (List ℕ)) (new : Input) → GivesAll limit 0 rs (input_with bytes) new
+pub first_reported : (limit : ℕ) (bytes : List ℕ) (rs : List (List ℕ)) (new : Input) → GivesAll limit 0 rs (input_with bytes) new
     → (more : List (List ℕ)) × (given_records limit (records bytes) ≡ rs ++ more)
-first_told limit bytes rs new gives =
+first_reported limit bytes rs new gives =
     let done = from_start limit bytes rs new gives in
     (given_of limit done.more (records (new.buffered ++ done.following)), done.given)
 
-pub all_told : (limit : ℕ) (bytes : List ℕ) (rs : List (List ℕ)) (mid new : Input) (r : List ℕ) (last : Result Next ReadFault) → GivesAll limit 0 rs (input_with bytes) mid
+pub all_reported : (limit : ℕ) (bytes : List ℕ) (rs : List (List ℕ)) (mid new : Input) (r : List ℕ) (last : Result Next ReadFault) → GivesAll limit 0 rs (input_with bytes) mid
     → Advances mid new (GivesNext limit (length rs) r last) → is_record last ≡ false → is_device_fault last ≡ false
     → (rs ≡ given_records limit (records bytes)) × (last ≡ last_answer limit (records bytes))
-all_told limit bytes rs mid new r last gives adv no_record no_fault =
+all_reported limit bytes rs mid new r last gives adv no_record no_fault =
     let done = from_start limit bytes rs mid gives in
     let step = leaves mid new done.following (GivesNext limit (length rs) r last) done.known adv in
     let counts : length rs + done.more ≡ max_records = let all = done.all in omega arith in
-    let told = ends_told limit (length rs) done.more counts (mid.buffered ++ done.following) (new.buffered ++ step.left) r last no_record no_fault step.fact in
-    (sym (done.given ∙ ap (λ (following : List (List ℕ)). rs ++ following) (sym told.0) ∙ append-nil rs), told.1 ∙ sym done.last)
+    let reported = ends_reported limit (length rs) done.more counts (mid.buffered ++ done.following) (new.buffered ++ step.left) r last no_record no_fault step.fact in
+    (sym (done.given ∙ ap (λ (following : List (List ℕ)). rs ++ following) (sym reported.0) ∙ append-nil rs), reported.1 ∙ sym done.last)

@@ -7,7 +7,7 @@ use Rattle.std.proofs.lemmas.List.Folds.{list_all-append}
 use Rattle.std.proofs.Math.Seq.{take-add}
 use Rattle.rpg_text.specs.Lines.{is_line, is_line_feed}
 use Rattle.rpg_text.specs.Texts.{is_character}
-use Rattle.rpg_files.specs.Records.{records, begins_with_line_feed, is_good, BeginsBad}
+use Rattle.rpg_files.specs.Records.{records, begins_with_line_feed, is_valid, BeginsBad}
 use Rattle.rpg_files.specs.FirstLine.{IsFirstRecord, IsIncomplete}
 use Rattle.rpg_files.specs.NextLine.{CanFollow, IsNextRecord}
 use Rattle.rpg_files.proofs.Characters.{not_ten, line_first, return_first, long_begins_bad, other_begins_bad, whole_first}
@@ -29,14 +29,14 @@ after_cut [] more n lt = absurd (omega arith)
 after_cut (x ∷ xs) more zero lt = refl
 after_cut (x ∷ xs) more (suc n) lt = after_cut xs more n (omega arith)
 
-good_front : (limit : ℕ) (xs : List ℕ) (n : ℕ) → n ≤ length xs → n ≤ limit → list_all is_character (take n xs) ≡ true → is_good limit (take n xs) ≡ true
-good_front limit xs n within short all = and_from _ _ (le-leb _ _ (omega (arith, length-take-le n xs within))) all
+valid_front : (limit : ℕ) (xs : List ℕ) (n : ℕ) → n ≤ length xs → n ≤ limit → list_all is_character (take n xs) ≡ true → is_valid limit (take n xs) ≡ true
+valid_front limit xs n within short all = and_from _ _ (le-leb _ _ (omega (arith, length-take-le n xs within))) all
 
 pub line_feed_ends : (limit : ℕ) (xs : List ℕ) (n : ℕ) → n < length xs → n ≤ limit → list_all is_character (take n xs) ≡ true → get_or xs n 0 ≡ 10 → IsFirstRecord limit xs n (n + 1)
 line_feed_ends limit xs n lt short all feed = record {
   ordered = omega arith;
   within = omega arith;
-  good = good_front limit xs n (omega arith) short all;
+  valid = valid_front limit xs n (omega arith) short all;
   first = λ more.
       let at : get_or xs n 0 ∷ (drop (suc n) xs ++ more) ≡ 10 ∷ (drop (suc n) xs ++ more) = ap (λ (b : ℕ). b ∷ (drop (suc n) xs ++ more)) feed in
       ap records (cut_at xs more n lt ∙ ap (λ (ys : List ℕ). take n xs ++ ys) at) ∙ line_first (take n xs) (drop (suc n) xs ++ more) all
@@ -48,7 +48,7 @@ pub return_ends : (limit : ℕ) (xs : List ℕ) (n : ℕ) → n + 1 < length xs 
 return_ends limit xs n lt short all return feed' = let feed : get_or xs (suc n) 0 ≡ 10 = rw add-one at feed' in record {
   ordered = omega arith;
   within = omega arith;
-  good = good_front limit xs n (omega arith) short all;
+  valid = valid_front limit xs n (omega arith) short all;
   first = λ more.
       let following = drop (suc (suc n)) xs ++ more in
       let at : get_or xs n 0 ∷ (drop (suc n) xs ++ more) ≡ 13 ∷ 10 ∷ following =
@@ -125,7 +125,7 @@ whole_at_end limit xs n is whole some =
     record {
       ordered = omega arith;
       within = omega arith;
-      good = good_front limit xs (length xs) (omega arith) (omega (arith, is.short)) (rw all characters);
+      valid = valid_front limit xs (length xs) (omega arith) (omega (arith, is.short)) (rw all characters);
       first = λ more can.
           ap (λ (ys : List ℕ). records (xs ++ ys)) (can refl) ∙ ap records (append-nil xs) ∙ whole_first xs characters some
           ∙ ap (λ (ys : List ℕ). ys ∷ []) (sym all) ∙ ap (λ (ys : List ℕ). take (length xs) xs ∷ records ys) (sym (ap (λ (ys : List ℕ). ys ++ more) (drop_all (length xs) xs (omega arith)) ∙ can refl));

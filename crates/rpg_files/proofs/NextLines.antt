@@ -1,4 +1,4 @@
--- How far the reading of a line can go on, and what it is at the end of the input.
+-- How far the reading of a line can continue, and what it is at the end of the input.
 use Rattle.std.proofs.Common.{◌≡◌, ℕ, ◌+◌, ◌-◌, ◌<◌, ◌≤◌, Bool, true, false, if◌then◌else◌, List, ◌++◌, length, drop, Option, refl, sym, ap, ap₂, ◌∙◌, subst, append_assoc, arith, length-append, length-drop, ◌⊎◌, inl, inr}
 use Rattle.std.proofs.KnownBytes.{Consumes-trans}
 use Rattle.rpg_files.specs.NextLine.{IsNextLine}

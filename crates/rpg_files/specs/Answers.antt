@@ -1,7 +1,7 @@
 -- All results of a reader of records, over a whole input.
 use Rattle.std.specs.Prelude.{◌≡◌, ℕ, ◌+◌, Bool, true, false, nat_lt, if◌then◌else◌, List, [], ◌∷◌, ◌++◌, length, take, take_while, Some, Result, Ok, Err}
 use Rattle.std.specs.List.{list_all}
-use Rattle.rpg_files.specs.Records.{records, is_good, max_records}
+use Rattle.rpg_files.specs.Records.{records, is_valid, max_records}
 use Rattle.rpg_files.specs.Reading.{Advances, GivesNext, Input, is_record}
 use Rattle.rpg_files.specs.declared.reader.Next.{Next}
 use Rattle.rpg_files.specs.declared.reader.Next.TheVariants as next
@@ -10,12 +10,12 @@ use Rattle.rpg_files.specs.declared.reader.ReadFault.TheVariants as fault
 
 -- of the records that an input may have, those before the first bad one
 abbrev pub given_records : ℕ → List (List ℕ) → List (List ℕ)
-given_records limit rs = take_while (is_good limit) (take max_records rs)
+given_records limit rs = take_while (is_valid limit) (take max_records rs)
 
 -- the result after those
 abbrev pub last_answer : ℕ → List (List ℕ) → Result Next ReadFault
 last_answer limit rs =
-    if list_all (is_good limit) (take max_records rs) then (if nat_lt max_records (length rs) then Err fault.TooMany else Ok next.End) else Ok next.Bad
+    if list_all (is_valid limit) (take max_records rs) then (if nat_lt max_records (length rs) then Err fault.TooMany else Ok next.End) else Ok next.Bad
 
 -- an input of these bytes, none of which has been read
 abbrev pub input_with : List ℕ → Input

@@ -2,7 +2,7 @@
 use Rattle.std.specs.Prelude.{◌≡◌, ℕ, ◌≤◌, ◌⊎◌, true, List, [], ◌∷◌, ◌++◌, length, take, drop}
 use Rattle.std.specs.List.{list_all}
 use Rattle.rpg_text.specs.Texts.{is_character}
-use Rattle.rpg_files.specs.Records.{records, is_good, BeginsBad}
+use Rattle.rpg_files.specs.Records.{records, is_valid, BeginsBad}
 use Rattle.rpg_files.specs.declared.line.FirstLine.{FirstLine}
 use Rattle.rpg_files.specs.declared.line.FirstLine.TheVariants as line
 
@@ -10,7 +10,7 @@ use Rattle.rpg_files.specs.declared.line.FirstLine.TheVariants as line
 pub record IsFirstRecord (limit : ℕ) (bytes : List ℕ) (len line_len : ℕ) : Type 0 where
   pub ordered : len ≤ line_len
   pub within : line_len ≤ length bytes
-  pub good : is_good limit (take len bytes) ≡ true
+  pub valid : is_valid limit (take len bytes) ≡ true
   pub first : (more : List ℕ) → records (bytes ++ more) ≡ take len bytes ∷ records (drop line_len bytes ++ more)
 
 -- The line has no end yet: these bytes are characters, no more than the limit, possibly followed by a carriage

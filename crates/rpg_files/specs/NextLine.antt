@@ -1,6 +1,6 @@
 -- The next line of an input, some bytes of which were read.
 use Rattle.std.specs.Prelude.{◌≡◌, ℕ, ◌<◌, ◌≤◌, Bool, true, false, List, [], ◌∷◌, ◌++◌, length, take, drop}
-use Rattle.rpg_files.specs.Records.{records, is_good, BeginsBad}
+use Rattle.rpg_files.specs.Records.{records, is_valid, BeginsBad}
 use Rattle.rpg_files.specs.declared.input.NextLine.{NextLine}
 use Rattle.rpg_files.specs.declared.input.NextLine.TheVariants as next
 
@@ -12,7 +12,7 @@ CanFollow ended more = ended ≡ true → more ≡ []
 pub record IsNextRecord (limit : ℕ) (bytes : List ℕ) (ended : Bool) (len line_len : ℕ) : Type 0 where
   pub ordered : len ≤ line_len
   pub within : line_len ≤ length bytes
-  pub good : is_good limit (take len bytes) ≡ true
+  pub valid : is_valid limit (take len bytes) ≡ true
   pub first : (more : List ℕ) → CanFollow ended more → records (bytes ++ more) ≡ take len bytes ∷ records (drop line_len bytes ++ more)
 
 -- what comes next: a record, a bad line, or the end of file

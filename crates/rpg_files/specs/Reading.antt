@@ -5,7 +5,7 @@ use Rattle.rpg_text.specs.Lines.{is_line}
 use Rattle.rpg_files.specs.Buffers.{left_in}
 use Rattle.rpg_files.specs.Counting.{device_of, faults_of}
 use Rattle.rpg_files.specs.NextLine.{CanFollow}
-use Rattle.rpg_files.specs.Records.{records, is_good, BeginsBad, max_records}
+use Rattle.rpg_files.specs.Records.{records, is_valid, BeginsBad, max_records}
 use Rattle.rpg_files.specs.declared.counting.Counted.{Counted}
 use Rattle.rpg_files.specs.declared.reader.Next.{Next}
 use Rattle.rpg_files.specs.declared.reader.Next.TheVariants as next
@@ -61,8 +61,8 @@ input_of remaining r = record { buffered = buffered_of r; ended = has_ended r; r
 
 -- the next call can't fail: fewer records than an input may have were returned, and either the end of the input was seen, or the buffer has
 -- enough bytes for the longest line, with a carriage return and a line feed
-abbrev pub is_sure : {R : Type 0} → RecordReader R → Bool
-is_sure r = nat_lt r.count max_records && (r.is_ended || nat_le (r.limit + 2) (length (buffered_of r)))
+abbrev pub cannot_fail : {R : Type 0} → RecordReader R → Bool
+cannot_fail r = nat_lt r.count max_records && (r.is_ended || nat_le (r.limit + 2) (length (buffered_of r)))
 
 -- ---- a call
 
@@ -75,7 +75,7 @@ is_record (Err e) = false
 
 -- After this many records, a call returned this record and this result: these bytes were left before the call, and these after it.
 abbrev pub GivesNext : ℕ → ℕ → List ℕ → Result Next ReadFault → List ℕ → List ℕ → Type 0
-GivesNext limit count record_bytes (Ok next.Record) old new = (count < max_records) × (is_good limit record_bytes ≡ true) × (records old ≡ record_bytes ∷ records new)
+GivesNext limit count record_bytes (Ok next.Record) old new = (count < max_records) × (is_valid limit record_bytes ≡ true) × (records old ≡ record_bytes ∷ records new)
 GivesNext limit count record_bytes (Ok next.Bad) old new = (count < max_records) × BeginsBad limit old
 GivesNext limit count record_bytes (Ok next.End) old new = (old ≡ []) × (new ≡ [])
 GivesNext limit count record_bytes (Err fault.TooMany) old new = (count ≡ max_records) × (0 < length old)

@@ -29,12 +29,12 @@ max_records = 10000000
 -- ---- records that a program accepts
 
 -- a record of characters that is no longer than the limit
-abbrev pub is_good : ℕ → List ℕ → Bool
-is_good limit r = nat_le (length r) limit && list_all is_character r
+abbrev pub is_valid : ℕ → List ℕ → Bool
+is_valid limit r = nat_le (length r) limit && list_all is_character r
 
 -- the first record of these bytes is one that no program accepts
 abbrev pub BeginsBad : ℕ → List ℕ → Type 0
-BeginsBad limit bytes = (r : List ℕ) × (rest : List (List ℕ)) × (records bytes ≡ r ∷ rest) × (is_good limit r ≡ false)
+BeginsBad limit bytes = (r : List ℕ) × (rest : List (List ℕ)) × (records bytes ≡ r ∷ rest) × (is_valid limit r ≡ false)
 
 -- ---- lines
 

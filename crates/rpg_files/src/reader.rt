@@ -130,12 +130,12 @@ impl<'a, R> RecordReader<'a, R> {
 impl<'a, R: Read> RecordReader<'a, R> {
     ghost use Rattle.std.specs.Prelude.{◌-◌, ◌^◌, true, false, IsOk};
     ghost use Rattle.rpg_files.specs.Counting.{faults_of};
-    ghost use Rattle.rpg_files.specs.Reading.{ReadsNext, answer_of, is_record, is_sure, reader_of};
+    ghost use Rattle.rpg_files.specs.Reading.{ReadsNext, answer_of, is_record, cannot_fail, reader_of};
 
     /// Whether the next call can't fail, since it needn't read.
     #[inline(always)]
-    pub fn is_sure(&self) -> bool
-        ensures { result ≡ is_sure self.now }
+    pub fn cannot_fail(&self) -> bool
+        ensures { result ≡ cannot_fail self.now }
     {
         self.count < MAX_RECORDS
             && (self.is_ended || self.buffer.len() - self.line_len >= self.limit as usize + 2)
@@ -147,7 +147,7 @@ impl<'a, R: Read> RecordReader<'a, R> {
         ensures same_reader { self.new.reader.ghost_name ≡ self.old.reader.ghost_name }
         ensures answer { answer_of self.new ≡ result }
         ensures stands_after_record { is_record (answer_of self.old) ≡ true → ReadsNext R.remaining self.old result self.new }
-        ensures sure { is_record (answer_of self.old) ≡ true → is_sure self.old ≡ true → IsOk result }
+        ensures sure { is_record (answer_of self.old) ≡ true → cannot_fail self.old ≡ true → IsOk result }
         ensures repeated { is_record (answer_of self.old) ≡ false → (result ≡ answer_of self.old) × (self.new ≡ self.old) }
     {
         if let Ok(Next::Record) = self.answer {
@@ -161,7 +161,7 @@ impl<'a, R: Read> RecordReader<'a, R> {
         requires { faults_of (reader_of self.old) < 2 ^ 64 - 1 }
         ensures same_reader { self.new.reader.ghost_name ≡ self.old.reader.ghost_name }
         ensures next { ReadsNext R.remaining self.old result self.new }
-        ensures sure { is_sure self.old ≡ true → IsOk result }
+        ensures sure { cannot_fail self.old ≡ true → IsOk result }
     {
         let line_len = self.line_len;
         self.len = 0;

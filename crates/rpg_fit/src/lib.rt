@@ -16,5 +16,5 @@ pub use fault::FitFault;
 pub use fitting::{FittedDeck, fit, fit_by};
 pub use note::Note;
 pub use rpg_fit_cards::{Settings, Switches, TableFile};
-pub use rpg_fit_deck::{Card, Fitted, Refusal, Rule, Sentence, Told, What};
+pub use rpg_fit_deck::{Card, Fitted, Refusal, Remark, Rule, Sentence, What};
 pub use rules::{RULES, Rules};

@@ -117,7 +117,7 @@ impl Rules for OldDeckRules<'_> {
 fn apply_in_turn<R: Rules>(alloc: Global, editor: &mut Editor, rules: &R, rule: Rule)
     ensures { AppliedInTurn (R.leaves rules.now) rule editor.old editor.new }
 {
-    if editor.goes_on() {
+    if editor.continues() {
         rules.apply(alloc, editor, rule);
     }
 }

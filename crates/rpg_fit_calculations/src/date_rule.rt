@@ -72,7 +72,7 @@ fn fill(
         filling.put(alloc, editor, parts, Place::TotalFront, Indicator::ALWAYS)?;
     }
     filling.put(alloc, editor, parts, Place::DetailFront, Indicator::BLANK)?;
-    editor.tell(number, sentence(parts));
+    editor.report(number, sentence(parts));
     Ok(())
 }
 

@@ -95,7 +95,7 @@ fn rewritten(
     };
     let card = columns.put(with_operation(seen.card, instead), text.text());
     editor.change(seen.at, card, seen.number);
-    editor.tell(seen.number, Sentence::of_two("% is %", constant, text));
+    editor.report(seen.number, Sentence::of_two("% is %", constant, text));
     Ok(card)
 }
 

@@ -2,7 +2,7 @@
 
 use crate::figure::is_literal;
 use crate::movea::{Entries, Moves, Side, moves_of};
-use crate::now::{Now, replace, told};
+use crate::now::{Now, remark, replace};
 use rpg_fit_deck::{Card, Editor, Seen, Sentence, View, Word};
 use rpg_fit_words::{
     Array, Columns, Constant, Flagged, FreeIndicators, Group, List, NewCard, Operand, RuleStop,
@@ -100,7 +100,7 @@ fn entries_side(array: Array, index: &[u8]) -> Option<Side> {
 /// Rewrites a MOVEA between fields.
 fn move_left(editor: &mut Editor, seen: &Seen) {
     editor.change(seen.at, seen.card.with(28, 32, b"MOVEL"), seen.number);
-    editor.tell(seen.number, Sentence::of("MOVEA of fields is MOVEL"));
+    editor.report(seen.number, Sentence::of("MOVEA of fields is MOVEL"));
 }
 
 /// Rewrites a MOVEA with an array.
@@ -200,8 +200,8 @@ impl Plan {
     ) -> Result<(), RuleStop> {
         let mut cards = before;
         self.push_moves(&mut cards, moves);
-        let told = told("MOVEA is % calculation", "MOVEA is % calculations", &cards);
-        replace(editor, group, &cards, told)
+        let remark = remark("MOVEA is % calculation", "MOVEA is % calculations", &cards);
+        replace(editor, group, &cards, remark)
     }
 
     /// Appends the moves of all entries.

@@ -30,18 +30,18 @@ pub(crate) fn replace(
     editor: &mut Editor,
     group: &Group,
     cards: &List<NewCard>,
-    told: Sentence,
+    remark: Sentence,
 ) -> Result<(), RuleStop> {
     let number = group.last.number;
     put_cards(editor, group.first().at, cards.checked()?, number);
     remove_cards(editor, group.leading.as_slice(), number);
     editor.remove(group.last.at, number);
-    editor.tell(number, told);
+    editor.report(number, remark);
     Ok(())
 }
 
 /// Returns the sentence about calculations that replace one.
-pub(crate) fn told(one: &'static str, several: &'static str, cards: &List<NewCard>) -> Sentence {
+pub(crate) fn remark(one: &'static str, several: &'static str, cards: &List<NewCard>) -> Sentence {
     let count = cards.as_slice().len();
     let text = if count == 1 { one } else { several };
     Sentence::about(text, Word::of_number(count))

@@ -1,6 +1,6 @@
 //! Calculations with whole arrays.
 
-use crate::now::{Now, replace, told};
+use crate::now::{Now, remark, replace};
 use rpg_fit_deck::{Card, Editor, Sentence, View, Word};
 use rpg_fit_words::{
     Calculation, Columns, Flagged, FreeIndicators, FreshNames, Group, Indicator, List, NewCard,
@@ -221,12 +221,12 @@ fn put_entries(
         let index = Word::of_number(place.saturating_add(1));
         cards.push(entry_card(now, base, index));
     }
-    let told = told(
+    let remark = remark(
         "whole arrays: % calculation",
         "whole arrays: % calculations",
         &cards,
     );
-    replace(editor, group, &cards, told)
+    replace(editor, group, &cards, remark)
 }
 
 /// Returns what the calculations of all entries share, without conditions.
@@ -276,9 +276,10 @@ fn put_loop(
     cards.push_all(&frame.begin());
     cards.push(calculation);
     cards.push_all(&frame.end(entries));
-    let told = "whole arrays: a loop of %; give --allowance more than 1000 where it is done often";
-    let told = Sentence::about(told, Word::of_number(entries));
-    replace(editor, group, &cards, told)
+    let remark =
+        "whole arrays: a loop of %; give --allowance more than 1000 where it is done often";
+    let remark = Sentence::about(remark, Word::of_number(entries));
+    replace(editor, group, &cards, remark)
 }
 
 /// The parts of a loop around the calculation of an entry.

@@ -37,7 +37,7 @@ fn put_directives(alloc: Global, editor: &mut Editor) -> Result<(), RuleStop> {
     for seen in &view.cards {
         if is_directive(&seen.card) {
             let sentence = Sentence::of("a directive for the listing is a comment now");
-            editor.tell(seen.number, sentence);
+            editor.report(seen.number, sentence);
             make_comment(editor, seen, seen.number);
         }
     }
@@ -57,7 +57,7 @@ fn put_debugs(alloc: Global, editor: &mut Editor) -> Result<(), RuleStop> {
 fn put_debug(editor: &mut Editor, group: &Group) {
     let number = group.last.number;
     let sentence = Sentence::of("DEBUG is a comment now, and its lines aren't printed");
-    editor.tell(number, sentence);
+    editor.report(number, sentence);
     for seen in group.leading.iter() {
         make_comment(editor, seen, number);
     }

@@ -44,7 +44,7 @@ fn join_disks(
     if let [first, others @ ..] = disks {
         if !others.is_empty() {
             let outputs = output_cards(alloc, view);
-            tell_disks(editor, disks);
+            report_disks(editor, disks);
             move_outputs(editor, view, disks, first, outputs.checked()?);
             join_files(editor, first, others);
         }
@@ -94,7 +94,7 @@ fn is_disk(seen: &Seen) -> bool {
     is_card(seen, b'F') && seen.card.column(15) == b'O' && !is_printer(&seen.card)
 }
 
-fn tell_disks(editor: &mut Editor, disks: &[Disk]) {
+fn report_disks(editor: &mut Editor, disks: &[Disk]) {
     for disk in disks {
         let letter = Word::of(&[disk.letter]);
         let sentence = Sentence {
@@ -106,7 +106,7 @@ fn tell_disks(editor: &mut Editor, disks: &[Disk]) {
                 Word::of_number(disk.length.saturating_add(1)),
             ],
         };
-        editor.tell(disk.seen.number, sentence);
+        editor.report(disk.seen.number, sentence);
     }
 }
 
@@ -154,11 +154,11 @@ fn move_field(editor: &mut Editor, draft: &mut Draft, with: usize) {
 
 /// Whether a card is the last one of a line before its fields. `next`: the output card after it.
 fn ends_conditions(output: &OutputCard, next: Option<&OutputCard>) -> bool {
-    let goes_on = match next {
+    let continues = match next {
         Some(next) => matches!(next.role, OutputRole::And | OutputRole::Or),
         None => false,
     };
-    output.role != OutputRole::Field && !goes_on
+    output.role != OutputRole::Field && !continues
 }
 
 /// Inserts the letter of its file into a line.

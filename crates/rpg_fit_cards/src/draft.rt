@@ -28,7 +28,7 @@ impl Draft {
         text: &[u8],
         sentence: Sentence,
     ) {
-        editor.tell(self.number, sentence);
+        editor.report(self.number, sentence);
         self.follow(editor, first, last, text, self.number);
     }
 

@@ -30,11 +30,11 @@ struct FormUse {
 pub fn forms(alloc: Global, editor: &mut Editor, settings: &Settings) -> Result<(), RuleStop> {
     let view = editor.view(alloc)?;
     let form_use = FormUse {
-        overflow: asked_overflow(&view),
+        overflow: tested_overflow(&view),
         skips: has_skip(&view),
     };
     for seen in &view.cards {
-        if is_card(seen, b'L') && editor.goes_on() {
+        if is_card(seen, b'L') && editor.continues() {
             take_out(editor, &view, &form_use, settings.keeps_forms, seen);
         }
     }
@@ -42,10 +42,10 @@ pub fn forms(alloc: Global, editor: &mut Editor, settings: &Settings) -> Result<
 }
 
 /// Returns the overflow indicator of the printer, if a condition tests it.
-fn asked_overflow(view: &View) -> Option<Word> {
+fn tested_overflow(view: &View) -> Option<Word> {
     let indicator = overflow_of(view)?;
     for seen in &view.cards {
-        if asks(&seen.card, indicator.text()) {
+        if tests(&seen.card, indicator.text()) {
             return Some(indicator);
         }
     }
@@ -69,7 +69,7 @@ fn has_at(card: &Card, column: usize, indicator: &[u8]) -> bool {
 }
 
 /// Whether a condition of a card tests an indicator.
-fn asks(card: &Card, indicator: &[u8]) -> bool {
+fn tests(card: &Card, indicator: &[u8]) -> bool {
     !card.is_comment()
         && match card.form() {
             b'C' => has_at(card, 10, indicator)
@@ -169,7 +169,7 @@ fn take_out(editor: &mut Editor, view: &View, form_use: &FormUse, keeps_forms: b
     match reason(form_use, form, keeps_forms) {
         Some(why) => editor.refuse(seen.number, why),
         None => {
-            editor.tell(seen.number, removal(form));
+            editor.report(seen.number, removal(form));
             editor.remove(seen.at, seen.number);
             blank_references(editor, view, seen.number);
         }

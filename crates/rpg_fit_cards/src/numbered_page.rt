@@ -100,7 +100,7 @@ fn reject_second(editor: &mut Editor, view: &View, counter: &[u8], other: &[u8])
 /// Turns a counter into PAGE wherever it is used, except as a label or a subroutine.
 fn become_page(editor: &mut Editor, view: &View, counter: &[u8]) {
     if let Some(first) = first_with(view, counter) {
-        editor.tell(first, Sentence::about("% is PAGE now", Word::of(counter)));
+        editor.report(first, Sentence::about("% is PAGE now", Word::of(counter)));
         rename(editor, view, counter, b"PAGE", first);
     }
 }

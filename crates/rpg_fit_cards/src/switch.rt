@@ -17,7 +17,7 @@ use std::alloc::Global;
 pub fn switches(alloc: Global, editor: &mut Editor, switches: &Switches) -> Result<(), RuleStop> {
     let view = editor.view(alloc)?;
     reject_results(editor, &view);
-    if !editor.goes_on() {
+    if !editor.continues() {
         return Ok(());
     }
     decide_conditions(editor, &view, switches);
@@ -97,9 +97,9 @@ fn decided(card: &Card, first: usize, switches: &Switches) -> Option<Word> {
         let column = first.saturating_add(place.saturating_mul(3));
         let condition = card.columns(column, column.saturating_add(2));
         match switch_of(condition) {
-            Some(asked) => {
+            Some(tested) => {
                 is_decided = true;
-                conditions.push_all(decision(switches.is_on(asked.number) != asked.is_off));
+                conditions.push_all(decision(switches.is_on(tested.number) != tested.is_off));
             }
             None if is_blank(condition) => {}
             None => conditions.push_all(condition),
@@ -145,7 +145,7 @@ fn decide_file(editor: &mut Editor, outputs: &[OutputCard], file: &Seen, switche
         } else {
             reject_lines(editor, outputs, file);
         }
-        if !editor.goes_on() {
+        if !editor.continues() {
             return;
         }
         drop_lines(editor, outputs, file);

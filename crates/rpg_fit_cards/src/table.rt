@@ -93,7 +93,7 @@ fn put_data(
     let mut parts = Parts::of(alloc, view);
     parts.starts.check()?;
     for seen in &view.cards {
-        if is_card(seen, b'E') && editor.goes_on() {
+        if is_card(seen, b'E') && editor.continues() {
             put_table(alloc, editor, settings, &mut parts, seen)?;
         }
     }
@@ -213,7 +213,7 @@ fn take_over(editor: &mut Editor, shape: &TableShape, records: usize, seen: &See
 /// Removes table files, unless a card was rejected.
 fn drop_files(editor: &mut Editor, view: &View, with: usize) {
     for seen in &view.cards {
-        if is_card(seen, b'F') && editor.goes_on() {
+        if is_card(seen, b'F') && editor.continues() {
             drop_file(editor, seen, with);
         }
     }
@@ -222,7 +222,7 @@ fn drop_files(editor: &mut Editor, view: &View, with: usize) {
 /// Removes the F card of a table file, and blanks the letter on others that refers to E cards.
 fn drop_file(editor: &mut Editor, file: &Seen, with: usize) {
     if matches!(file.card.columns(15, 16), b"IT") {
-        editor.tell(file.number, Sentence::of("a table file, taken out"));
+        editor.report(file.number, Sentence::of("a table file, taken out"));
         editor.remove(file.at, file.number);
     } else if file.card.column(39) == b'E' {
         Draft::of(file).follow(editor, 39, 39, &[], with);

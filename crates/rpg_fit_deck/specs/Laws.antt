@@ -4,7 +4,7 @@ use Rattle.std.specs.List.{flat_map}
 use Rattle.std.specs.Str.Lines.{lines}
 use Rattle.rpg_text.specs.Lines.{with_line_feed}
 use Rattle.rpg_fit_deck.specs.declared.fitted.Fitted.{Fitted}
-use Rattle.rpg_fit_deck.specs.New.{new_cards, nothing_told, rewritten, untold, IsPart}
+use Rattle.rpg_fit_deck.specs.New.{new_cards, nothing_reported, rewritten, unreported, IsPart}
 
 -- NEW's cards if there is a sentence
 abbrev pub cards_of_new : List ℕ → Fitted → List (List ℕ)
@@ -14,12 +14,12 @@ cards_of_new source f = rewritten (lines source) f.slots.items f.end.items
 abbrev pub IsFitted : List ℕ → Fitted → Type 0
 IsFitted source f =
     -- no sentence, no change
-    (nothing_told f.slots.items ≡ true → f.new.items ≡ source)
-    × (nothing_told f.slots.items ≡ false → f.new.items ≡ flat_map with_line_feed (cards_of_new source f))
+    (nothing_reported f.slots.items ≡ true → f.new.items ≡ source)
+    × (nothing_reported f.slots.items ≡ false → f.new.items ≡ flat_map with_line_feed (cards_of_new source f))
     -- cards without a sentence keep their bytes and their order
-    × IsPart (untold (lines source) f.slots.items) (new_cards (lines source) f.slots.items)
+    × IsPart (unreported (lines source) f.slots.items) (new_cards (lines source) f.slots.items)
     -- at most 2,000 cards
-    × (nothing_told f.slots.items ≡ false → length (cards_of_new source f) ≤ 2000)
+    × (nothing_reported f.slots.items ≡ false → length (cards_of_new source f) ≤ 2000)
     × (f.cards ≤ 2000)
-    -- cards with a sentence are those of the source: Fitted::told answers for 1 to this number alone
+    -- cards with a sentence are those of the source: Fitted::remarks answers for 1 to this number alone
     × (f.cards ≡ length (lines source))

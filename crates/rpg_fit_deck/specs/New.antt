@@ -33,18 +33,18 @@ abbrev pub rewritten_text : List (List ℕ) → List Slot → List Made → List
 rewritten_text cards slots end = flat_map with_line_feed (rewritten cards slots end)
 
 -- nothing has been noted at a card
-abbrev pub is_untold : Slot → Bool
-is_untold slot = vec_len slot.told == 0
+abbrev pub is_unreported : Slot → Bool
+is_unreported slot = vec_len slot.remarks == 0
 
 -- nothing has been noted at any card
-abbrev pub nothing_told : List Slot → Bool
-nothing_told slots = list_all is_untold slots
+abbrev pub nothing_reported : List Slot → Bool
+nothing_reported slots = list_all is_unreported slots
 
 -- the cards without a sentence
-abbrev pub untold : List (List ℕ) → List Slot → List (List ℕ)
-untold [] _ = []
-untold (card ∷ cards) [] = card ∷ untold cards []
-untold (card ∷ cards) (slot ∷ slots) = if is_untold slot then card ∷ untold cards slots else untold cards slots
+abbrev pub unreported : List (List ℕ) → List Slot → List (List ℕ)
+unreported [] _ = []
+unreported (card ∷ cards) [] = card ∷ unreported cards []
+unreported (card ∷ cards) (slot ∷ slots) = if is_unreported slot then card ∷ unreported cards slots else unreported cards slots
 
 -- some of a list's members, in their order
 abbrev pub IsPart : List (List ℕ) → List (List ℕ) → Type 0
@@ -53,5 +53,5 @@ IsPart (x ∷ xs) [] = ⊥
 IsPart (x ∷ xs) (y ∷ ys) = ((x ≡ y) × IsPart xs ys) ⊎ IsPart (x ∷ xs) ys
 
 -- cards without a sentence keep their bytes and their order
-abbrev pub KeepsUntold : Type 0
-KeepsUntold = (cards : List (List ℕ)) (slots : List Slot) → IsPart (untold cards slots) (new_cards cards slots)
+abbrev pub KeepsUnreported : Type 0
+KeepsUnreported = (cards : List (List ℕ)) (slots : List Slot) → IsPart (unreported cards slots) (new_cards cards slots)

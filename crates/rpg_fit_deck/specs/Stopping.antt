@@ -7,7 +7,7 @@ use Rattle.rpg_fit_deck.specs.declared.sentence.Refusal.{Refusal}
 use Rattle.rpg_fit_deck.specs.declared.sentence.Sentence.{Sentence}
 use Rattle.rpg_fit_deck.specs.declared.stopped.Stopped.{Stopped}
 use Rattle.rpg_fit_deck.specs.declared.stopped.Stopped.TheVariants.{Refused, TooMany, NoMemory}
-use Rattle.rpg_fit_deck.specs.New.{nothing_told}
+use Rattle.rpg_fit_deck.specs.New.{nothing_reported}
 
 -- the first refusal of the deck by a rule
 abbrev pub refusal_of : Editor → Option Refusal
@@ -31,7 +31,7 @@ StaysStopped old new = (refusal_of new ≡ refusal_of old) × (has_run_out old �
 
 -- a deck that no rule has seen
 abbrev pub IsSource : List ℕ → Editor → Type 0
-IsSource source editor = (map (λ line. line.now) editor.lines.items ≡ lines source) × (nothing_told editor.slots.items ≡ true) × (may_continue editor ≡ true)
+IsSource source editor = (map (λ line. line.now) editor.lines.items ≡ lines source) × (nothing_reported editor.slots.items ≡ true) × (may_continue editor ≡ true)
 
 -- the new deck is what an editor has
 abbrev pub IsOf : Editor → Fitted → Type 0

@@ -1,7 +1,7 @@
 //! The only way to change a deck.
 
 ghost use Rattle.std.specs.Prelude.{◌≡◌, true, Some, None, IfErr, IfOk, OnOk, unwrap_or};
-ghost use Rattle.rpg_fit_deck.specs.New.{nothing_told};
+ghost use Rattle.rpg_fit_deck.specs.New.{nothing_reported};
 ghost use Rattle.rpg_fit_deck.specs.Laws.{IsFitted};
 ghost use Rattle.rpg_fit_deck.specs.Stopping.{IsOf, IsSource, StaysStopped, StopsFor, may_continue, has_run_out, refusal_for, refusal_of};
 
@@ -9,8 +9,8 @@ use crate::card::Card;
 use crate::fitted::Fitted;
 use crate::here::Here;
 use crate::marks::ends_source;
-use crate::render::{RenderError, cards_that_are_not_told_are_kept, lines_of, render};
-use crate::sentence::{Refusal, Rule, Sentence, Told, What};
+use crate::render::{RenderError, lines_of, render, unreported_cards_are_kept};
+use crate::sentence::{Refusal, Remark, Rule, Sentence, What};
 use crate::slot::{Made, Slot, insert_made, set_made};
 use crate::stopped::Stopped;
 use crate::view::{Address, View};
@@ -60,7 +60,7 @@ impl<'a> Editor<'a> {
     }
 
     /// Whether to continue: memory hasn't run out, and no rule rejected the deck.
-    pub fn goes_on(&self) -> bool
+    pub fn continues(&self) -> bool
         ensures { result ≡ may_continue self.now }
     {
         self.refusal.is_none() && !self.ran_out
@@ -94,15 +94,15 @@ impl<'a> Editor<'a> {
     }
 
     /// Reports a change of a card of the source by a sentence.
-    pub fn tell(&mut self, card: usize, sentence: Sentence)
+    pub fn report(&mut self, card: usize, sentence: Sentence)
         ensures { StaysStopped self.old self.new }
     {
-        let told = Told {
+        let remarks = Remark {
             rule: self.rule,
             what: What::Change(sentence),
         };
         let outcome = match self.slots.get_mut(card.saturating_sub(1)) {
-            Some(slot) => slot.tell(told),
+            Some(slot) => slot.report(remarks),
             None => Ok(()),
         };
         self.keep(outcome);
@@ -239,7 +239,7 @@ fn finished(
     ensures its_own { IfOk result (λ fitted. (fitted.slots ≡ slots) × (fitted.end ≡ end)) }
     ensures stopped { IfErr result (λ why. StopsFor None why) }
 {
-    cards_that_are_not_told_are_kept();
+    unreported_cards_are_kept();
     match render(alloc, source, slots.as_slice(), end.as_slice()) {
         Ok(done) => Ok(Fitted {
             slots,
@@ -254,7 +254,7 @@ fn finished(
 
 /// Returns slots for `count` cards, all unchanged.
 fn slots_as_they_are(alloc: Global, count: usize) -> Result<Vec<Slot>, AllocError>
-    ensures { IfOk result (λ slots. nothing_told slots.items ≡ true) }
+    ensures { IfOk result (λ slots. nothing_reported slots.items ≡ true) }
 {
     let mut slots = Vec::with_capacity(alloc, count)?;
     'slots: for _ in 0..count {

@@ -4,7 +4,7 @@ ghost use Rattle.std.specs.Prelude.{◌<◌, ◌≤◌, length};
 
 use crate::card::Card;
 use crate::here::Here;
-use crate::sentence::Told;
+use crate::sentence::Remark;
 use crate::slot::{Made, Slot};
 
 /// A rewritten deck: the new deck, and the sentences about the source's cards.
@@ -21,14 +21,14 @@ pub struct Fitted {
 
 impl Fitted {
     /// Returns the sentences about a card of the source, counted from 1.
-    pub fn told(&self, card: usize) -> &[Told]
+    pub fn remarks(&self, card: usize) -> &[Remark]
         ensures { 0 < length result.now → (0 < card) × (card ≤ self.now.cards) }
     {
         if card == 0 || card > self.cards {
             return &[];
         }
         match self.slots.get(card - 1) {
-            Some(slot) => slot.told.as_slice(),
+            Some(slot) => slot.remarks.as_slice(),
             None => &[],
         }
     }

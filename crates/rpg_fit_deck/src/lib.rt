@@ -17,7 +17,7 @@ mod word;
 pub use card::Card;
 pub use editor::Editor;
 pub use fitted::Fitted;
-pub use sentence::{Refusal, Rule, Sentence, Told, What};
+pub use sentence::{Refusal, Remark, Rule, Sentence, What};
 pub use stopped::Stopped;
 pub use view::{Address, Seen, View};
 pub use word::Word;

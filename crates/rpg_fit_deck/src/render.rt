@@ -4,7 +4,7 @@ ghost use Rattle.std.specs.Prelude.{◌≡◌, ◌++◌, ◌≤◌, length, map,
 ghost use Rattle.std.specs.List.{flat_map};
 ghost use Rattle.std.specs.Str.Lines.{lines};
 ghost use Rattle.rpg_text.specs.Lines.{with_line_feed};
-ghost use Rattle.rpg_fit_deck.specs.New.{KeepsUntold, lines_here, made_lines, new_cards, nothing_told, rewritten, rewritten_text};
+ghost use Rattle.rpg_fit_deck.specs.New.{KeepsUnreported, lines_here, made_lines, new_cards, nothing_reported, rewritten, rewritten_text};
 
 use crate::here::Here;
 use crate::slot::{Made, Slot};
@@ -43,10 +43,10 @@ pub(crate) fn lines_of<'a>(alloc: Global, source: &'a [u8]) -> Result<Vec<&'a [u
 }
 
 /// Whether no sentence names a card.
-fn is_nothing_told(slots: &[Slot]) -> bool
-    ensures { result ≡ nothing_told slots.now }
+fn reports_nothing(slots: &[Slot]) -> bool
+    ensures { result ≡ nothing_reported slots.now }
 {
-    slots.iter().all(|slot| slot.told.is_empty())
+    slots.iter().all(|slot| slot.remarks.is_empty())
 }
 
 fn push_made<'b>(cards: &mut Vec<&'b [u8]>, made: &'b [Made]) -> Result<(), AllocError>
@@ -122,9 +122,9 @@ pub(crate) fn render<'b>(
     slots: &'b [Slot],
     end: &'b [Made],
 ) -> Result<Rendered, RenderError>
-    ensures as_it_was { IfOk result (λ done. nothing_told slots.now ≡ true → done.new.items ≡ source.now) }
-    ensures its_cards { IfOk result (λ done. nothing_told slots.now ≡ false → done.new.items ≡ rewritten_text (lines source.now) slots.now end.now) }
-    ensures few_cards { IfOk result (λ done. nothing_told slots.now ≡ false → length (rewritten (lines source.now) slots.now end.now) ≤ 2000) }
+    ensures as_it_was { IfOk result (λ done. nothing_reported slots.now ≡ true → done.new.items ≡ source.now) }
+    ensures its_cards { IfOk result (λ done. nothing_reported slots.now ≡ false → done.new.items ≡ rewritten_text (lines source.now) slots.now end.now) }
+    ensures few_cards { IfOk result (λ done. nothing_reported slots.now ≡ false → length (rewritten (lines source.now) slots.now end.now) ≤ 2000) }
     ensures cards { IfOk result (λ done. done.cards ≡ length (lines source.now)) }
     ensures few { IfOk result (λ done. done.cards ≤ 2000) }
 {
@@ -133,7 +133,7 @@ pub(crate) fn render<'b>(
     if cards > MOST_CARDS {
         return Err(RenderError::TooMany);
     }
-    if is_nothing_told(slots) {
+    if reports_nothing(slots) {
         let new = Vec::from_slice(alloc, source)?;
         return Ok(Rendered { new, cards });
     }
@@ -160,6 +160,6 @@ fn new_text<'b>(
 }
 
 /// A law of the definition: cards that no sentence names keep their bytes and their order. Does nothing.
-pub(crate) fn cards_that_are_not_told_are_kept()
-    ensures { KeepsUntold }
+pub(crate) fn unreported_cards_are_kept()
+    ensures { KeepsUnreported }
 {}

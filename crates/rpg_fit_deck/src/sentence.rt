@@ -78,7 +78,7 @@ impl Sentence {
 
 /// A sentence about a card: its change, or that it is part of another's.
 #[derive(Clone, Copy)]
-pub struct Told {
+pub struct Remark {
     pub rule: Rule,
     pub what: What,
 }

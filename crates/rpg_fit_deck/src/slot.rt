@@ -5,7 +5,7 @@ ghost use Rattle.rpg_fit_deck.specs.Kept.{is_kept};
 
 use crate::card::Card;
 use crate::here::Here;
-use crate::sentence::{Rule, Told, What};
+use crate::sentence::{Remark, Rule, What};
 use std::alloc::{AllocError, Global};
 
 /// A card that a rule inserted.
@@ -23,33 +23,33 @@ pub(crate) struct Made {
 pub(crate) struct Slot {
     pub before: Vec<Made>,
     pub here: Here,
-    pub told: Vec<Told>,
-    ghost told_if_changed: { vec_len told ≡ 0 → is_kept here ≡ true },
+    pub remarks: Vec<Remark>,
+    ghost reported_if_changed: { vec_len remarks ≡ 0 → is_kept here ≡ true },
 }
 
 impl Slot {
     /// Returns the slot of an unchanged card.
     pub fn new(alloc: Global) -> Slot
-        ensures { vec_len result.told ≡ 0 }
+        ensures { vec_len result.remarks ≡ 0 }
     {
         Slot {
             before: Vec::new(alloc),
             here: Here::Kept,
-            told: Vec::new(alloc),
+            remarks: Vec::new(alloc),
         }
     }
 
     /// Adds a sentence about the card.
-    pub fn tell(&mut self, told: Told) -> Result<(), AllocError> {
-        self.told.push(told)?;
+    pub fn report(&mut self, remarks: Remark) -> Result<(), AllocError> {
+        self.remarks.push(remarks)?;
         Ok(())
     }
 
     /// Returns how many changes of the card have a sentence.
     pub fn changes(&self) -> usize {
         let mut changes: usize = 0;
-        for told in &self.told {
-            if matches!(told.what, What::Change(_)) {
+        for remarks in &self.remarks {
+            if matches!(remarks.what, What::Change(_)) {
                 changes = changes.saturating_add(1);
             }
         }
@@ -72,9 +72,9 @@ impl Slot {
     }
 
     /// Whether a rule has a sentence about the card.
-    fn is_told_by(&self, rule: Rule) -> bool {
-        for told in &self.told {
-            if told.rule.number() == rule.number() {
+    fn is_reported_by(&self, rule: Rule) -> bool {
+        for remarks in &self.remarks {
+            if remarks.rule.number() == rule.number() {
                 return true;
             }
         }
@@ -82,9 +82,9 @@ impl Slot {
     }
 
     /// Notes that the card is part of another one's change, unless the rule has a sentence about it.
-    pub fn tell_with(&mut self, rule: Rule, with: usize) -> Result<(), AllocError> {
-        if !self.is_told_by(rule) || self.told.is_empty() {
-            self.told.push(Told {
+    pub fn report_with(&mut self, rule: Rule, with: usize) -> Result<(), AllocError> {
+        if !self.is_reported_by(rule) || self.remarks.is_empty() {
+            self.remarks.push(Remark {
                 rule,
                 what: What::With(with),
             })?;
@@ -94,8 +94,8 @@ impl Slot {
 
     /// Replaces the card.
     pub fn set(&mut self, here: Here, rule: Rule, with: usize) -> Result<(), AllocError> {
-        self.tell_with(rule, with)?;
-        if !self.told.is_empty() {
+        self.report_with(rule, with)?;
+        if !self.remarks.is_empty() {
             self.here = here;
         }
         Ok(())
@@ -114,7 +114,7 @@ impl Slot {
         rule: Rule,
         with: usize,
     ) -> Result<(), AllocError> {
-        self.tell_with(rule, with)?;
+        self.report_with(rule, with)?;
         insert_made(&mut self.before, id, made)
     }
 }

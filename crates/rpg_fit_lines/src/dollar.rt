@@ -54,7 +54,7 @@ fn code_field(editor: &mut Editor, view: &View, field: &Seen) -> Result<(), Rule
 fn put_code(editor: &mut Editor, field: &Seen, code: u8) {
     let card = field.card.with(38, 38, &[code]).with(45, 70, b"'$'");
     editor.change(field.at, card, field.number);
-    editor.tell(
+    editor.report(
         field.number,
         Sentence::about("the $ that floats is that of code %", Word::of(&[code])),
     );

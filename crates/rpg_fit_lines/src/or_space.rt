@@ -130,7 +130,7 @@ impl Split<'_> {
         let lines = self.push_lines(alloc, &mut cards, parts)?;
         put_cards(editor, self.line.head.at, cards.checked()?, self.card);
         self.line.remove(editor, self.card);
-        editor.tell(self.card, told(lines));
+        editor.report(self.card, remark(lines));
         Ok(())
     }
 
@@ -255,8 +255,8 @@ impl Split<'_> {
     }
 
     /// Rejects an alternative that would test overflow, or is one too many: an earlier line may turn overflow on.
-    fn check(&self, asked: Indicator, alternatives: usize) -> Result<(), RuleStop> {
-        if !self.overflow.is_blank() && asked == self.overflow {
+    fn check(&self, tested: Indicator, alternatives: usize) -> Result<(), RuleStop> {
+        if !self.overflow.is_blank() && tested == self.overflow {
             let why = "an earlier alternative asks for overflow";
             return Err(RuleStop::because(self.card, why));
         }
@@ -268,7 +268,7 @@ impl Split<'_> {
 }
 
 /// Returns the sentence about `lines` lines that replace one.
-fn told(lines: usize) -> Sentence {
+fn remark(lines: usize) -> Sentence {
     if lines == 1 {
         Sentence::of("one line is left: its other alternatives never hold without an earlier one")
     } else {
@@ -281,8 +281,8 @@ fn blank_spaces(editor: &mut Editor, line: &Line) {
     for seen in line.more.iter() {
         if has_spaces(seen) {
             editor.change(seen.at, seen.card.with(17, 22, &[]), seen.number);
-            let told = Sentence::of("17 to 22 blanked: they are the line's");
-            editor.tell(seen.number, told);
+            let remark = Sentence::of("17 to 22 blanked: they are the line's");
+            editor.report(seen.number, remark);
         }
     }
 }

@@ -64,12 +64,15 @@ impl Before {
         self.copy_all(editor, place, copies)?;
         self.highest = end_on(&place.card);
         editor.remove(place.at, place.number);
-        let told = if copies == 1 {
+        let remark = if copies == 1 {
             "*PLACE: % field once more"
         } else {
             "*PLACE: % fields once more"
         };
-        editor.tell(place.number, Sentence::about(told, Word::of_number(copies)));
+        editor.report(
+            place.number,
+            Sentence::about(remark, Word::of_number(copies)),
+        );
         Ok(())
     }
 

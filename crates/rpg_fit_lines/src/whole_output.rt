@@ -105,9 +105,9 @@ fn spread(editor: &mut Editor, field: &Seen, name: Word, row: Row) {
 
 /// Returns the field of an entry.
 fn entry_card(field: &Seen, name: Word, row: Row, number: usize) -> NewCard {
-    let put_out = entry(name, Word::of_number(number));
+    let entry_to_print = entry(name, Word::of_number(number));
     NewCard::copy(field)
-        .with(32, 37, put_out.text())
+        .with(32, 37, entry_to_print.text())
         .with_number(40, 43, row.end_of(number))
 }
 
@@ -185,12 +185,12 @@ impl Arrays<'_> {
                 new,
             });
         }
-        let told = if array.entries == 1 {
+        let remark = if array.entries == 1 {
             "%: % field"
         } else {
             "%: % fields"
         };
-        editor.tell(field.number, Sentence::of_two(told, name, entries));
+        editor.report(field.number, Sentence::of_two(remark, name, entries));
         Ok(new)
     }
 }

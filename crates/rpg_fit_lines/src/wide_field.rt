@@ -51,7 +51,7 @@ struct CopyAt {
 
 /// When a line is printed.
 #[derive(Clone, Copy)]
-pub(crate) struct PutOut {
+pub(crate) struct PrintTime {
     pub time: Time,
     /// Whether the line has an alternative for overflow.
     pub has_overflow: bool,
@@ -84,7 +84,7 @@ impl WideFields {
         alloc: Global,
         editor: &mut Editor,
         number: ShortNumber,
-        when: PutOut,
+        when: PrintTime,
     ) -> Result<Word, RuleStop> {
         let name = match self.find(number) {
             Some(name) => name,
@@ -118,7 +118,7 @@ impl WideFields {
         alloc: Global,
         editor: &mut Editor,
         number: ShortNumber,
-        when: PutOut,
+        when: PrintTime,
     ) -> Result<Word, RuleStop> {
         let name = fresh_name(&editor.view(alloc)?, b"W#", number.field.number)?;
         if when.time == Time::Exception && !has_exception(alloc, editor)? {

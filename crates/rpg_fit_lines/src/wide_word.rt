@@ -2,7 +2,7 @@
 
 use crate::dollar::has_word;
 use crate::field::{constant_on, name_on};
-use crate::wide_field::{PutOut, WideFields};
+use crate::wide_field::{PrintTime, WideFields};
 use crate::word_form::WordForm;
 use rpg_fit_deck::{Editor, Seen, Sentence, View, Word};
 use rpg_fit_words::{
@@ -172,7 +172,7 @@ impl Deck<'_> {
         at: LineAt,
         number: ShortNumber,
     ) -> Result<(), RuleStop> {
-        let when = PutOut {
+        let when = PrintTime {
             time: at.line.time,
             has_overflow: has_overflow(self.printer, at.line),
         };
@@ -184,11 +184,11 @@ impl Deck<'_> {
         }
         let card = field.card.with(39, 39, &[]).with(32, 37, name.text());
         editor.change(field.at, card, field.number);
-        let told = "% is printed from %, which has % digits, one for each place of its word";
+        let remark = "% is printed from %, which has % digits, one for each place of its word";
         let places = Word::of_number(number.places);
-        editor.tell(
+        editor.report(
             field.number,
-            Sentence::of_three(told, number.name, name, places),
+            Sentence::of_three(remark, number.name, name, places),
         );
         Ok(())
     }

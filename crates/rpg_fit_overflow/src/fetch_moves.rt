@@ -48,7 +48,7 @@ impl Moves<'_> {
         let mut made = self.begin(alloc)?;
         let copied = self.make_all(alloc, editor, &mut made)?;
         self.put_tail(alloc, editor, &made)?;
-        editor.tell(self.card, told(made.moved, copied));
+        editor.report(self.card, remark(made.moved, copied));
         Ok(())
     }
 
@@ -127,7 +127,7 @@ impl Moves<'_> {
             self.push_done(&mut steps);
         }
         self.move_lines(alloc, editor, made, &mut steps)?;
-        steps.put_out(self.card);
+        steps.print_lines(self.card);
         insert_at(alloc, editor, part.end(), steps.cards.checked()?, self.card)
     }
 
@@ -191,7 +191,7 @@ impl Moves<'_> {
             return Ok(());
         }
         if fetches(line) {
-            steps.put_out(self.card);
+            steps.print_lines(self.card);
             self.push_fetch(alloc, steps, made.at_overflow, later)?;
         }
         let flag = self.flag(made, steps, line)?;
@@ -222,9 +222,9 @@ impl Moves<'_> {
     ) -> Result<(), RuleStop> {
         let level = steps.part.level();
         let on = Calculation::of(b"SETON").high(flag).made_of(self.card);
-        let asked = with_term(alloc, conditions, Term::on(self.indicator));
+        let tested = with_term(alloc, conditions, Term::on(self.indicator));
         steps.push(Calculation::of(b"SETOF").high(flag), self.card);
-        push_conditioned(&mut steps.cards, level, asked.checked()?, on)?;
+        push_conditioned(&mut steps.cards, level, tested.checked()?, on)?;
         steps.push(Calculation::of(b"EXCPT").when(flag), self.card);
         steps.push(
             Calculation::of(b"SETOF")
@@ -298,7 +298,7 @@ impl Moves<'_> {
 }
 
 /// Returns the sentence about lines that were moved and copied.
-fn told(moved: usize, copied: usize) -> Sentence {
+fn remark(moved: usize, copied: usize) -> Sentence {
     Sentence::of_two(
         "fetch: lines put out by EXCPT: %; lines of overflow before those that fetch: %",
         Word::of_number(moved),
@@ -327,7 +327,7 @@ impl Steps {
     }
 
     /// Prints the lines since the last fetch.
-    fn put_out(&mut self, card: usize) {
+    fn print_lines(&mut self, card: usize) {
         if let Some(flag) = self.flag {
             self.push(Calculation::of(b"SETON").high(flag), card);
             self.push(Calculation::of(b"EXCPT"), card);

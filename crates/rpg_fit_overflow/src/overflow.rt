@@ -130,9 +130,9 @@ impl Overflow {
     }
 
     /// Whether a condition tests the overflow indicator.
-    pub fn is_asked(&self, condition: &Conjunction) -> bool {
+    pub fn is_tested(&self, condition: &Conjunction) -> bool {
         match self.indicator() {
-            Some(indicator) => condition.asks(indicator),
+            Some(indicator) => condition.tests(indicator),
             None => false,
         }
     }

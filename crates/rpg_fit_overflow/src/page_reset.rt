@@ -142,17 +142,17 @@ impl Deck<'_> {
 
     /// Rejects PAGE if its line, other than at overflow, or its own conditions test overflow.
     fn check_overflow(&self, page: PageField) -> Result<(), RuleStop> {
-        if self.asks_normally(page.line) || self.overflow.is_asked(&page.own()) {
+        if self.tests_normally(page.line) || self.overflow.is_tested(&page.own()) {
             return refused(page, "overflow is asked for beside PAGE under conditions");
         }
         Ok(())
     }
 
     /// Whether an alternative of a line, other than for overflow, tests overflow.
-    fn asks_normally(&self, line: &Line) -> bool {
+    fn tests_normally(&self, line: &Line) -> bool {
         for alternative in line.alternatives.iter() {
             let condition = &alternative.condition;
-            if !self.overflow.is_output(line, condition) && self.overflow.is_asked(condition) {
+            if !self.overflow.is_output(line, condition) && self.overflow.is_tested(condition) {
                 return true;
             }
         }
@@ -264,7 +264,7 @@ impl Deck<'_> {
             reset_at_overflow(alloc, editor, self.view, marks, conditions, card)?;
         }
         editor.change(page.field.at, page.field.card.with(23, 31, &[]), card);
-        editor.tell(
+        editor.report(
             card,
             Sentence::about(
                 "PAGE is set back to 0 by calculations, before it is printed under %",

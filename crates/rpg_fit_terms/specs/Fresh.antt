@@ -10,8 +10,8 @@ abbrev pub digit : ℕ → ℕ
 digit n = 48 + n % 10
 
 -- the digits of a number below 10,000, without zeros in front; none for 0
-abbrev pub digits_of : ℕ → List ℕ
-digits_of n =
+abbrev pub suffix_of : ℕ → List ℕ
+suffix_of n =
     if n == 0 then []
     else (if nat_lt n 10 then digit n ∷ []
     else (if nat_lt n 100 then digit (n / 10) ∷ digit n ∷ []
@@ -20,7 +20,7 @@ digits_of n =
 
 -- the name of a number: as much of the stem as there is room for before the digits, and the digits
 abbrev pub candidate : List ℕ → ℕ → ℕ → List ℕ
-candidate stem room n = cut (take (room - length (digits_of n)) stem ++ digits_of n)
+candidate stem room n = cut (take (room - length (suffix_of n)) stem ++ suffix_of n)
 
 -- a name that a card has, or that is predefined
 abbrev pub is_taken : View → List ℕ → Bool
@@ -28,7 +28,7 @@ is_taken view name = is_reserved name || is_name_used view name
 
 -- the name of a number is taken, if a character of the stem has room in it
 abbrev pub NameIsTaken : View → List ℕ → ℕ → ℕ → Type 0
-NameIsTaken view stem room n = length (digits_of n) < room → is_taken view (candidate stem room n) ≡ true
+NameIsTaken view stem room n = length (suffix_of n) < room → is_taken view (candidate stem room n) ≡ true
 
 -- so are those of all numbers from one on
 abbrev pub AllTaken : View → List ℕ → ℕ → ℕ → Type 0

@@ -174,7 +174,7 @@ impl Conjunction {
     }
 
     /// Whether it tests an indicator, on or off.
-    pub fn asks(&self, indicator: Indicator) -> bool {
+    pub fn tests(&self, indicator: Indicator) -> bool {
         for one in self.terms() {
             if one.indicator == indicator {
                 return true;

@@ -2,7 +2,7 @@
 
 ghost use Rattle.std.specs.Prelude.{◌≡◌, ◌<◌, false, [], ◌∷◌, ◌++◌, true, All, IfNone, IfOk, IfSome, OnErr, is_some, nat_lt, length, take};
 ghost use Rattle.rpg_fit_deck.specs.Words.{cut, word_text};
-ghost use Rattle.rpg_fit_terms.specs.Fresh.{AllTaken, AreNew, AreTaken, IsTaken, candidate, digit, digits_of, is_taken};
+ghost use Rattle.rpg_fit_terms.specs.Fresh.{AllTaken, AreNew, AreTaken, IsTaken, candidate, digit, suffix_of, is_taken};
 ghost use Rattle.rpg_fit_terms.specs.Names.{is_prefix_used};
 
 use crate::name::{is_name_used, is_prefix_used, is_reserved};
@@ -40,8 +40,8 @@ fn digit(number: usize) -> u8
 }
 
 /// Returns the digits of a number below 10,000, without leading zeros; empty for 0.
-fn digits_of(number: usize) -> Word
-    ensures { word_text result ≡ digits_of number }
+fn suffix_of(number: usize) -> Word
+    ensures { word_text result ≡ suffix_of number }
 {
     let last = digit(number);
     let tens = digit(number / 10);
@@ -92,10 +92,10 @@ impl FreshNames {
     /// Returns the name with a number, or None if no character of the stem fits before its digits.
     #[tactic(auto, using(rpg_fit_deck::proofs::Texts::cut_two))]
     fn name(&self, number: usize) -> Option<Word>
-        ensures room { is_some result ≡ nat_lt (length (digits_of number)) self.now.room }
+        ensures room { is_some result ≡ nat_lt (length (suffix_of number)) self.now.room }
         ensures name { IfSome result (λ name. word_text name ≡ candidate (word_text self.now.stem) self.now.room number) }
     {
-        let digits = digits_of(number);
+        let digits = suffix_of(number);
         let length = digits.text().len();
         if length >= self.room {
             return None;

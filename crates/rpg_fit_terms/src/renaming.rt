@@ -102,7 +102,7 @@ pub fn with_room(
     let view = editor.view(alloc)?;
     let card = card_of(&view, name);
     let new = shorter_name(&view, name, room, card)?;
-    editor.tell(
+    editor.report(
         card,
         Sentence::of_two("% is called %, so that an index has room", old, new),
     );

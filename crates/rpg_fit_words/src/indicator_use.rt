@@ -51,7 +51,7 @@ fn push_three(found: &mut List<IndicatorUse>, seen: &Seen, kind: UseKind, column
 }
 
 /// Appends the indicators that nine columns test, from `column` on.
-fn push_asked(found: &mut List<IndicatorUse>, seen: &Seen, column: usize) {
+fn push_tested(found: &mut List<IndicatorUse>, seen: &Seen, column: usize) {
     for term in Conjunction::at(&seen.card, column).terms() {
         push_use(found, seen, UseKind::Asked, term.indicator);
     }
@@ -72,10 +72,10 @@ fn push_card(found: &mut List<IndicatorUse>, seen: &Seen) {
     match seen.card.form() {
         b'I' => push_input(found, seen),
         b'C' => {
-            push_asked(found, seen, 9);
+            push_tested(found, seen, 9);
             push_three(found, seen, UseKind::Result, 54);
         }
-        b'O' => push_asked(found, seen, 23),
+        b'O' => push_tested(found, seen, 23),
         b'F' => push_use(found, seen, UseKind::Type, Indicator::at(&seen.card, 33)),
         _ => {}
     }

@@ -3,7 +3,7 @@ use Rattle.std.specs.Prelude.{ℕ, ◌++◌, ◌==◌, Bool, true, false, ◌&&�
 use Rattle.std.specs.List.{last_or}
 use Rattle.std.specs.Option.{option_map, option_map_or}
 use Rattle.rpg_cards.specs.Cards.{calculation_on}
-use Rattle.rpg_cards.specs.Deeds.{Acts, Begins, Calculation, Deed, Ends, Executes, GoesTo, Marks, Nothing, PutsOut}
+use Rattle.rpg_cards.specs.Statements.{Acts, Begins, Calculation, Statement, Ends, Executes, GoesTo, Marks, Nothing, WritesExceptions}
 use Rattle.rpg_cards.specs.Keys.{Fixed, Key, Name, Named, Nowhere}
 use Rattle.rpg_cards.specs.declared.constants.Constant.TheVariants as constant
 use Rattle.rpg_cards.specs.declared.spec_card.SpecCard.{SpecCard}
@@ -67,7 +67,7 @@ module _ (k : CalculationSpec) where
   meant_indicators = record { plus = k.resulting_indicators.first; minus = k.resulting_indicators.second; zero = k.resulting_indicators.third }
 
   -- what a C card does, by its operation
-  abbrev pub done_by : Option Operation → Deed Key
+  abbrev pub done_by : Option Operation → Statement Key
   done_by None = Nothing
   done_by (Some op.Add) = Acts (Compute operator.Add k.half_adjust (first_or k.factor_1 k.result_field) (meant_factor k.factor_2) (meant_result k.result_field) meant_indicators)
   done_by (Some op.Subtract) = Acts (Compute operator.Subtract k.half_adjust (first_or k.factor_1 k.result_field) (meant_factor k.factor_2) (meant_result k.result_field) meant_indicators)
@@ -88,7 +88,7 @@ module _ (k : CalculationSpec) where
   done_by (Some op.Label) = Marks (meant_name k.factor_1)
   done_by (Some op.BeginSubroutine) = Begins (meant_name k.factor_1)
   done_by (Some op.EndSubroutine) = Ends (meant_name k.factor_1)
-  done_by (Some op.Except) = PutsOut
+  done_by (Some op.Except) = WritesExceptions
 
 -- ---- conditions
 
@@ -121,21 +121,21 @@ is_or_calculation k = by k.control_level
 
 -- 9-17 of one card, if any are filled
 abbrev pub filled_conditions_on : CalculationSpec → List Conditions
-filled_conditions_on k = asked (meant_conditions k.conditions)
+filled_conditions_on k = tested (meant_conditions k.conditions)
   where
-    asked : List Condition → List Conditions
-    asked [] = []
-    asked (c ∷ cs) = meant_places (c ∷ cs) ∷ []
+    tested : List Condition → List Conditions
+    tested [] = []
+    tested (c ∷ cs) = meant_places (c ∷ cs) ∷ []
 
 -- 9-17 of the cards up to the next OR card
-abbrev pub asked_further : List CalculationSpec → List Conditions
-asked_further [] = []
-asked_further (k ∷ ks) = if is_or_calculation k then [] else filled_conditions_on k ++ asked_further ks
+abbrev pub tested_further : List CalculationSpec → List Conditions
+tested_further [] = []
+tested_further (k ∷ ks) = if is_or_calculation k then [] else filled_conditions_on k ++ tested_further ks
 
 -- each OR card begins an alternative, which the AN cards after it continue
-abbrev pub asked_else : List CalculationSpec → List (List Conditions)
-asked_else [] = []
-asked_else (k ∷ ks) = if is_or_calculation k then (filled_conditions_on k ++ asked_further ks) ∷ asked_else ks else asked_else ks
+abbrev pub tested_else : List CalculationSpec → List (List Conditions)
+tested_else [] = []
+tested_else (k ∷ ks) = if is_or_calculation k then (filled_conditions_on k ++ tested_further ks) ∷ tested_else ks else tested_else ks
 
 -- ---- calculations
 
@@ -149,8 +149,8 @@ abbrev pub meant_calculation : CalculationSpec → List CalculationSpec → Calc
 meant_calculation k joined = record {
   control = k.control_level;
   level = meant_level k.control_level;
-  alternatives = (filled_conditions_on k ++ asked_further joined) ∷ asked_else joined;
-  deed = let last = unwrap_or (last_or None joined) k in done_by last last.operation;
+  alternatives = (filled_conditions_on k ++ tested_further joined) ∷ tested_else joined;
+  statement = let last = unwrap_or (last_or None joined) k in done_by last last.operation;
 }
 
 -- every C card begins a calculation, except an AN or OR card right after another C card

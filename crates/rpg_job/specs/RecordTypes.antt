@@ -10,7 +10,7 @@ use Rattle.rpg_program.specs.Input.{TypeRow}
 use Rattle.rpg_program.specs.declared.input.ControlField.{ControlField}
 use Rattle.rpg_program.specs.declared.input.InputField as moved
 use Rattle.rpg_program.specs.declared.input.InputFile.TheVariants.{Primary, Secondary}
-use Rattle.rpg_program.specs.declared.input.RecordCode as asked
+use Rattle.rpg_program.specs.declared.input.RecordCode as tested
 use Rattle.rpg_sheet_specs.specs.declared.input.InputFieldSpec.{InputFieldSpec}
 use Rattle.rpg_sheet_specs.specs.declared.input.InputSpec.{InputSpec}
 use Rattle.rpg_sheet_specs.specs.declared.input.InputSpec.TheVariants as input
@@ -23,8 +23,8 @@ use Rattle.rpg_job.specs.Files.{is_secondary, the_file_named}
 -- ---- record identification codes: 21-27, 28-34 and 35-41 of the type card and of its AND cards
 
 -- a record code as the machine tests it
-abbrev pub asked_for : RecordCode → asked.RecordCode
-asked_for c = record { position = c.position; is_negated = c.negated; character = c.character }
+abbrev pub tested_for : RecordCode → tested.RecordCode
+tested_for c = record { position = c.position; is_negated = c.negated; character = c.character }
 
 -- those of an AND card
 abbrev pub codes_in : InputSpec → List RecordCode
@@ -71,7 +71,7 @@ module _ (all : List SpecCard) where
   meant_type name t codes fields = record {
     file = if is_from_secondary name all then Secondary else Primary;
     indicator = t.indicator;  -- 19-20
-    codes = map asked_for codes;
+    codes = map tested_for codes;
     levels = filter_map (λ f. option_map (part_of f) f.level) fields;  -- 59-60
     inputs = map move_of fields;
     matches = filter_map (λ f. option_map (part_of f) f.match_level) fields;  -- 61-62

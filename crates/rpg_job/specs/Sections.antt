@@ -1,6 +1,6 @@
 -- The sections of a source: its calculations at detail time, those at total time, and its subroutines. Numbers are the columns of a C card.
 use Rattle.std.specs.Prelude.{◌++◌, Bool, true, false, List, [], ◌∷◌, filter, if◌then◌else◌}
-use Rattle.rpg_cards.specs.Deeds.{Acts, Begins, Calculation, Deed, Ends, Executes, GoesTo, Marks, Nothing, PutsOut}
+use Rattle.rpg_cards.specs.Statements.{Acts, Begins, Calculation, Statement, Ends, Executes, GoesTo, Marks, Nothing, WritesExceptions}
 use Rattle.rpg_cards.specs.Keys.{Key}
 use Rattle.rpg_cards.specs.Sections.{Sections, Subroutine}
 use Rattle.rpg_sheet_specs.specs.declared.calculation.ControlLevel.{ControlLevel}
@@ -35,10 +35,10 @@ has_sr control.Or = false
 -- ---- subroutines: each from the calculation after its BEGSR to the one before the next BEGSR
 
 -- BEGSR
-abbrev pub is_begin : Deed Key → Bool
+abbrev pub is_begin : Statement Key → Bool
 is_begin (Begins name) = true
 is_begin (Acts a) = false
-is_begin PutsOut = false
+is_begin WritesExceptions = false
 is_begin (GoesTo label) = false
 is_begin (Executes name) = false
 is_begin (Marks label) = false
@@ -48,13 +48,13 @@ is_begin Nothing = false
 -- the calculations of a subroutine: those before the next BEGSR
 abbrev pub meant_body : List (Calculation Key) → List (Calculation Key)
 meant_body [] = []
-meant_body (g ∷ gs) = if is_begin g.deed then [] else g ∷ meant_body gs
+meant_body (g ∷ gs) = if is_begin g.statement then [] else g ∷ meant_body gs
 
 -- the subroutine that a calculation begins, if it is a BEGSR, with these after it
-abbrev pub begun_before : List (Calculation Key) → Deed Key → List (Subroutine Key)
+abbrev pub begun_before : List (Calculation Key) → Statement Key → List (Subroutine Key)
 begun_before gs (Begins name) = record { name = name; body = meant_body gs } ∷ []
 begun_before gs (Acts a) = []
-begun_before gs PutsOut = []
+begun_before gs WritesExceptions = []
 begun_before gs (GoesTo label) = []
 begun_before gs (Executes name) = []
 begun_before gs (Marks label) = []
@@ -64,7 +64,7 @@ begun_before gs Nothing = []
 -- the subroutines, each with the calculations after its BEGSR
 abbrev pub meant_subroutines : List (Calculation Key) → List (Subroutine Key)
 meant_subroutines [] = []
-meant_subroutines (g ∷ gs) = begun_before gs g.deed ++ meant_subroutines gs
+meant_subroutines (g ∷ gs) = begun_before gs g.statement ++ meant_subroutines gs
 
 -- ---- all sections, in the order of the cards
 

@@ -43,7 +43,7 @@ use Rattle.rpg_memory.proofs.Keeping.{fits_number, fits_text}
 use Rattle.rpg_machine_operations.proofs.Overlays.{over_length}
 use Rattle.rpg_machine_operations.proofs.Rights.{entries_if}
 use Rattle.rpg_memory.proofs.Values.{form_there, length_low, text_fits, text_is}
-use Rattle.rpg_machine_operations.specs.Good.{AreOperandEntries, FitsPosition, HasPosition, IsRightAction}
+use Rattle.rpg_machine_operations.specs.Valid.{AreOperandEntries, FitsPosition, HasPosition, IsRightAction}
 use Rattle.rpg_memory.specs.Fields.{AreForms, IsValue, reads_index}
 use Rattle.rpg_program.specs.Kept.{IsCharacter}
 
@@ -64,7 +64,7 @@ characters-below text i =
 
 -- ---- what operations do
 
-module _ (forms : List FieldForm) (good : AreForms forms) where
+module _ (forms : List FieldForm) (valid : AreForms forms) where
   store_right : (w : Data nat_cmp) (r : Entry ℕ) (s : Shows) (n : ℤ) → FitsIn forms w → IsValue forms kinds.Number r.field r.position → unsigned_abs n < 10 ^ length_of (form_at forms r.field) →
       EndsRight forms (Gives (store w r s n))
   store_right w r s n fits v low = record { ends = tt; fits = fits_number forms w.fields.values w.fields.current r.field r.position n fits v low }
@@ -117,7 +117,7 @@ module _ (forms : List FieldForm) (good : AreForms forms) where
       let len = length_of (form_at forms r.field) in
       let old = zoned_text len (number_at w r.field r.position) in
       let text = text_over side (characters_at w b.field b.position) old in
-      let long : length text ≡ len = over_length side (characters_at w b.field b.position) old ∙ length-zoned len (number_at w r.field r.position) (length_low forms r.field r.position good vr) in
+      let long : length text ≡ len = over_length side (characters_at w b.field b.position) old ∙ length-zoned len (number_at w r.field r.position) (length_low forms r.field r.position valid vr) in
       or_halt_right (number_in text) 4 w _ fits (λ n is. number_moved w r n fits vr (read_low text len n long is))
   moved_right kinds.Number kinds.Text side w b r fits vb vr =
       let old = text_at w r fits vr in
@@ -131,7 +131,7 @@ module _ (forms : List FieldForm) (good : AreForms forms) where
   index_fits : (i : Index ℕ) (n : ℕ) (w : Data nat_cmp) → reads_index forms i ≡ true → can_hold (form_at forms) i n ≡ true → FitsIn forms w → FitsIn forms (index_set i n w)
   index_fits Blank n w reads holds fits = fits
   index_fits (Literal m) n w reads holds fits = fits
-  index_fits (Field k) n w reads holds fits = fits_number forms w.fields.values w.fields.current k 1 (pos n) fits (index_value forms k good reads) (held forms k n holds)
+  index_fits (Field k) n w reads holds fits = fits_number forms w.fields.values w.fields.current k 1 (pos n) fits (index_value forms k valid reads) (held forms k n holds)
 
   current_by : (b : Bool) (k n : ℕ) (w : Data nat_cmp) → 1 ≤ n → n ≤ entries_of (form_at forms k) → FitsIn forms w → FitsIn forms (cond {A = Data nat_cmp} b (set_current w k n) w)
   current_by true k n w low high fits = fits-current forms w.fields.values w.fields.current k n fits low high
@@ -143,7 +143,7 @@ module _ (forms : List FieldForm) (good : AreForms forms) where
 
   placed_fits : (b : Entry ℕ) (table : Option ℕ) (o : Option Found) (w : Data nat_cmp) → reads_index forms b.index ≡ true → IfSome o (λ f. FitsPosition forms b table f.position) → FitsIn forms w → FitsIn forms (with_found (form_at forms) b table o w)
   unfolding with_found
-  placed_fits b table None w reads h fits = index_fits b.index 1 w reads (first_fits forms b.index good reads) fits
+  placed_fits b table None w reads h fits = index_fits b.index 1 w reads (first_fits forms b.index valid reads) fits
   placed_fits b table (Some f) w reads h fits =
       let n = f.position in
       let one = index_fits b.index n w reads (holds_index forms b table n h) fits in
@@ -180,7 +180,7 @@ module _ (forms : List FieldForm) (good : AreForms forms) where
 
   entries_then : (w : Data nat_cmp) (a : Action (Operand ℕ)) (e : Action (Entry ℕ)) → IsRightAction forms a → FitsIn forms w → resolved (form_at forms) w.fields a ≡ Some e → AreOperandEntries forms e
   entries_then w a e right fits is =
-      subst (λ (x : Option (Action (Entry ℕ))). IfSome x (λ i. AreOperandEntries forms i)) is (entries_if forms w.fields a (resolved (form_at forms) w.fields a) refl good fits right)
+      subst (λ (x : Option (Action (Entry ℕ))). IfSome x (λ i. AreOperandEntries forms i)) is (entries_if forms w.fields a (resolved (form_at forms) w.fields a) refl valid fits right)
 
   pub operate_right : (a : Action (Operand ℕ)) (w : Data nat_cmp) → IsRightAction forms a → FitsIn forms w → EndsRight forms (operate (form_at forms) a w)
   unfolding operate

@@ -5,11 +5,11 @@ use Rattle.std.specs.Ordering.{nat_cmp}
 use Rattle.std.specs.Prelude.{All}
 use Rattle.rpg_paper.specs.Paper.{Position, skipped, spaced, turns_overflow_on}
 use Rattle.rpg_program.specs.Effect.{Effect, Leaves, go_on, unless_wrong}
-use Rattle.rpg_program.specs.Ends.{End, Fault, GoesOn, Halt, Wrong}
+use Rattle.rpg_program.specs.Ends.{End, Fault, Continues, Halt, Wrong}
 use Rattle.rpg_program.specs.Entries.{position_of}
 use Rattle.rpg_program.specs.Forms.{form_at, kind_of}
 use Rattle.rpg_program.specs.LineFaults.{AreRight, field_fault, fits_source}
-use Rattle.rpg_program.specs.Lines.{Draft, Drafted, after_movement, after_skip, after_space, assembled, blank_line, blanked_all, blanked_at, with_page_counted, drafted, exception_output, go_on_with, is_asked, laid, line_out, lines_out, one_out, put_on, put_out, remembered, spaced_before, unless_faulty, where_asked, with_field, with_fields}
+use Rattle.rpg_program.specs.Lines.{Draft, Drafted, after_movement, after_skip, after_space, assembled, blank_line, blanked_all, blanked_at, with_page_counted, drafted, exception_output, go_on_with, is_due, laid, line_out, lines_out, one_out, put_on, write_line_out, remembered, spaced_before, unless_faulty, where_due, with_field, with_fields}
 use Rattle.rpg_program.specs.Showing.{turned_on}
 use Rattle.rpg_program.specs.Values.{Number, Text, Value, number_of}
 use Rattle.rpg_program.specs.World.{Fields, World, three_hold, value_in}
@@ -57,9 +57,9 @@ skip_by overflow line w false = movement_fields overflow (skipped line w.paper.h
 spaced_fields : (overflow : Option ℕ) (skip space : ℕ) (w : World nat_cmp) → (after_space overflow space (after_skip overflow skip w)).data.fields ≡ w.data.fields
 spaced_fields overflow skip space w = movement_fields overflow (spaced space (after_skip overflow skip w).paper.here) (after_skip overflow skip w) ∙ skip_by overflow skip w (eqb skip 0)
 
--- a line is put out, or a record written
+-- a line is output, or a record written
 pub record PutsRight (w : World nat_cmp) (e : Effect nat_cmp) : Type 0 where
-  pub goes : e.ending ≡ GoesOn
+  pub goes : e.ending ≡ Continues
   pub fields : e.world.data.fields ≡ w.data.fields
 
 put_right : (overflow : Option ℕ) (file : File) (s : Spacing) (text : List ℕ) (w : World nat_cmp) → PutsRight w (put_on overflow file s text w)
@@ -119,7 +119,7 @@ module _ (p : Object) (rows : All IsFieldRow p.fields) where
         };
       }
 
-  field_by : (d : Draft nat_cmp) (e : Drafted nat_cmp) (b : Bool) (o : Option Fault) → o ≡ None → DraftsRight d → DraftedRight e → DraftedRight (cond b (unless_faulty o d e) (drafted GoesOn d))
+  field_by : (d : Draft nat_cmp) (e : Drafted nat_cmp) (b : Bool) (o : Option Fault) → o ≡ None → DraftsRight d → DraftedRight e → DraftedRight (cond b (unless_faulty o d e) (drafted Continues d))
   field_by d e true o none h g = subst (λ (x : Option Fault). DraftedRight (unless_faulty x d e)) (sym none) g
   field_by d e false o none h g = record { ends = tt; draft = h }
 
@@ -132,7 +132,7 @@ module _ (p : Object) (rows : All IsFieldRow p.fields) where
       (laid_right d f len (position_of (form_at p.fields) d.fields f.operand) fault there h)
 
   go_right : (x : End) (one : Drafted nat_cmp) (go : Draft nat_cmp → Drafted nat_cmp) → IsNoFault x → DraftedRight one → ((d : Draft nat_cmp) → DraftsRight d → DraftedRight (go d)) → DraftedRight (go_on_with x one go)
-  go_right GoesOn one go ends h next = next one.draft h.draft
+  go_right Continues one go ends h next = next one.draft h.draft
   go_right (Halt k) one go ends h next = h
   go_right (Wrong f) one go ends h next = absurd ends
 
@@ -151,18 +151,18 @@ module _ (p : Object) (rows : All IsFieldRow p.fields) where
   -- ---- lines
 
   then_right : (x : End) (e : Effect nat_cmp) (go : World nat_cmp → Effect nat_cmp) → IsNoFault x → GoesRight p.fields e → ((w : World nat_cmp) → FitsIn p.fields w.data → GoesRight p.fields (go w)) → GoesRight p.fields (go_on x e go)
-  then_right GoesOn e go ends h next = let n = next e.world h.fits in record { ends = n.ends; fits = n.fits }
+  then_right Continues e go ends h next = let n = next e.world h.fits in record { ends = n.ends; fits = n.fits }
   then_right (Halt k) e go ends h next = h
   then_right (Wrong f) e go ends h next = absurd ends
 
-  placed_by : (es : List (ℕ × ℕ)) (fields : Fields nat_cmp) (x : End) (e : Effect nat_cmp) → x ≡ GoesOn → e.world.data.fields ≡ fields → AreFit p.fields (blanked_all es fields) →
+  placed_by : (es : List (ℕ × ℕ)) (fields : Fields nat_cmp) (x : End) (e : Effect nat_cmp) → x ≡ Continues → e.world.data.fields ≡ fields → AreFit p.fields (blanked_all es fields) →
       GoesRight p.fields (go_on x e (λ v. Leaves (with_fields (blanked_all es v.data.fields) v)))
-  placed_by es fields GoesOn e goes same fits = record { ends = tt; fits = subst (λ (g : Fields nat_cmp). AreFit p.fields (blanked_all es g)) (sym same) fits }
+  placed_by es fields Continues e goes same fits = record { ends = tt; fits = subst (λ (g : Fields nat_cmp). AreFit p.fields (blanked_all es g)) (sym same) fits }
   placed_by es fields (Halt k) e goes same fits = cc
   placed_by es fields (Wrong f) e goes same fits = cc
 
-  put_line : (l : LineRow) (w : World nat_cmp) (x : End) (d : Draft nat_cmp) → IsNoFault x → DraftsRight d → GoesRight p.fields (put_out (form_at p.fields) (word_at p) p.overflow (program_line p l) w x d)
-  put_line l w GoesOn d ends h =
+  put_line : (l : LineRow) (w : World nat_cmp) (x : End) (d : Draft nat_cmp) → IsNoFault x → DraftsRight d → GoesRight p.fields (write_line_out (form_at p.fields) (word_at p) p.overflow (program_line p l) w x d)
+  put_line l w Continues d ends h =
       let put = put_right p.overflow l.file l.spacing d.text (with_fields d.fields w) in
       placed_by d.to_blank d.fields _ (put_on p.overflow l.file l.spacing d.text (with_fields d.fields w)) put.goes put.fields (blanked_right d.to_blank d.fields h.blank h.fits)
   put_line l w (Halt k) d ends h = record { ends = tt; fits = h.fits }
@@ -174,17 +174,17 @@ module _ (p : Object) (rows : All IsFieldRow p.fields) where
       let len = file_length p l.file in
       let done = assembled (form_at p.fields) (word_at p) w.data.on len l.fields (blank_line len w) in
       let drafted = assembled_right w.data.on len l.fields (blank_line len w) r.fields (record { fits = fits; blank = λ k x h. absurd (omega arith) }) in
-      subst (λ (o : Option Fault). GoesRight p.fields (unless_wrong o w (put_out (form_at p.fields) (word_at p) p.overflow (program_line p l) w done.ending done.draft))) (sym r.fault)
+      subst (λ (o : Option Fault). GoesRight p.fields (unless_wrong o w (write_line_out (form_at p.fields) (word_at p) p.overflow (program_line p l) w done.ending done.draft))) (sym r.fault)
       (put_line l w done.ending done.draft drafted.ends drafted.draft)
 
-  asked_right : (b : Bool) (e : Effect nat_cmp) (w : World nat_cmp) → FitsIn p.fields w.data → GoesRight p.fields e → GoesRight p.fields (where_asked (form_at p.fields) (word_at p) b e w)
+  asked_right : (b : Bool) (e : Effect nat_cmp) (w : World nat_cmp) → FitsIn p.fields w.data → GoesRight p.fields e → GoesRight p.fields (where_due (form_at p.fields) (word_at p) b e w)
   asked_right true e w fits h = h
   asked_right false e w fits h = record { ends = tt; fits = fits }
 
   one_right : (pass : Pass) (l : LineRow) (w : World nat_cmp) → IsRightLine p l → FitsIn p.fields w.data → GoesRight p.fields (one_out (form_at p.fields) (word_at p) p.overflow pass (program_line p l) w)
   unfolding one_out
   one_right pass l w r fits =
-      asked_right (is_asked p.overflow pass w.data.on l.time l.alternatives) (line_out (form_at p.fields) (word_at p) p.overflow (program_line p l) w) w fits (line_right l w r fits)
+      asked_right (is_due p.overflow pass w.data.on l.time l.alternatives) (line_out (form_at p.fields) (word_at p) p.overflow (program_line p l) w) w fits (line_right l w r fits)
 
   lines_right : (pass : Pass) (ls : List LineRow) (w : World nat_cmp) → All (IsRightLine p) ls → FitsIn p.fields w.data → GoesRight p.fields (lines_out (form_at p.fields) (word_at p) p.overflow pass (map (program_line p) ls) w)
   unfolding lines_out

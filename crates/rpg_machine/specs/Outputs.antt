@@ -37,8 +37,8 @@ output_weight p times.Total = total_weight (lines_of p)
 output_weight p times.Overflow = overflow_weight (lines_of p)
 
 -- the lines of a time are output
-abbrev pub PutsOut : Object → OutputTime → Config → End → Config → Output → Type 0
-PutsOut p time = ByEffect (output_weight p time) (output_effect p time)
+abbrev pub Outputs : Object → OutputTime → Config → End → Config → Output → Type 0
+Outputs p time = ByEffect (output_weight p time) (output_effect p time)
 
 -- the input fields of a type
 abbrev pub input_fields_of : Option (TypeRow ℕ) → List (InputField ℕ)

@@ -4,11 +4,11 @@
 mod accepted;
 mod cells;
 pub mod control;
-mod found_run;
-mod found_steps;
 pub mod laws;
 mod machine;
 mod output;
+mod precomputed_run;
+mod precomputed_steps;
 mod section;
 mod state;
 pub mod time;

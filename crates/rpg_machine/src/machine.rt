@@ -6,7 +6,7 @@ ghost use Rattle.rpg_program.specs.Object.{seen};
 
 use crate::accepted::Accepted;
 use crate::cells::Cells;
-use crate::output::put_out;
+use crate::output::write_line_out;
 use crate::section::run_section;
 use crate::state::{State, Writer};
 use crate::time::OutputTime;
@@ -89,7 +89,7 @@ impl<'a, S: Store + Drop> Machine<'a, S> {
     ghost use Rattle.rpg_program.specs.Ends.{end_of};
     ghost use Rattle.rpg_program.specs.Fronts.{OnlyGrows};
     ghost use Rattle.rpg_machine.specs.Config.{here};
-    ghost use Rattle.rpg_machine.specs.Outputs.{FillsFields, PutsOut, length_at};
+    ghost use Rattle.rpg_machine.specs.Outputs.{FillsFields, Outputs, length_at};
     ghost use Rattle.rpg_machine.specs.Potential.{PaysForSection};
     ghost use Rattle.rpg_machine.specs.Ready.{IsReady};
     ghost use Rattle.rpg_machine.specs.Run.{RunsTo};
@@ -135,7 +135,7 @@ impl<'a, S: Store + Drop> Machine<'a, S> {
         requires section { has_end section ≡ true }
         requires steps { self.old.config.steps < 2 ^ 63 }
         ensures done { IfOk result (λ e. Did (RunsTo self.old.program section) self.old (end_of e) self.new) }
-        ensures ready { IfOk result (λ e. e ≡ End.GoesOn → IsReady self.new) }
+        ensures ready { IfOk result (λ e. e ≡ End.Continues → IsReady self.new) }
         ensures bound { OnOk result (PaysForSection section self.old self.new) }
         ensures grows { OnlyGrows self.old.output self.new.output }
     {
@@ -148,8 +148,8 @@ impl<'a, S: Store + Drop> Machine<'a, S> {
     pub fn output(&mut self, time: OutputTime) -> Result<End, AllocError>
         requires ready { IsReady self.old }
         requires steps { self.old.config.steps < 2 ^ 63 }
-        ensures done { IfOk result (λ e. Did (PutsOut self.old.program time) self.old (end_of e) self.new) }
-        ensures ready { IfOk result (λ e. e ≡ End.GoesOn → IsReady self.new) }
+        ensures done { IfOk result (λ e. Did (Outputs self.old.program time) self.old (end_of e) self.new) }
+        ensures ready { IfOk result (λ e. e ≡ End.Continues → IsReady self.new) }
         ensures grows { OnlyGrows self.old.output self.new.output }
     {
         self.program.is_orderly();
@@ -157,7 +157,7 @@ impl<'a, S: Store + Drop> Machine<'a, S> {
         let state = &mut self.state;
         state.steps += u64::from(weight);
         let plan = self.program.plan();
-        let end = put_out(&mut state.memory, &mut state.writer, time, weight, plan)?;
+        let end = write_line_out(&mut state.memory, &mut state.writer, time, weight, plan)?;
         Ok(end)
     }
 
@@ -170,7 +170,7 @@ impl<'a, S: Store + Drop> Machine<'a, S> {
         requires filled { length text.now ≡ length_at self.old.program row }
         requires characters { All IsCharacter text.now }
         ensures done { Did (FillsFields self.old.program row text.now) self.old (end_of result) self.new }
-        ensures ready { result ≡ End.GoesOn → IsReady self.new }
+        ensures ready { result ≡ End.Continues → IsReady self.new }
     {
         let rows = self.program.rows();
         let inputs = &rows.types[row].inputs;

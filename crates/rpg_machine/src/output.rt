@@ -3,7 +3,7 @@ ghost use Rattle.std.specs.Prelude.{◌≡◌, IfOk, OnOk};
 ghost use Rattle.rpg_program.specs.Ends.{end_of};
 ghost use Rattle.rpg_machine.specs.Outputs as spec;
 ghost use Rattle.rpg_machine.specs.Outputs.{output_weight};
-ghost use Rattle.rpg_machine.specs.Leaving.{CanPutOut, KeepsRoom};
+ghost use Rattle.rpg_machine.specs.Leaving.{CanOutput, KeepsRoom};
 ghost use Rattle.rpg_machine_lines.specs.Outputs.{PutsOwn};
 ghost use Rattle.rpg_machine_lines.specs.Ready.{IsNear};
 ghost use Rattle.rpg_machine_lines.specs.Right.{AreRightLines};
@@ -18,7 +18,7 @@ use std::alloc::AllocError;
 
 /// Outputs the lines of a time, which have this weight. If there are no T lines, total time costs nothing.
 #[tactic(auto, using(rpg_program::proofs::Fronts::grows_not))]
-pub(crate) fn put_out<S: Store + Drop>(
+pub(crate) fn write_line_out<S: Store + Drop>(
     memory: &mut Memory<'_, S>,
     writer: &mut Writer,
     time: OutputTime,
@@ -26,7 +26,7 @@ pub(crate) fn put_out<S: Store + Drop>(
     plan: &Plan,
 ) -> Result<End, AllocError>
     requires lines { AreRightLines memory.old.program }
-    requires can { CanPutOut memory.old writer.old.text.items plan.now }
+    requires can { CanOutput memory.old writer.old.text.items plan.now }
     requires weighed { weight ≡ output_weight memory.old.program time }
     ensures done { IfOk result (λ e. PutsOwn (λ p. spec.output_effect p time) memory.old writer.old.output (end_of e) memory.new writer.new.output) }
     ensures near { OnOk result (IsNear memory.new.world.paper.here) }
@@ -37,7 +37,7 @@ pub(crate) fn put_out<S: Store + Drop>(
     let to_blank = &mut writer.to_blank;
     match time {
         OutputTime::Detail => put_details(memory, output, text, to_blank, plan),
-        OutputTime::Total if weight == 0 => Ok(End::GoesOn),
+        OutputTime::Total if weight == 0 => Ok(End::Continues),
         OutputTime::Total => put_totals(memory, output, text, to_blank, plan),
         OutputTime::Overflow => put_overflow(memory, output, text, to_blank, plan),
     }

@@ -2,7 +2,7 @@
 use Rattle.std.proofs.Common.{◌≡◌, ℕ, ◌+◌, ◌-◌, ◌≤◌, Bool, true, false, not, ◌&&◌, cond, eqb-true, nat_le, leb-true, List, [], ◌∷◌, length, Option, None, Some, refl, sym, ap, ◌∙◌, arith}
 use Rattle.std.specs.Ordering.{nat_cmp}
 use Rattle.rpg_program.specs.Ended.{Ended, ends_with, followed_by, if_right}
-use Rattle.rpg_program.specs.Ends.{Fault, GoesOn, end_of}
+use Rattle.rpg_program.specs.Ends.{Fault, Continues, end_of}
 use Rattle.rpg_program.specs.Forms.{form_at, is_plain, kind_of, length_of}
 use Rattle.rpg_program.specs.Input.{field_in, fits_columns, fits_shows, input_fault, record_in, record_part, value_read}
 use Rattle.rpg_program.specs.World.{Data}
@@ -59,12 +59,12 @@ unfolding input_fault
 fits_field forms len f h = fits_by forms len f (form_at forms f.field) refl (no_fault (fits_columns len f (form_at forms f.field)) (fits_shows (kind_of (form_at forms f.field)) f.shows) _ _ h)
 
 pub value_there : (forms : List FieldForm) (len : ℕ) (f : InputField ℕ) (k : Kind) → AreForms forms → FitsField forms len f → k ≡ kind_of (form_at forms f.field) → IsValue forms k f.field 1
-value_there forms len f k good fits is = record {
+value_there forms len f k valid fits is = record {
   form = fits.form;
   there = fits.there;
   kind = sym (is ∙ ap kind_of fits.there);
   low = omega arith;
-  high = good.some f.field fits.form fits.there;
+  high = valid.some f.field fits.form fits.there;
 }
 
 pub long_there : (forms : List FieldForm) (len n : ℕ) (f : InputField ℕ) → FitsField forms len f → n ≡ f.to + 1 - f.from → n ≡ length_of (form_at forms f.field)
@@ -83,12 +83,12 @@ field_filled forms text part f k d right kind is =
 
 -- one field went on, over a memory that differs in its data alone: what is left of a record is done after it
 pub field_next : (m w : Working) (text : List ℕ) (all fs : List (InputField ℕ)) (f : InputField ℕ) (r : rust.End) (v : Data nat_cmp) →
-    w ≡ data_put w.world.data m → all ≡ f ∷ fs → r ≡ answers.GoesOn → ends_with (end_of r) v ≡ field_in (forms_in w) text f w.world.data →
+    w ≡ data_put w.world.data m → all ≡ f ∷ fs → r ≡ answers.Continues → ends_with (end_of r) v ≡ field_in (forms_in w) text f w.world.data →
     record_in (forms_in m) text fs v ≡ record_in (forms_in m) text all w.world.data
 unfolding record_in
 field_next m w text all fs f r v same is goes h =
     let rest : Data nat_cmp → Ended nat_cmp = record_in (forms_in m) text fs in
-    let one : ends_with GoesOn v ≡ field_in (forms_in m) text f w.world.data =
+    let one : ends_with Continues v ≡ field_in (forms_in m) text f w.world.data =
     ap (λ x. ends_with (end_of x) v) (sym goes) ∙ h ∙ ap (λ (x : Working). field_in (forms_in x) text f w.world.data) same in
     let step : rest v ≡ record_in (forms_in m) text (f ∷ fs) w.world.data = ap (λ (x : Ended nat_cmp). followed_by x rest) one in
     step ∙ ap (λ (xs : List (InputField ℕ)). record_in (forms_in m) text xs w.world.data) (sym is)

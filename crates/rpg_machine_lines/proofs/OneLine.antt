@@ -4,9 +4,9 @@ use Rattle.std.specs.FinSet as sets
 use Rattle.rpg_paper.specs.Paper.{Position}
 use Rattle.rpg_program.proofs.Putting.{quiet_done, then_done}
 use Rattle.rpg_program.specs.Effect.{Effect, Leaves, unless_wrong}
-use Rattle.rpg_program.specs.Ends.{End, Fault, GoesOn, Halt, Storage, end_of}
+use Rattle.rpg_program.specs.Ends.{End, Fault, Continues, Halt, Storage, end_of}
 use Rattle.rpg_program.specs.LineFaults.{is_spacing, line_fault}
-use Rattle.rpg_program.specs.Lines.{Draft, Drafted, Line, assembled, blank_line, blanked_all, drafted, is_asked, line_out, one_out, put_on, put_out, where_asked, with_fields}
+use Rattle.rpg_program.specs.Lines.{Draft, Drafted, Line, assembled, blank_line, blanked_all, drafted, is_due, line_out, one_out, put_on, write_line_out, where_due, with_fields}
 use Rattle.rpg_program.specs.Put.{Bytes, Held, IsDone, IsLeft, on_paper}
 use Rattle.rpg_program.specs.World.{Fields, World}
 use Rattle.rpg_program.specs.declared.form.FieldForm.{FieldForm}
@@ -31,13 +31,13 @@ module _ (forms : ℕ → Option FieldForm) (words : ℕ → List ℕ) (overflow
   out_at previous = line_out forms words overflow l (on_paper previous w.world)
 
   line_is : (previous : Option Position) (e : End) (d : Draft nat_cmp) → line_fault l.len l.spacing ≡ None → IsDrafted e d →
-      out_at previous ≡ put_out forms words overflow l (on_paper previous w.world) e d
+      out_at previous ≡ write_line_out forms words overflow l (on_paper previous w.world) e d
   unfolding line_out
   line_is previous e d h a =
       let x = on_paper previous w.world in
       let done = assembled forms words w.world.data.on l.len l.fields (blank_line l.len w.world) in
-      ap (λ o. unless_wrong o x (put_out forms words overflow l x done.ending done.draft)) h
-      ∙ ap (λ (y : Drafted nat_cmp). put_out forms words overflow l x y.ending y.draft) (sym a)
+      ap (λ o. unless_wrong o x (write_line_out forms words overflow l x done.ending done.draft)) h
+      ∙ ap (λ (y : Drafted nat_cmp). write_line_out forms words overflow l x y.ending y.draft) (sym a)
 
   -- a field halted
   pub line_halted : (k : ℕ) (d : Draft nat_cmp) (v : Held) → line_fault l.len l.spacing ≡ None → IsDrafted (Halt k) d → v ≡ fields_replaced d.fields w →
@@ -50,35 +50,35 @@ module _ (forms : ℕ → Option FieldForm) (words : ℕ → List ℕ) (overflow
       }
 
   -- the line was put on its file, and its entries were blanked
-  pub line_placed : (d : Draft nat_cmp) (v u : Held) (o : Bytes) → line_fault l.len l.spacing ≡ None → IsDrafted GoesOn d →
-      IsDone (put_on overflow l.file l.spacing d.text) (fields_replaced d.fields w) q GoesOn v o →
+  pub line_placed : (d : Draft nat_cmp) (v u : Held) (o : Bytes) → line_fault l.len l.spacing ≡ None → IsDrafted Continues d →
+      IsDone (put_on overflow l.file l.spacing d.text) (fields_replaced d.fields w) q Continues v o →
       u.last ≡ v.last → u.world ≡ with_fields (blanked_all d.to_blank v.world.data.fields) v.world →
-      IsDone (line_out forms words overflow l) w q GoesOn u o
+      IsDone (line_out forms words overflow l) w q Continues u o
   line_placed d v u o h a put last world =
       let blank : World nat_cmp → World nat_cmp = λ x. with_fields (blanked_all d.to_blank x.data.fields) x in
-      let cleared : IsDone (λ x. Leaves (blank x)) v o GoesOn u o = quiet_done blank GoesOn v u o last (λ p. ap (on_paper p) world) in
-      let both = then_done (put_on overflow l.file l.spacing d.text) (λ x. Leaves (blank x)) (fields_replaced d.fields w) v u q o o GoesOn put cleared in
+      let cleared : IsDone (λ x. Leaves (blank x)) v o Continues u o = quiet_done blank Continues v u o last (λ p. ap (on_paper p) world) in
+      let both = then_done (put_on overflow l.file l.spacing d.text) (λ x. Leaves (blank x)) (fields_replaced d.fields w) v u q o o Continues put cleared in
       record {
-        following = λ previous e. subst (λ (x : Effect nat_cmp). IsLeft previous x q GoesOn u o) (sym (line_is previous GoesOn d h a)) (both.following previous e);
+        following = λ previous e. subst (λ (x : Effect nat_cmp). IsLeft previous x q Continues u o) (sym (line_is previous Continues d h a)) (both.following previous e);
       }
 
-  -- the line, where it is asked for
-  abbrev asked_at : Bool → Option Position → Effect nat_cmp
-  asked_at b previous = where_asked forms words b (out_at previous) (on_paper previous w.world)
+  -- the line, where it is due
+  abbrev due_at : Bool → Option Position → Effect nat_cmp
+  due_at b previous = where_due forms words b (out_at previous) (on_paper previous w.world)
 
-  -- it isn't asked for
-  pub not_asked : (pass : Pass) → is_asked overflow pass w.world.data.on l.time l.alternatives ≡ false → IsDone (one_out forms words overflow pass l) w q GoesOn w q
+  -- it isn't due
+  pub not_due : (pass : Pass) → is_due overflow pass w.world.data.on l.time l.alternatives ≡ false → IsDone (one_out forms words overflow pass l) w q Continues w q
   unfolding one_out
-  not_asked pass h =
-      let none = quiet_done (λ x. x) GoesOn w w q refl (λ p. refl) in
-      record { following = λ previous e. subst (λ b. IsLeft previous (asked_at b previous) q GoesOn w q) (sym h) (none.following previous e) }
+  not_due pass h =
+      let none = quiet_done (λ x. x) Continues w w q refl (λ p. refl) in
+      record { following = λ previous e. subst (λ b. IsLeft previous (due_at b previous) q Continues w q) (sym h) (none.following previous e) }
 
-  -- it is asked for
-  pub line_asked : (pass : Pass) (e : End) (v : Held) (o : Bytes) → is_asked overflow pass w.world.data.on l.time l.alternatives ≡ true →
+  -- it is due
+  pub line_due : (pass : Pass) (e : End) (v : Held) (o : Bytes) → is_due overflow pass w.world.data.on l.time l.alternatives ≡ true →
       IsDone (line_out forms words overflow l) w q e v o → IsDone (one_out forms words overflow pass l) w q e v o
   unfolding one_out
-  line_asked pass e v o h d =
-      record { following = λ previous g. subst (λ b. IsLeft previous (asked_at b previous) q e v o) (sym h) (d.following previous g) }
+  line_due pass e v o h d =
+      record { following = λ previous g. subst (λ b. IsLeft previous (due_at b previous) q e v o) (sym h) (d.following previous g) }
 
 -- assembled, whatever the code called its parts
 pub assembled_from : (forms : ℕ → Option FieldForm) (words : ℕ → List ℕ) (on : sets.FinSet nat_cmp) (fields : Fields nat_cmp) (r : rust.End) (e : End)

@@ -99,7 +99,7 @@ entry_there forms fields o e h rows fits s k = some_there forms fields (λ field
 pub entry_named : (forms : List FieldForm) (fields : Fields nat_cmp) (o : Operand ℕ) (e : Option ℕ) → e ≡ position_of (form_at forms) fields o →
     AreForms forms → AreFit forms fields → has_entry (form_at forms) o ≡ true → is_one_entry (form_at forms) o ≡ true →
     IfSome e (λ n. IsFieldEntry forms o.field n)
-entry_named forms fields o e h good fits s k = some_there forms fields good.some fits o e s k (sym h)
+entry_named forms fields o e h valid fits s k = some_there forms fields valid.some fits o e s k (sym h)
 
 pub ruleset entries = (entry_named)
 

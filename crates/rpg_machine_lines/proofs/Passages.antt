@@ -1,7 +1,7 @@
--- Lines that no alternative asks for at a passage.
+-- Lines for which no alternative is due at a passage.
 use Rattle.std.proofs.Common.{◌≡◌, ℕ, Bool, true, false, ◌&&◌, ◌||◌, cond, List, [], ◌∷◌, Option, refl, nat_cmp}
 use Rattle.std.specs.FinSet as sets
-use Rattle.rpg_program.specs.Lines.{is_asked, is_pass, names_overflow, pass_of}
+use Rattle.rpg_program.specs.Lines.{is_due, is_pass, names_overflow, pass_of}
 use Rattle.rpg_program.specs.World.{all_hold}
 use Rattle.rpg_program.specs.declared.condition.Condition.{Condition}
 use Rattle.rpg_program.specs.declared.line.Pass.{Pass}
@@ -51,10 +51,10 @@ counts_elsewhere overflow times.Total pass cs h = neither (names_overflow overfl
 counts_elsewhere overflow times.Exception pass cs h = no_exception pass h
 
 -- where no alternative may count, none is met
-pub none_asked : (overflow : Option ℕ) (pass : Pass) (on : sets.FinSet nat_cmp) (time : Time) (alternatives : List (List Condition)) →
-    may_count time pass ≡ false → is_asked overflow pass on time alternatives ≡ false
-none_asked overflow pass on time [] h = refl
-none_asked overflow pass on time (cs ∷ rest) h = rw (counts_elsewhere overflow time pass cs h) (none_asked overflow pass on time rest h)
+pub none_due : (overflow : Option ℕ) (pass : Pass) (on : sets.FinSet nat_cmp) (time : Time) (alternatives : List (List Condition)) →
+    may_count time pass ≡ false → is_due overflow pass on time alternatives ≡ false
+none_due overflow pass on time [] h = refl
+none_due overflow pass on time (cs ∷ rest) h = rw (counts_elsewhere overflow time pass cs h) (none_due overflow pass on time rest h)
 
 any_fewer : (a b c d : Bool) → (a || c) ≡ false → (c ≡ false → d ≡ false) → ((a && b) || d) ≡ false
 any_fewer true b c d h k = cc
@@ -62,8 +62,8 @@ any_fewer false b c d h k = k h
 
 -- where no alternative counts, none is met
 pub none_counts : (overflow : Option ℕ) (pass : Pass) (on : sets.FinSet nat_cmp) (time : Time) (alternatives : List (List Condition)) →
-    counts_at overflow time alternatives pass ≡ false → is_asked overflow pass on time alternatives ≡ false
+    counts_at overflow time alternatives pass ≡ false → is_due overflow pass on time alternatives ≡ false
 none_counts overflow pass on time [] h = refl
 none_counts overflow pass on time (cs ∷ rest) h =
-    any_fewer (is_pass (pass_of overflow time cs) pass) (all_hold on cs) (counts_at overflow time rest pass) (is_asked overflow pass on time rest) h
+    any_fewer (is_pass (pass_of overflow time cs) pass) (all_hold on cs) (counts_at overflow time rest pass) (is_due overflow pass on time rest) h
     (none_counts overflow pass on time rest)

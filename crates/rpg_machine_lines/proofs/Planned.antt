@@ -4,7 +4,7 @@ use Rattle.std.proofs.lemmas.List.{get_or-map, length-map}
 use Rattle.std.proofs.lemmas.Slice.Zip.{AllZip-long}
 use Rattle.std.specs.FinSet as sets
 use Rattle.rpg_program.specs.Control.{has_condition, has_conditions}
-use Rattle.rpg_program.specs.Ends.{GoesOn}
+use Rattle.rpg_program.specs.Ends.{Continues}
 use Rattle.rpg_program.specs.Entries.{entry_of}
 use Rattle.rpg_program.specs.Forms.{form_at}
 use Rattle.rpg_program.specs.LineFaults.{field_fault}
@@ -31,16 +31,16 @@ use Rattle.rpg_memory.specs.Fields.{AreForms}
 use Rattle.rpg_memory.specs.Memory.{Working, forms_in, position_in}
 use Rattle.rpg_memory.specs.declared.resolved.FixedEntry.{FixedEntry}
 
-nothing_asked : (on : sets.FinSet nat_cmp) (a b c : Option Condition) → (has_condition a || (has_condition b || has_condition c)) ≡ false →
+nothing_due : (on : sets.FinSet nat_cmp) (a b c : Option Condition) → (has_condition a || (has_condition b || has_condition c)) ≡ false →
     (holds_if_any on a && (holds_if_any on b && holds_if_any on c)) ≡ true
-nothing_asked on None None None h = refl
-nothing_asked on (Some x) b c h = cc
-nothing_asked on None (Some x) c h = cc
-nothing_asked on None None (Some x) h = cc
+nothing_due on None None None h = refl
+nothing_due on (Some x) b c h = cc
+nothing_due on None (Some x) c h = cc
+nothing_due on None None (Some x) h = cc
 
--- without conditions a field is put out
+-- without conditions a field is output
 pub always_put : (on : sets.FinSet nat_cmp) (cs : Conditions) → has_conditions cs ≡ false → three_hold on cs ≡ true
-always_put on cs h = nothing_asked on cs.first cs.second cs.third h
+always_put on cs h = nothing_due on cs.first cs.second cs.third h
 
 module _ (forms : List FieldForm) (f : LineField ℕ) (e : FixedEntry) (i : IsFixedField forms f e) (fields : Fields nat_cmp) where
   fixed_name : e.resolved.entry.field ≡ f.operand.field
@@ -58,30 +58,30 @@ module _ (forms : List FieldForm) (f : LineField ℕ) (e : FixedEntry) (i : IsFi
   -- the entry that was found is there, if nothing is wrong with the operand
   pub fixed_there : AreForms forms → AreFit forms fields → has_entry (form_at forms) f.operand ≡ true → is_one_entry (form_at forms) f.operand ≡ true →
       IsFieldEntry forms f.operand.field e.resolved.entry.position
-  fixed_there good fits s k = entry_named forms fields f.operand (Some e.resolved.entry.position) (sym (i.entry.position fields)) good fits s k
+  fixed_there valid fits s k = entry_named forms fields f.operand (Some e.resolved.entry.position) (sym (i.entry.position fields)) valid fits s k
 
 -- the field is laid over the line by the value of that entry
 fixed_drafted : (w : Working) (text : List ℕ) (es : List (ℕ × ℕ)) (f : LineField ℕ) (e : FixedEntry) → IsFixedField w.program.fields f e →
     three_hold w.world.data.on f.conditions ≡ true → field_fault (forms_in w) (word_at w.program) (length text) f ≡ None →
     with_field_in w text es f
-    ≡ drafted_in GoesOn w (laid_over text f.end (field_text_in w f e.resolved.entry.position)) (remembered f.is_blanked (f.operand.field, e.resolved.entry.position) es)
+    ≡ drafted_in Continues w (laid_over text f.end (field_text_in w f e.resolved.entry.position)) (remembered f.is_blanked (f.operand.field, e.resolved.entry.position) es)
 unfolding with_field
 fixed_drafted w text es f e i holds right = rw (holds, right, i.entry.position w.world.data.fields, i.source) refl
 
 -- the same of what the code laid and remembered
 pub fixed_laid : (w : Working) (text out : List ℕ) (es more : List (ℕ × ℕ)) (f : LineField ℕ) (e : FixedEntry) → IsFixedField w.program.fields f e →
     three_hold w.world.data.on f.conditions ≡ true → field_fault (forms_in w) (word_at w.program) (length text) f ≡ None → out ≡ laid_over text f.end (field_text_in w f e.resolved.entry.position) →
-    more ≡ remembered f.is_blanked (f.operand.field, e.resolved.entry.position) es → drafted_in GoesOn w out more ≡ with_field_in w text es f
+    more ≡ remembered f.is_blanked (f.operand.field, e.resolved.entry.position) es → drafted_in Continues w out more ≡ with_field_in w text es f
 fixed_laid w text out es more f e i holds right laid kept =
-    ap (λ (xs : List (ℕ × ℕ)). drafted_in GoesOn w out xs) kept
-    ∙ ap (λ (t : List ℕ). drafted_in GoesOn w t (remembered f.is_blanked (f.operand.field, e.resolved.entry.position) es)) laid
+    ap (λ (xs : List (ℕ × ℕ)). drafted_in Continues w out xs) kept
+    ∙ ap (λ (t : List ℕ). drafted_in Continues w t (remembered f.is_blanked (f.operand.field, e.resolved.entry.position) es)) laid
     ∙ sym (fixed_drafted w text es f e i holds right)
 
 -- a field whose entry is looked for: PAGE is made one more, and then the value of that entry is laid over the line
 sought_drafted : (w : Working) (text : List ℕ) (es : List (ℕ × ℕ)) (f : LineField ℕ) (e : ℕ) →
     three_hold w.world.data.on f.conditions ≡ true → field_fault (forms_in w) (word_at w.program) (length text) f ≡ None → position_in w f.operand ≡ Some e →
     with_field_in w text es f
-    ≡ drafted_in GoesOn (counted_in w f e) (laid_over text f.end (field_text_in (counted_in w f e) f e)) (remembered f.is_blanked (f.operand.field, e) es)
+    ≡ drafted_in Continues (counted_in w f e) (laid_over text f.end (field_text_in (counted_in w f e) f e)) (remembered f.is_blanked (f.operand.field, e) es)
 unfolding with_field
 sought_drafted w text es f e holds right at = rw (holds, right, at) refl
 
@@ -89,11 +89,11 @@ sought_drafted w text es f e holds right at = rw (holds, right, at) refl
 pub sought_laid : (w v : Working) (text out : List ℕ) (es more : List (ℕ × ℕ)) (f : LineField ℕ) (e : ℕ) →
     three_hold w.world.data.on f.conditions ≡ true → field_fault (forms_in w) (word_at w.program) (length text) f ≡ None → position_in w f.operand ≡ Some e →
     v ≡ counted_in w f e → out ≡ laid_over text f.end (field_text_in v f e) → more ≡ remembered f.is_blanked (f.operand.field, e) es →
-    drafted_in GoesOn v out more ≡ with_field_in w text es f
+    drafted_in Continues v out more ≡ with_field_in w text es f
 sought_laid w v text out es more f e holds right at counted laid kept =
-    ap (λ (x : Working). drafted_in GoesOn x out more) counted
-    ∙ ap (λ (xs : List (ℕ × ℕ)). drafted_in GoesOn (counted_in w f e) out xs) kept
-    ∙ ap (λ (t : List ℕ). drafted_in GoesOn (counted_in w f e) t (remembered f.is_blanked (f.operand.field, e) es))
+    ap (λ (x : Working). drafted_in Continues x out more) counted
+    ∙ ap (λ (xs : List (ℕ × ℕ)). drafted_in Continues (counted_in w f e) out xs) kept
+    ∙ ap (λ (t : List ℕ). drafted_in Continues (counted_in w f e) t (remembered f.is_blanked (f.operand.field, e) es))
     (laid ∙ ap (λ (x : Working). laid_over text f.end (field_text_in x f e)) counted)
     ∙ sym (sought_drafted w text es f e holds right at)
 

@@ -5,7 +5,7 @@ use Rattle.std.proofs.lemmas.List.Elements.{All-cons, All-head, All-nil, All-tai
 use Rattle.std.proofs.lemmas.Slice.{drop-append-drop}
 use Rattle.std.specs.FinSet as sets
 use Rattle.std.specs.List.{fold}
-use Rattle.rpg_program.specs.Ends.{End, Fault, GoesOn}
+use Rattle.rpg_program.specs.Ends.{End, Fault, Continues}
 use Rattle.rpg_program.specs.LineFaults.{AreRight, field_fault}
 use Rattle.rpg_program.specs.Lines.{Draft, Drafted, drafted, laid, laid_over, unless_faulty, with_field}
 use Rattle.rpg_program.specs.World.{three_hold}
@@ -82,7 +82,7 @@ module _ (forms : ℕ → Option FieldForm) (words : ℕ → List ℕ) (d e : Dr
   faulty_by None p h = laid_by p h
   faulty_by (Some x) p h = same_after_reach _ h
 
-  put_by : (b : Bool) (o : Option Fault) (p : Option ℕ) → drafted r e ≡ cond b (unless_faulty o d (laid forms words d f p)) (drafted GoesOn d) →
+  put_by : (b : Bool) (o : Option Fault) (p : Option ℕ) → drafted r e ≡ cond b (unless_faulty o d (laid forms words d f p)) (drafted Continues d) →
       drop n e.text ≡ drop n d.text
   put_by true o p h = faulty_by o p h
   put_by false o p h = same_after_reach _ h

@@ -28,7 +28,7 @@ pub record CanPutLines (m : Working) (text : List ℕ) (found : Plan) : Type 0 w
   pub plan : IsPlanOf m.program found
 
 -- one of them
-pub record CanPutAsked (m : Working) (text : List ℕ) (line : Line) (found : LinePlan) : Type 0 where
+pub record CanPutDue (m : Working) (text : List ℕ) (line : Line) (found : LinePlan) : Type 0 where
   pub near : IsNear m.world.paper.here
   pub right : IsRightLine m.program (line_row line)
   pub room : HasLineRoom m.program text

@@ -1,6 +1,6 @@
 //! Assembles a line: writes the fields whose conditions hold over blanks, in order.
 ghost use Rattle.std.specs.Prelude.{◌≡◌, ◌≤◌, ◌+◌, length, drop, true, None, IfSome};
-ghost use Rattle.rpg_program.specs.Ends.{GoesOn, end_of};
+ghost use Rattle.rpg_program.specs.Ends.{Continues, end_of};
 ghost use Rattle.rpg_program.specs.LineFaults as faults;
 ghost use Rattle.rpg_program.specs.Lines as lines;
 ghost use Rattle.rpg_program.specs.World.{three_hold};
@@ -75,7 +75,7 @@ fn with_field<S: Store + Drop>(
     ensures changes { ChangesFields memory.old memory.new (length to_blank.old) (length to_blank.new) to_blank.new }
 {
     if !three_hold(memory.on(), field.conditions) {
-        return End::GoesOn;
+        return End::Continues;
     }
     let operand = field.operand;
     let form = form_at(memory.rows(), operand.field);
@@ -85,7 +85,7 @@ fn with_field<S: Store + Drop>(
             count_page(memory, field, position);
             lay_value(memory, text, field, form, position);
             remember(memory, to_blank, field, position);
-            End::GoesOn
+            End::Continues
         }
     }
 }
@@ -103,7 +103,7 @@ fn with_fixed_field<S: Store + Drop>(
     requires holds { three_hold memory.now.world.data.on field.now.conditions ≡ true }
     requires fixed { IsFixedField memory.now.program.fields field.now fixed.now }
     requires more { CanRemember memory.now.program.fields (length to_blank.old) to_blank.old }
-    ensures drafted { drafted_in GoesOn memory.now text.new to_blank.new ≡ with_field_in memory.now text.old to_blank.old field.now }
+    ensures drafted { drafted_in Continues memory.now text.new to_blank.new ≡ with_field_in memory.now text.old to_blank.old field.now }
     ensures one { RemembersOne memory.now.program.fields (length to_blank.old) (length to_blank.new) to_blank.new }
 {
     memory.is_kept();
@@ -128,13 +128,13 @@ fn with_planned_field<S: Store + Drop>(
 {
     let fixed = match found {
         FieldPlan::Conditional(_) if !three_hold(memory.on(), field.conditions) => {
-            return End::GoesOn;
+            return End::Continues;
         }
         FieldPlan::Always(fixed) | FieldPlan::Conditional(fixed) => fixed,
         FieldPlan::Sought => return with_field(memory, text, to_blank, field),
     };
     with_fixed_field(memory, text, to_blank, field, fixed);
-    End::GoesOn
+    End::Continues
 }
 
 /// Assembles all fields, in order, until an index is bad.
@@ -156,11 +156,11 @@ pub fn assemble<S: Store + Drop>(
     let (mut left, mut found) = (fields, plan);
     'fields: while let Some((field, following)) = left.split_first() {
         match with_planned_field(memory, text, to_blank, field, &found[0]) {
-            End::GoesOn => {}
+            End::Continues => {}
             End::Halt(halt) => return End::Halt(halt),
         }
         left = following;
         found = &found[1..];
     }
-    End::GoesOn
+    End::Continues
 }

@@ -60,7 +60,7 @@ fn fill_number<S: Store + Drop>(
             if !fixed.is_silent {
                 memory.show(input.shows, n.cmp(&0));
             }
-            End::GoesOn
+            End::Continues
         }
         Err(_) => End::Halt(Halt::BadDigit),
     }
@@ -97,7 +97,7 @@ fn fill_text<S: Store + Drop>(
 {
     show_text(memory, input.shows, fixed.is_silent, text);
     memory.set_text_in(fixed.place, input.field, 1, text);
-    End::GoesOn
+    End::Continues
 }
 
 /// Fills one field, with what is precomputed for it.
@@ -138,11 +138,11 @@ pub fn fill_all<S: Store + Drop>(
     let (mut left, mut found) = (inputs, fixed);
     'fields: while let Some((input, following)) = left.split_first() {
         match fill_one(memory, text, input, found[0]) {
-            End::GoesOn => {}
+            End::Continues => {}
             End::Halt(halt) => return End::Halt(halt),
         }
         left = following;
         found = &found[1..];
     }
-    End::GoesOn
+    End::Continues
 }

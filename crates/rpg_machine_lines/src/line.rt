@@ -35,10 +35,10 @@ pub fn put_line<S: Store + Drop>(
     fill_blanks(text);
     to_blank.clear();
     match assemble(memory, text, to_blank, &line.fields, &plan.fields) {
-        End::GoesOn => {}
+        End::Continues => {}
         End::Halt(halt) => return Ok(End::Halt(halt)),
     }
     put_on(memory, output, line.file, line.spacing, text, plan.reach)?;
     blank_all(memory, to_blank.as_slice());
-    Ok(End::GoesOn)
+    Ok(End::Continues)
 }

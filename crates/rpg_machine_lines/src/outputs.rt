@@ -36,11 +36,11 @@ pub fn put_details<S: Store + Drop>(
     ensures grows { OnlyGrows (output_of output.old) (output_of output.new) }
 {
     match put_lines(memory, output, text, to_blank, Pass::Detail, plan)? {
-        End::GoesOn => {}
+        End::Continues => {}
         End::Halt(halt) => return Ok(End::Halt(halt)),
     }
     memory.settle();
-    Ok(End::GoesOn)
+    Ok(End::Continues)
 }
 
 /// Total output: T lines. Usually none is due, which is detected without entering their loop.
@@ -60,8 +60,8 @@ pub fn put_totals<S: Store + Drop>(
     ensures program { memory.new.program ≡ memory.old.program }
     ensures grows { OnlyGrows (output_of output.old) (output_of output.new) }
 {
-    if !plan.passages.may_ask(Pass::Total, memory.on()) {
-        return Ok(End::GoesOn);
+    if !plan.passages.any_may_be_due(Pass::Total, memory.on()) {
+        return Ok(End::Continues);
     }
     put_lines(memory, output, text, to_blank, Pass::Total, plan)
 }
@@ -80,11 +80,11 @@ fn put_overflow_details<S: Store + Drop>(
     ensures grows { OnlyGrows (output_of output.old) (output_of output.new) }
 {
     match put_lines(memory, output, text, to_blank, Pass::OverflowDetail, plan)? {
-        End::GoesOn => {}
+        End::Continues => {}
         End::Halt(halt) => return Ok(End::Halt(halt)),
     }
     memory.watch_movements();
-    Ok(End::GoesOn)
+    Ok(End::Continues)
 }
 
 /// Overflow output: T lines, then H and D lines.
@@ -105,7 +105,7 @@ pub fn put_overflow<S: Store + Drop>(
     ensures grows { OnlyGrows (output_of output.old) (output_of output.new) }
 {
     match put_lines(memory, output, text, to_blank, Pass::OverflowTotal, plan)? {
-        End::GoesOn => {}
+        End::Continues => {}
         End::Halt(halt) => return Ok(End::Halt(halt)),
     }
     put_overflow_details(memory, output, text, to_blank, plan)

@@ -16,7 +16,7 @@ use Rattle.rpg_program.specs.declared.form.Kind.{Kind}
 use Rattle.rpg_program.specs.declared.row.Shape.{Shape}
 use Rattle.rpg_program.specs.declared.row.Shape.TheVariants as shapes
 use Rattle.rpg_memory.specs.Fields.{IsValue, reads_index}
-use Rattle.rpg_machine_operations.specs.Good.{AreOperandEntries, IsOperandEntry, IsRightAction}
+use Rattle.rpg_machine_operations.specs.Valid.{AreOperandEntries, IsOperandEntry, IsRightAction}
 use Rattle.rpg_machine_operations.specs.Words.{operand_field}
 use Rattle.rpg_machine_operations.proofs.Rights.{reads_shape}
 use Rattle.rpg_program.specs.Forms.{form_at}

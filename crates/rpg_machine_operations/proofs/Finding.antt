@@ -7,7 +7,7 @@ use Rattle.rpg_program.specs.Act.{found_in, found_shown, looked_up, with_found, 
 use Rattle.rpg_program.specs.Forms.{entries_of, length_of}
 use Rattle.rpg_program.specs.Ended.{ends_with}
 use Rattle.rpg_program.specs.Rows.{can_hold, holds_position}
-use Rattle.rpg_program.specs.Search.{first_one, found_as, if_asked, last_one, nearest, or_else, positions, search_of, stands}
+use Rattle.rpg_program.specs.Search.{first_one, found_as, if_named, last_one, nearest, or_else, positions, search_of, stands}
 use Rattle.rpg_program.specs.World.{Data}
 use Rattle.rpg_program.specs.declared.form.FieldForm.{FieldForm}
 use Rattle.rpg_program.specs.declared.form.Kind.{Kind}
@@ -16,9 +16,9 @@ use Rattle.rpg_program.specs.declared.operation.Found.{Found}
 use Rattle.rpg_program.specs.declared.operation.Index.{Index}
 use Rattle.rpg_program.specs.declared.operation.Index.TheVariants.{Blank, Literal, Field}
 use Rattle.rpg_program.specs.declared.operation.Shows.{Shows}
-use Rattle.rpg_program.specs.Ends.{Fault, GoesOn}
+use Rattle.rpg_program.specs.Ends.{Fault, Continues}
 use Rattle.rpg_memory.specs.Fields.{AreForms, IsValue, reads_index}
-use Rattle.rpg_machine_operations.specs.Good.{FitsPosition, HasPosition}
+use Rattle.rpg_machine_operations.specs.Valid.{FitsPosition, HasPosition}
 use Rattle.rpg_memory.proofs.Entries.{index_value, and_true}
 use Rattle.rpg_program.proofs.Searches.{reverse_more}
 use Rattle.rpg_memory.proofs.Values.{length_low}
@@ -63,7 +63,7 @@ module _ (standing : ℕ → Ordering) (from last : ℕ) where
   as_within order None h = tt
   as_within order (Some p) h = nearest_within order p h
 
-  asked_within : (indicator : Option ℕ) (o : Option Found) → IsWithin o → IsWithin (if_asked indicator o)
+  asked_within : (indicator : Option ℕ) (o : Option Found) → IsWithin o → IsWithin (if_named indicator o)
   asked_within None o h = tt
   asked_within (Some n) o h = h
 
@@ -71,7 +71,7 @@ module _ (standing : ℕ → Ordering) (from last : ℕ) where
   else_within None g h k = k
   else_within (Some f) g h k = h
 
-  one_within : (order : Ordering) (indicator : Option ℕ) → IsWithin (if_asked indicator (found_as order (nearest standing order (positions from last))))
+  one_within : (order : Ordering) (indicator : Option ℕ) → IsWithin (if_named indicator (found_as order (nearest standing order (positions from last))))
   one_within order indicator = asked_within indicator _ (as_within order _ refl)
 
   pub search_within : (s : Shows) → IsWithin (search_of standing s (positions from last))
@@ -152,10 +152,10 @@ ten_above len h =
 
 -- the first position fits any index field
 pub first_fits : (forms : List FieldForm) (index : Index ℕ) → AreForms forms → reads_index forms index ≡ true → can_hold (form_at forms) index 1 ≡ true
-first_fits forms Blank good h = refl
-first_fits forms (Literal n) good h = refl
-first_fits forms (Field k) good h =
-    let low : 1 < 10 ^ length_of (form_at forms k) = ten_above _ (length_low forms k 1 good (index_value forms k good h)) in
+first_fits forms Blank valid h = refl
+first_fits forms (Literal n) valid h = refl
+first_fits forms (Field k) valid h =
+    let low : 1 < 10 ^ length_of (form_at forms k) = ten_above _ (length_low forms k 1 valid (index_value forms k valid h)) in
     grind arith
 
 pub has_position : (forms : List FieldForm) (b : Entry ℕ) (table : Option ℕ) (n : ℕ) → FitsPosition forms b table n → HasPosition forms table n
@@ -168,6 +168,6 @@ holds_index forms b (Some t) n h = (and_true _ _ h.holds).0
 
 -- where nothing is wrong with the position, LOKUP leaves the data with what was found
 pub looked : (forms : List FieldForm) (w v : Data nat_cmp) (b : Entry ℕ) (table : Option ℕ) (s : Shows) (o : Option Found) → IfSome o (λ f. FitsPosition forms b table f.position) → v ≡ found_shown (form_at forms) s o (with_found (form_at forms) b table o w) →
-    ends_with GoesOn v ≡ looked_up (form_at forms) w b table s o
+    ends_with Continues v ≡ looked_up (form_at forms) w b table s o
 unfolding looked_up
-looked forms w v b table s o fits is = rw (no_position_fault forms b table o fits) (ap (λ (x : Data nat_cmp). ends_with GoesOn x) is)
+looked forms w v b table s o fits is = rw (no_position_fault forms b table o fits) (ap (λ (x : Data nat_cmp). ends_with Continues x) is)

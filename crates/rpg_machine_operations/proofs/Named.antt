@@ -2,7 +2,7 @@
 use Rattle.std.proofs.Common.{◌≡◌, ℕ, ℤ, Bool, true, false, Some, is_some, refl, sym}
 use Rattle.std.proofs.lemmas.Option.{cond_some}
 use Rattle.rpg_program.specs.Act.{act, store}
-use Rattle.rpg_program.specs.Ends.{GoesOn}
+use Rattle.rpg_program.specs.Ends.{Continues}
 use Rattle.rpg_program.specs.Entries.{entry_of}
 use Rattle.rpg_program.specs.Operate.{has_entries, operate, resolved}
 use Rattle.rpg_program.specs.Ended.{Gives}
@@ -81,25 +81,25 @@ move_named w side b to e r second third =
 abbrev pub HasStored : Working → Resolved → Shows → ℤ → Working → Type 0
 HasStored w r s n new = new ≡ data_put (store w.world.data r.entry s n) w
 
-stored : (w new : Working) (r : Resolved) (s : Shows) (m n : ℤ) → n ≡ m → HasStored w r s n new → DidData (Gives (store w.world.data r.entry s m)) w GoesOn new
+stored : (w new : Working) (r : Resolved) (s : Shows) (m n : ℤ) → n ≡ m → HasStored w r s n new → DidData (Gives (store w.world.data r.entry s m)) w Continues new
 stored w new r s m n is done = rw (done, is) (record { leaves = refl; right = tt; rest = refl })
 
 pub compute_stored : (w new : Working) (f : Operator) (half : Bool) (s : Shows) (d e r : Resolved) (n : ℤ) → n ≡ computed_in w f half d e r → HasStored w r s n new →
-    DidData (act_in w (Compute f half d e r s)) w GoesOn new
+    DidData (act_in w (Compute f half d e r s)) w Continues new
 unfolding act
 compute_stored w new f half s d e r n is done = stored w new r s (computed_in w f half d e r) n is done
 
 pub assign_stored : (w new : Working) (negated half : Bool) (s : Shows) (e r : Resolved) (n : ℤ) → n ≡ stored_value_in w half r (assigned_in w negated e) → HasStored w r s n new →
-    DidData (act_in w (Assign negated half e r s)) w GoesOn new
+    DidData (act_in w (Assign negated half e r s)) w Continues new
 unfolding act
 assign_stored w new negated half s e r n is done = stored w new r s (stored_value_in w half r (assigned_in w negated e)) n is done
 
 pub remainder_stored : (w new : Working) (s : Shows) (r : Resolved) (n : ℤ) → n ≡ stored_value_in w false r w.world.data.remainder → HasStored w r s n new →
-    DidData (act_in w (TakeRemainder r s)) w GoesOn new
+    DidData (act_in w (TakeRemainder r s)) w Continues new
 unfolding act
 remainder_stored w new s r n is done = stored w new r s (stored_value_in w false r w.world.data.remainder) n is done
 
 pub cross_stored : (w new : Working) (half : Bool) (s : Shows) (e r : Resolved) (n : ℤ) → n ≡ summed_in w half e r → HasStored w r s n new →
-    DidData (act_in w (CrossFoot half e r s)) w GoesOn new
+    DidData (act_in w (CrossFoot half e r s)) w Continues new
 unfolding act
 cross_stored w new half s e r n is done = stored w new r s (summed_in w half e r) n is done

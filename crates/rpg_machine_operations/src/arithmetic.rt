@@ -227,7 +227,7 @@ pub fn compute<S: Store + Drop>(
     let to = number_named(memory, to)?;
     let n = computed(memory, operator, half, factor1, factor2, to);
     store(memory, to.entry, shows, n);
-    Some(End::GoesOn)
+    Some(End::Continues)
 }
 
 /// Divides, stores the quotient and keeps the remainder. A zero divisor is halt 1.
@@ -247,7 +247,7 @@ fn divide_numbers<S: Store + Drop>(
         return End::Halt(Halt::ZeroDivisor);
     };
     store(memory, to.entry, shows, quotient);
-    End::GoesOn
+    End::Continues
 }
 
 /// DIV. None if an index is out of range.
@@ -289,7 +289,7 @@ pub fn assign<S: Store + Drop>(
     let to = number_named(memory, to)?;
     let n = assigned(memory, is_negated, half, factor2, to);
     store(memory, to.entry, shows, n);
-    Some(End::GoesOn)
+    Some(End::Continues)
 }
 
 /// MVR. None if an index is out of range.
@@ -305,5 +305,5 @@ pub fn take_remainder<S: Store + Drop>(
     let to = number_named(memory, to)?;
     let n = kept_remainder(memory, to);
     store(memory, to.entry, shows, n);
-    Some(End::GoesOn)
+    Some(End::Continues)
 }

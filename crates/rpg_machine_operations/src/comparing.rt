@@ -65,5 +65,5 @@ pub fn compare_entries<S: Store + Drop>(
     let factor1 = entry_named(memory, factor1)?;
     let factor2 = entry_named(memory, factor2)?;
     show_order(memory, factor1, factor2, shows);
-    Some(End::GoesOn)
+    Some(End::Continues)
 }

@@ -5,7 +5,7 @@ ghost use Rattle.rpg_program.specs.Forms.{form_at};
 ghost use Rattle.rpg_program.specs.Rows as rows_of;
 ghost use Rattle.rpg_program.specs.Weights as weights;
 ghost use Rattle.rpg_program.specs.declared.operation.Action.TheVariants as actions;
-ghost use Rattle.rpg_machine_operations.specs.Good.{IsRightAction};
+ghost use Rattle.rpg_machine_operations.specs.Valid.{IsRightAction};
 ghost use Rattle.rpg_machine_operations.specs.Words.{DidOperate, operate_in};
 ghost use Rattle.rpg_memory.specs.Doing.{DidData};
 
@@ -51,7 +51,7 @@ fn set_indicators<S: Store + Drop>(
     ensures { DidOperate (actions.SetIndicators is_on named) memory.old result memory.new }
 {
     memory.set_indicators(is_on, named);
-    Some(End::GoesOn)
+    Some(End::Continues)
 }
 
 /// Does an operation of an accepted program. None if an index is out of range.

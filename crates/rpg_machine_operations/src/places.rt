@@ -2,7 +2,7 @@
 ghost use Rattle.std.specs.Prelude.{◌≡◌, ℕ, ℤ, All, IfSome};
 ghost use Rattle.rpg_decimal.specs.Source as sources;
 ghost use Rattle.rpg_program.specs.Act as acts;
-ghost use Rattle.rpg_program.specs.Ends.{end_of, GoesOn};
+ghost use Rattle.rpg_program.specs.Ends.{end_of, Continues};
 ghost use Rattle.rpg_program.specs.Forms.{length_of};
 ghost use Rattle.rpg_program.specs.World.{number_at};
 ghost use Rattle.rpg_program.specs.declared.form.Kind.TheVariants as kinds;
@@ -87,7 +87,7 @@ fn move_to_number<S: Store + Drop>(
         return End::Halt(Halt::BadDigit);
     };
     memory.set_number(to.entry.field, to.entry.position, n);
-    End::GoesOn
+    End::Continues
 }
 
 fn put_over(side: Side, source: Source<'_>, text: &mut [u8])
@@ -109,7 +109,7 @@ fn move_to_text<S: Store + Drop>(
 )
     requires factor2 { NamesLike memory.old factor2 factor2 }
     requires to { NamesText memory.old to }
-    ensures { DidData (moved_in memory.old kinds.Text side factor2 to) memory.old GoesOn memory.new }
+    ensures { DidData (moved_in memory.old kinds.Text side factor2 to) memory.old Continues memory.new }
 {
     memory.is_kept();
     let mut places = [0; 256];
@@ -135,7 +135,7 @@ fn move_to_entry<S: Store + Drop>(
         Kind::Number => move_to_number(memory, side, factor2, to),
         Kind::Text => {
             move_to_text(memory, side, factor2, to);
-            End::GoesOn
+            End::Continues
         }
     }
 }

@@ -4,7 +4,7 @@ ghost use Rattle.std.specs.Option.{option_map};
 ghost use Rattle.rpg_program.specs.declared.form.Kind.{Kind};
 ghost use Rattle.rpg_memory.specs.Fields.{CanBeResolved, IsResolved, resolved_entry};
 ghost use Rattle.rpg_memory.specs.Memory.{NamesNumber, entry_if_in_range};
-ghost use Rattle.rpg_machine_operations.specs.Good.{IsRightOperand, written_operand};
+ghost use Rattle.rpg_machine_operations.specs.Valid.{IsRightOperand, written_operand};
 ghost use Rattle.rpg_machine_operations.specs.Words.{IsNumberOperand, entry_if_any, field_if_any, operand_field};
 
 use rpg_memory::entry::resolve;

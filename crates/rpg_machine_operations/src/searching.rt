@@ -10,7 +10,7 @@ ghost use Rattle.rpg_program.specs.declared.operation.Action.TheVariants as acti
 ghost use Rattle.rpg_program.specs.declared.operation.Found.{Found};
 ghost use Rattle.rpg_memory.specs.Fields.{CanBeResolved, reads_index};
 ghost use Rattle.rpg_memory.specs.Memory.{data_put, forms_in};
-ghost use Rattle.rpg_machine_operations.specs.Good.{FitsPosition, HasPosition, written_operand};
+ghost use Rattle.rpg_machine_operations.specs.Valid.{FitsPosition, HasPosition, written_operand};
 ghost use Rattle.rpg_machine_operations.specs.Words.{AreAlike, DidOperate, GoesThrough, HoldsPositions, IsLikeOperand, current_made, current_made_if_any, field_if_any, found_by, found_put, looked_up_in, nearest_by, operand_field, orders_in};
 ghost use Rattle.rpg_memory.specs.Doing.{DidData};
 
@@ -126,7 +126,7 @@ fn nearest<S: Store + Drop>(
 }
 
 /// Like `nearest`, if an indicator is named for it.
-fn nearest_if_asked<S: Store + Drop>(
+fn nearest_if_named<S: Store + Drop>(
     memory: &Memory<'_, S>,
     factor1: Resolved,
     factor2: Resolved,
@@ -134,7 +134,7 @@ fn nearest_if_asked<S: Store + Drop>(
     indicator: Option<u8>,
 ) -> Option<Found>
     requires { AreAlike memory.now factor1 factor2 }
-    ensures { result ≡ of.if_asked indicator (of.found_as order (nearest_by memory.now factor1 factor2 order)) }
+    ensures { result ≡ of.if_named indicator (of.found_as order (nearest_by memory.now factor1 factor2 order)) }
 {
     let _asked = indicator?;
     let position = nearest(memory, factor1, factor2, order)?;
@@ -152,13 +152,13 @@ fn search<S: Store + Drop>(
     requires { AreAlike memory.now factor1 factor2 }
     ensures { result ≡ found_by memory.now factor1 factor2 shows }
 {
-    if let Some(found) = nearest_if_asked(memory, factor1, factor2, Ordering::Equal, shows.zero) {
+    if let Some(found) = nearest_if_named(memory, factor1, factor2, Ordering::Equal, shows.zero) {
         return Some(found);
     }
-    if let Some(found) = nearest_if_asked(memory, factor1, factor2, Ordering::Greater, shows.plus) {
+    if let Some(found) = nearest_if_named(memory, factor1, factor2, Ordering::Greater, shows.plus) {
         return Some(found);
     }
-    nearest_if_asked(memory, factor1, factor2, Ordering::Less, shows.minus)
+    nearest_if_named(memory, factor1, factor2, Ordering::Less, shows.minus)
 }
 
 /// Stores a position in an index field.
@@ -253,7 +253,7 @@ fn search_and_place<S: Store + Drop>(
     let found = search(memory, factor1, factor2, shows);
     place(memory, factor2.entry, field_of(to), found);
     memory.show_if_any(shows, order_of(found));
-    End::GoesOn
+    End::Continues
 }
 
 /// LOKUP. None if an index is out of range.

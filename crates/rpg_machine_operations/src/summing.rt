@@ -73,5 +73,5 @@ pub fn cross_foot<S: Store + Drop>(
     let to = number_named(memory, to)?;
     let n = summed(memory, half, factor2, to);
     store(memory, to.entry, shows, n);
-    Some(End::GoesOn)
+    Some(End::Continues)
 }

@@ -26,7 +26,7 @@ use Rattle.rpg_program.specs.declared.operation.Operand.{Operand}
 use Rattle.rpg_program.specs.declared.operation.Shows.{Shows}
 use Rattle.rpg_job.specs.Calculations.{done_by, entry_named, first_or, meant_factor, meant_indicators, meant_name, meant_result}
 use Rattle.rpg_machine.specs.Config.{no_output}
-use Rattle.rpg_meaning.specs.Calculations.Meaning.{MeantOutcome, On, Source, State, Stops, affected, at_next, deed_done}
+use Rattle.rpg_meaning.specs.Calculations.Meaning.{MeantOutcome, On, Source, State, Stops, affected, at_next, statement_done}
 use Rattle.rpg_meaning.specs.Calculations.Parts.{InSubroutine, Part, calculations_in, label_position}
 use Rattle.rpg_sheet_specs.specs.declared.calculation.CalculationSpec.{CalculationSpec}
 use Rattle.rpg_sheet_specs.specs.declared.calculation.Operation.{Operation}
@@ -188,7 +188,7 @@ module _ (source : Source) (s : State) (k : CalculationSpec) where
 
   -- the card, with an operation in 28-32
   abbrev pub does : Operation → MeantOutcome
-  does operation = deed_done source s (done_by k (Some operation))
+  does operation = statement_done source s (done_by k (Some operation))
 
   -- ---- ADD, SUB, MULT, DIV, MVR, Z-ADD, Z-SUB, XFOOT
 

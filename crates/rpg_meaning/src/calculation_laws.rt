@@ -5,18 +5,16 @@ ghost use Rattle.rpg_cards.specs.Keys.{Key, key_cmp};
 ghost use Rattle.rpg_cards.specs.Cards.{Numbered};
 ghost use Rattle.rpg_cards.specs.declared.spec_card.SpecCard.{SpecCard};
 ghost use Rattle.rpg_program.specs.World.{World};
-ghost use Rattle.rpg_faults_flow.specs.Columns.{bad_calculation_columns};
-ghost use Rattle.rpg_faults_flow.specs.Kept.{KeepsRule};
-ghost use Rattle.rpg_meaning.specs.Calculations.Laws.{KeepsMeaning};
+ghost use Rattle.rpg_meaning.specs.Calculations.Laws.{KeepsMeaning, KeepsMeaningOfCards};
 ghost use Rattle.rpg_meaning.specs.Calculations.Meaning.{Source};
 ghost use Rattle.rpg_meaning.specs.Calculations.NextCard.{NumbersAreTheirs, NumbersGoUp};
-ghost use Rattle.rpg_meaning.specs.Calculations.Sources.{source_of};
+ghost use Rattle.rpg_meaning.specs.Calculations.Sources.{IsAcceptedSource, source_of};
 ghost use Rattle.rpg_meaning.specs.Calculations.Translation.{IsTranslation};
 ghost use Rattle.rpg_program.specs.Kept.{IsProgram};
 ghost use Rattle.rpg_program.specs.Object.{Object};
 ghost use Rattle.rpg_effect_renaming.specs.Naming.{Agree};
 ghost use Rattle.rpg_verify_rules.specs.Accepted.{IsAccepted};
-ghost use Rattle.rpg_compile_program.specs.Program.{key_numbers, program_of};
+ghost use Rattle.rpg_compile_program.specs.Program.{key_numbers};
 
 /// An accepted program that calculation cards compile to does what they mean.
 pub fn accepted_programs_keep_meaning()
@@ -26,8 +24,7 @@ pub fn accepted_programs_keep_meaning()
 /// So does the program of a source, if no calculation card lacks what it requires. And for any values of a program's fields there are
 /// values by name that agree with them.
 pub fn compiled_cards_keep_meaning()
-    ensures meaning { (cards : List SpecCard) (allowance : ℕ) → IsProgram (program_of cards allowance) → IsAccepted (program_of cards allowance) → KeepsRule bad_calculation_columns cards →
-        KeepsMeaning (program_of cards allowance) (source_of cards) (key_numbers cards) }
+    ensures meaning { (cards : List SpecCard) (allowance : ℕ) → IsAcceptedSource cards allowance → KeepsMeaningOfCards cards allowance }
     ensures worlds { (cards : List SpecCard) (w : World nat_cmp) → (v : World key_cmp) × Agree (source_of cards).forms (key_numbers cards) v w }
 {}
 

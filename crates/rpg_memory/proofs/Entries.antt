@@ -34,10 +34,10 @@ text_in_form len (Some (Text t)) h = (t, refl, h)
 -- ---- index fields
 
 index_value_at : (forms : List FieldForm) (k : ℕ) (o : Option FieldForm) → AreForms forms → form_at forms k ≡ o → is_index_form o ≡ true → IsValue forms kinds.Number k 1
-index_value_at forms k None good is h = cc
-index_value_at forms k (Some d) good is h =
-    record { form = d; there = is; kind = kinds_same d.kind kinds.Number (and_true _ _ h).0; low = omega arith; high = good.some k d is }
+index_value_at forms k None valid is h = cc
+index_value_at forms k (Some d) valid is h =
+    record { form = d; there = is; kind = kinds_same d.kind kinds.Number (and_true _ _ h).0; low = omega arith; high = valid.some k d is }
 
 -- an index field has a number
 pub index_value : (forms : List FieldForm) (k : ℕ) → AreForms forms → is_index_form (form_at forms k) ≡ true → IsValue forms kinds.Number k 1
-index_value forms k good h = index_value_at forms k (form_at forms k) good refl h
+index_value forms k valid h = index_value_at forms k (form_at forms k) valid refl h

@@ -17,7 +17,7 @@ use Rattle.rpg_store.proofs.ByEntry.{at_only, entries_total, tied, ties}
 -- a value of the field's form, a text of characters, may be stored in any of its entries
 pub fits-insert : (forms : List FieldForm) (values : Values) (current : Currents) (field n : ℕ) (v : Value) → Fits forms values current → ((d : FieldForm) → form_at forms field ≡ Some d → HasForm d.kind d.length (Some v)) → ((text : List ℕ) → v ≡ Text text → All IsCharacter text) →
     Fits forms (maps.insert values (field, n) v) current
-fits-insert forms values current field n v fits good characters = record {
+fits-insert forms values current field n v fits valid characters = record {
   each = λ g d is m low high. subst (λ (o : Option Value). HasForm d.kind d.length o) (sym (maps.get-insert entries_total values (field, n) v (g, m))) (formed g d is m low high (ties (g, m) (field, n)) refl);
   characters = λ g m text h. spelled g m text (ties (g, m) (field, n)) (sym (maps.get-insert entries_total values (field, n) v (g, m)) ∙ h);
   low = fits.low;
@@ -25,7 +25,7 @@ fits-insert forms values current field n v fits good characters = record {
 }
   where
     formed : (g : ℕ) (d : FieldForm) → form_at forms g ≡ Some d → (m : ℕ) → 1 ≤ m → m ≤ d.entries → (b : Bool) → ties (g, m) (field, n) ≡ b → HasForm d.kind d.length (cond b (Some v) (maps.get values (g, m)))
-    formed g d is m low high true h = good d (ap (λ (p : ℕ × ℕ). form_at forms p.0) (sym (tied (g, m) (field, n) h)) ∙ is)
+    formed g d is m low high true h = valid d (ap (λ (p : ℕ × ℕ). form_at forms p.0) (sym (tied (g, m) (field, n) h)) ∙ is)
     formed g d is m low high false h = fits.each g d is m low high
 
     spelled : (g m : ℕ) (text : List ℕ) (b : Bool) → cond b (Some v) (maps.get values (g, m)) ≡ Some (Text text) → All IsCharacter text

@@ -39,16 +39,16 @@ module _ {S : Type 0} (store_forms : S → List FieldForm) (contents : S → Val
   pub number_kept : (s t : S) (field n : ℕ) (x y : ℤ) → HoldsFields store_forms contents currents forms s → store_forms t ≡ store_forms s → contents t ≡ maps.insert (contents s) (field, n) (Number y) →
       currents t ≡ currents s → y ≡ x → IsValue forms kinds.Number field n → unsigned_abs x < 10 ^ length_of (form_at forms field) → HoldsFields store_forms contents currents forms t
   number_kept s t field n x y kept own is same read value low =
-      record { good = kept.good; own = own ∙ kept.own; fits = rw (is, same, read) (fits_number forms (contents s) (currents s) field n x kept.fits value low) }
+      record { valid = kept.valid; own = own ∙ kept.own; fits = rw (is, same, read) (fits_number forms (contents s) (currents s) field n x kept.fits value low) }
 
   -- a text was stored
   pub text_kept : (s t : S) (field n : ℕ) (text : List ℕ) → HoldsFields store_forms contents currents forms s → store_forms t ≡ store_forms s → contents t ≡ maps.insert (contents s) (field, n) (Text text) →
       currents t ≡ currents s → IsValue forms kinds.Text field n → length text ≡ length_of (form_at forms field) → All IsCharacter text → HoldsFields store_forms contents currents forms t
   text_kept s t field n text kept own is same value len spelled =
-      record { good = kept.good; own = own ∙ kept.own; fits = rw (is, same) (fits_text forms (contents s) (currents s) field n text kept.fits value len spelled) }
+      record { valid = kept.valid; own = own ∙ kept.own; fits = rw (is, same) (fits_text forms (contents s) (currents s) field n text kept.fits value len spelled) }
 
   -- an entry became current
   pub current_kept : (s t : S) (table n : ℕ) → HoldsFields store_forms contents currents forms s → store_forms t ≡ store_forms s → contents t ≡ contents s →
       currents t ≡ maps.insert (currents s) table n → 1 ≤ n → n ≤ entries_of (form_at forms table) → HoldsFields store_forms contents currents forms t
   current_kept s t table n kept own is same low high =
-      record { good = kept.good; own = own ∙ kept.own; fits = rw (same, is) (fits-current forms (contents s) (currents s) table n kept.fits low high) }
+      record { valid = kept.valid; own = own ∙ kept.own; fits = rw (same, is) (fits-current forms (contents s) (currents s) table n kept.fits low high) }

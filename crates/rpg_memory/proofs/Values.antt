@@ -35,22 +35,22 @@ number_fits forms values current field n m fits v is =
     subst (λ (o : Option FieldForm). unsigned_abs m < 10 ^ length_of o) (sym v.there) h
 
 pub length_low : (forms : List FieldForm) (field n : ℕ) → AreForms forms → IsValue forms kinds.Number field n → 1 ≤ length_of (form_at forms field)
-length_low forms field n good v = subst (λ (o : Option FieldForm). 1 ≤ length_of o) (sym v.there) (good.numeric field v.form v.there v.kind).low
+length_low forms field n valid v = subst (λ (o : Option FieldForm). 1 ≤ length_of o) (sym v.there) (valid.numeric field v.form v.there v.kind).low
 
 pub length_high : (forms : List FieldForm) (field n : ℕ) → AreForms forms → IsValue forms kinds.Number field n → length_of (form_at forms field) ≤ 15
-length_high forms field n good v = subst (λ (o : Option FieldForm). length_of o ≤ 15) (sym v.there) (good.numeric field v.form v.there v.kind).high
+length_high forms field n valid v = subst (λ (o : Option FieldForm). length_of o ≤ 15) (sym v.there) (valid.numeric field v.form v.there v.kind).high
 
 pub decimals_high : (forms : List FieldForm) (field n : ℕ) → AreForms forms → IsValue forms kinds.Number field n → decimals_of (form_at forms field) ≤ 9
-decimals_high forms field n good v = subst (λ (o : Option FieldForm). decimals_of o ≤ 9) (sym v.there) (good.numeric field v.form v.there v.kind).decimals
+decimals_high forms field n valid v = subst (λ (o : Option FieldForm). decimals_of o ≤ 9) (sym v.there) (valid.numeric field v.form v.there v.kind).decimals
 
 pub entries_high : (forms : List FieldForm) (k : Kind) (field n : ℕ) → AreForms forms → IsValue forms k field n → entries_of (form_at forms field) ≤ 9999
-entries_high forms k field n good v = subst (λ (o : Option FieldForm). entries_of o ≤ 9999) (sym v.there) (good.few field v.form v.there)
+entries_high forms k field n valid v = subst (λ (o : Option FieldForm). entries_of o ≤ 9999) (sym v.there) (valid.few field v.form v.there)
 
 pub number_small : (forms : List FieldForm) (values : Values) (current : Currents) (field n : ℕ) (m : ℤ) → AreForms forms → Fits forms values current → IsValue forms kinds.Number field n → map.get values (field, n) ≡ Some (Number m) →
     unsigned_abs m < 10 ^ 15
-number_small forms values current field n m good fits v is =
+number_small forms values current field n m valid fits v is =
     let h = number_fits forms values current field n m fits v is in
-    let l = length_high forms field n good v in
+    let l = length_high forms field n valid v in
     let ten : 0 < 10 = omega arith in
     let p : 10 ^ length_of (form_at forms field) ≤ 10 ^ 15 = pow-le-pow_right ten l in
     omega (arith, h, p)

@@ -2,12 +2,12 @@
 use Rattle.std.specs.Prelude.{◌≡◌, ℕ, ◌≤◌}
 use Rattle.std.specs.Ordering.{nat_cmp}
 use Rattle.rpg_program.specs.Ended.{Ended, ends_with}
-use Rattle.rpg_program.specs.Ends.{End, GoesOn, Halt, Wrong}
+use Rattle.rpg_program.specs.Ends.{End, Continues, Halt, Wrong}
 use Rattle.rpg_memory.specs.Memory.{Working, data_put}
 
 -- nothing is wrong: it continues, or halts with a number from 1 to 4
 abbrev pub IsRightEnd : End → Type 0
-IsRightEnd GoesOn = Unit {0}
+IsRightEnd Continues = Unit {0}
 IsRightEnd (Halt k) = 1 ≤ k × k ≤ 4
 IsRightEnd (Wrong f) = ⊥
 

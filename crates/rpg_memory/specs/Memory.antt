@@ -104,7 +104,7 @@ NamesLike w a r = IsResolved w.program.fields (kind_of (forms_in w a.entry.field
 module _ {S : Type 0} (store_forms : S → List FieldForm) (contents : S → Values) (currents : S → Currents) where
   -- the store has the fields of the program, each with values of its form
   pub record HoldsFields (forms : List FieldForm) (s : S) : Type 0 where
-    pub good : AreForms forms
+    pub valid : AreForms forms
     pub own : store_forms s ≡ forms
     pub fits : Fits forms (contents s) (currents s)
 

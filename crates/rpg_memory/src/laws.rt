@@ -16,7 +16,7 @@ pub fn first_values_fit(program: &Program)
 
 /// The forms of every object program are such that operations can use them.
 #[tactic(auto, using(crate::proofs::Programs::programs))]
-pub fn forms_are_good(program: &Program)
+pub fn forms_are_valid(program: &Program)
     ensures { AreForms program.now.fields }
 {
     let _ = program.rows();

@@ -12,4 +12,4 @@ pub mod position;
 pub mod resolved;
 pub mod showing;
 
-pub use laws::{first_values_fit, forms_are_good};
+pub use laws::{first_values_fit, forms_are_valid};

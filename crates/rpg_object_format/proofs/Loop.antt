@@ -19,10 +19,10 @@ regroup : {X : Type 0} (front : List X) (x : X) (read : Result (List X × List �
 regroup {X} front x (Ok y) = ap (λ (xs : List X). Ok (xs, y.1)) (simp append_assoc)
 regroup front x (Err f) = refl
 
-pub goes_on : {S X : Type 0} (read : S → List ℕ → Result (X × List ℕ) Fault) (next : S → X → S) (front : List X) (count i : ℕ) (s : S) (bytes : List ℕ) (x : X) (after : List ℕ) (total : Result (List X × List ℕ) Fault) → i < count → read s bytes ≡ Ok (x, after)
+pub continues : {S X : Type 0} (read : S → List ℕ → Result (X × List ℕ) Fault) (next : S → X → S) (front : List X) (count i : ℕ) (s : S) (bytes : List ℕ) (x : X) (after : List ℕ) (total : Result (List X × List ℕ) Fault) → i < count → read s bytes ≡ Ok (x, after)
     → with_front front (read_times read next (count - i) s bytes) ≡ total → with_front (front ++ x ∷ []) (read_times read next (count - (i + 1)) (next s x) after) ≡ total
 unfolding read_times
-goes_on read next front count i s bytes x after total lt h so_far =
+continues read next front count i s bytes x after total lt h so_far =
     let k : count - i ≡ suc (count - (i + 1)) = omega arith in
     let one : with_front front (read_times read next (count - i) s bytes) ≡ with_front (front ++ x ∷ []) (read_times read next (count - (i + 1)) (next s x) after) = rw (k, h) (regroup front x (read_times read next (count - (i + 1)) (next s x) after)) in
     sym one ∙ so_far

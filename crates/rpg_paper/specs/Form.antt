@@ -1,7 +1,7 @@
 -- The position of a form. A form counts pages from the page of the line placed last, so no page number grows without bound.
 use Rattle.std.specs.Prelude.{◌≡◌, ℕ, ◌+◌, ◌-◌, ◌≤◌, List, [], ◌∷◌, ◌++◌, length, replicate, take, Option, Some, None, option_map, unwrap_or, Result, OnOk, OnErr, if◌then◌else◌, ◌==◌}
 pub use Rattle.rpg_text.specs.Texts.{trimmed}
-use Rattle.rpg_paper.specs.Paper.{Position, Placed, spaced, skipped, paper, last_position}
+use Rattle.rpg_paper.specs.Paper.{Position, Placed, placed_at, spaced, skipped, bytes_from, paper, last_position}
 
 -- the line placed last on its page, the pages begun since, and the present line
 pub record Standing : Type 0 where
@@ -25,9 +25,13 @@ abbrev pub page_or_1 : Option Position → ℕ
 page_or_1 None = 1
 page_or_1 (Some p) = p.page
 
+-- the line of a position, if there is one
+abbrev pub line_or_none : Option Position → Option ℕ
+line_or_none previous = option_map (λ p. p.line) previous
+
 -- the form is at `here`, where `previous` is the position of the line placed last
 pub record StandsAt (form : Standing) (previous : Option Position) (here : Position) : Type 0 where
-  pub last_line : form.last ≡ option_map (λ p. p.line) previous
+  pub last_line : form.last ≡ line_or_none previous
   pub page : here.page ≡ page_or_1 previous + form.begun
   pub present_line : here.line ≡ form.line
 
@@ -35,6 +39,16 @@ pub record StandsAt (form : Standing) (previous : Option Position) (here : Posit
 pub record HasPrinted (form : Standing) (lines : List Placed) (here : Position) (bytes : List ℕ) : Type 0 where
   pub stands : StandsAt form (last_position lines) here
   pub printed : bytes ≡ paper lines
+
+-- on success a line of text is printed where the form is: whatever was printed before, the bytes are those of the paper
+abbrev pub PrintsLine : {X E : Type 0} → Result X E → Standing → List ℕ → List ℕ → Standing → List ℕ → Type 0
+PrintsLine result old before text new now = (sent : List ℕ) (lines : List Placed) (here : Position) →
+    HasPrinted old lines here (sent ++ before) → OnOk result (HasPrinted new (lines ++ placed_at here text ∷ []) here (sent ++ now))
+
+-- on success the bytes of a line of text are added: the way to it from the line placed last, then the text
+abbrev pub AddsLine : {X E : Type 0} → Result X E → Standing → List ℕ → List ℕ → List ℕ → Type 0
+AddsLine result form before text now = (last : Option Position) (here : Position) →
+    StandsAt form last here → OnOk result (now ≡ before ++ bytes_from last (placed_at here text ∷ []))
 
 -- where the form is, its page counted from 0 at the line placed last
 abbrev pub here_of : Standing → Position
@@ -83,7 +97,7 @@ position_after previous x = record { page = page_or_1 previous + x.begun; line =
 -- the lines with their places, after the last one before them
 abbrev pub placed_after : Option Position → List FormLine → List Placed
 placed_after previous [] = []
-placed_after previous (x ∷ xs) = record { at = position_after previous x; text = x.text } ∷ placed_after (Some (position_after previous x)) xs
+placed_after previous (x ∷ xs) = placed_at (position_after previous x) x.text ∷ placed_after (Some (position_after previous x)) xs
 
 -- the bytes of such lines after a line placed last
 abbrev pub form_bytes : Option ℕ → List FormLine → List ℕ

@@ -12,6 +12,10 @@ pub record Placed : Type 0 where
   pub at : Position
   pub text : List ℕ
 
+-- a line of text at a position
+abbrev pub placed_at : Position → List ℕ → Placed
+placed_at here text = record { at = here; text = text }
+
 -- the first line of the first page
 abbrev pub top_of_paper : Position
 top_of_paper = record { page = 1; line = 1 }

@@ -1,9 +1,9 @@
 //! The printed form: where the paper is, and the bytes that move it to a line.
 
-ghost use Rattle.std.specs.Prelude.{◌≡◌, ℕ, ◌+◌, ◌<◌, ◌≤◌, ◌↔◌, List, [], ◌∷◌, ◌++◌, Option, Some, None, IsTrue, OnOk, OnErr};
+ghost use Rattle.std.specs.Prelude.{◌≡◌, ◌+◌, ◌<◌, ◌≤◌, ◌↔◌, [], ◌++◌, Option, Some, None, IsTrue, OnOk, OnErr};
 ghost use Rattle.rpg_text.specs.Texts.{trimmed};
-ghost use Rattle.rpg_paper.specs.Paper.{Position, Placed, TurnsOverflowOn, turns_overflow_on, top_of_paper, spaced, skipped, bytes_from};
-ghost use Rattle.rpg_paper.specs.Form.{Adds, StandsAt, HasPrinted, at_first_line, here_of, form_after_space, form_after_skip, after_line, way_of};
+ghost use Rattle.rpg_paper.specs.Paper.{Position, TurnsOverflowOn, turns_overflow_on, top_of_paper, spaced, skipped};
+ghost use Rattle.rpg_paper.specs.Form.{Adds, AddsLine, PrintsLine, StandsAt, HasPrinted, at_first_line, here_of, form_after_space, form_after_skip, after_line, way_of};
 
 use crate::paper::append_times;
 use rpg_text::trimmed;
@@ -139,11 +139,8 @@ impl Form {
     /// trailing blanks.
     pub fn place(&mut self, text: &[u8], out: &mut Vec<u8>) -> Result<(), NoMemory>
         // The bytes are those of the paper, whatever was placed before.
-        ensures paper { (sent : List ℕ) (lines : List Placed) (here : Position)
-            → HasPrinted self.old lines here (sent ++ out.old.items)
-            → OnOk result (HasPrinted self.new (lines ++ record { at = here; text = text.now } ∷ []) here (sent ++ out.new.items)) }
-        ensures bytes { (last : Option Position) (here : Position) → StandsAt self.old last here
-            → OnOk result (out.new.items ≡ out.old.items ++ bytes_from last (record { at = here; text = text.now } ∷ [])) }
+        ensures paper { PrintsLine result self.old out.old.items text.now self.new out.new.items }
+        ensures bytes { AddsLine result self.old out.old.items text.now out.new.items }
         ensures stands { (last : Option Position) (here : Position) → StandsAt self.old last here
             → OnOk result (StandsAt self.new (Some here) here) }
 

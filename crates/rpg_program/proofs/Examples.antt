@@ -92,9 +92,9 @@ blank_is_zero = refl
 text_shows_nothing : order_of (Text (32 ∷ 65 ∷ [])) ≡ None
 text_shows_nothing = refl
 
-good_columns : input_fault forms 10 (record { from = 7; to = 10; field = Amount; shows = high }) ≡ None
+valid_columns : input_fault forms 10 (record { from = 7; to = 10; field = Amount; shows = high }) ≡ None
 unfolding input_fault
-good_columns = refl
+valid_columns = refl
 
 past_record : input_fault forms 9 (record { from = 7; to = 10; field = Amount; shows = high }) ≡ Some Storage
 unfolding input_fault

@@ -7,7 +7,7 @@ use Rattle.rpg_paper.specs.Paper.{Placed, Position, bytes_from}
 no_more : Bytes
 no_more = record { print = []; disk = [] }
 
--- nothing was put out
+-- nothing was output
 pub grows_not : (a : Bytes) → OnlyGrows a a
 unfolding no_more
 grows_not a = record { more = no_more; print = sym (append-nil a.print); disk = sym (append-nil a.disk) }

@@ -10,7 +10,7 @@ use Rattle.rpg_program.proofs.Putting.{quiet_done, then_done}
 use Rattle.rpg_program.specs.Effect.{Leaves}
 use Rattle.rpg_program.specs.Lines.{after_skip, after_space, spaced_after, spaced_before, after_movement, printed_line, put_on}
 use Rattle.rpg_program.specs.Put.{Bytes, Held, IsDone, IsLeft, line_of, on_paper}
-use Rattle.rpg_program.specs.Ends.{GoesOn}
+use Rattle.rpg_program.specs.Ends.{Continues}
 use Rattle.rpg_program.specs.Showing.{turned_on}
 use Rattle.rpg_program.specs.World.{World}
 use Rattle.rpg_program.specs.declared.line.File.TheVariants.{Printer, Disk}
@@ -90,7 +90,7 @@ bytes_are p q h g = ap (λ x. record { print = x; disk = p.disk }) h ∙ ap (λ 
 -- the line placed where the form stands
 placed_left : (previous : Option Position) (last : Option ℕ) (w : World nat_cmp) (text : List ℕ) (p o : Bytes) (v : Held) → last ≡ line_of previous →
     v.world ≡ from_line w → v.last ≡ Some w.paper.here.line → o.print ≡ p.print ++ way_of (form_of last w) ++ trimmed text → o.disk ≡ p.disk →
-    IsLeft previous (printed_line (on_paper previous w) text) p GoesOn v o
+    IsLeft previous (printed_line (on_paper previous w) text) p Continues v o
 placed_left previous last w text p o v l h k b d =
     let here : Position = on (page_or_1 previous) w.paper.here in
     let stands : StandsAt (form_of last w) previous here = record { last_line = l; page = refl; present_line = refl } in
@@ -109,21 +109,21 @@ pub print_done : (overflow : Option ℕ) (s : Spacing) (text : List ℕ) (w u v 
     u.world ≡ from_line (spaced_before overflow s w.world) → u.last ≡ Some (spaced_before overflow s w.world).paper.here.line →
     v.world ≡ spaced_after overflow s u.world → v.last ≡ u.last →
     o.print ≡ p.print ++ way_of (form_of w.last (spaced_before overflow s w.world)) ++ trimmed text → o.disk ≡ p.disk →
-    IsDone (put_on overflow Printer s text) w p GoesOn v o
+    IsDone (put_on overflow Printer s text) w p Continues v o
 unfolding put_on
 print_done overflow s text w u v p o h k i l b d =
     let before = spaced_before overflow s w.world in
-    let placed : IsDone (λ x. printed_line (spaced_before overflow s x) text) w p GoesOn u o = record {
-      following = λ previous e. subst (λ (x : World nat_cmp). IsLeft previous (printed_line x text) p GoesOn u o) (sym (before_on overflow previous s w.world))
+    let placed : IsDone (λ x. printed_line (spaced_before overflow s x) text) w p Continues u o = record {
+      following = λ previous e. subst (λ (x : World nat_cmp). IsLeft previous (printed_line x text) p Continues u o) (sym (before_on overflow previous s w.world))
           (placed_left previous w.last before text p o u e h k b d);
     } in
-    let moved : IsDone (λ x. Leaves (spaced_after overflow s x)) u o GoesOn v o =
-    quiet_done (spaced_after overflow s) GoesOn u v o l (λ previous. ap (on_paper previous) i ∙ sym (after_on overflow previous s u.world)) in
-    then_done (λ x. printed_line (spaced_before overflow s x) text) (λ x. Leaves (spaced_after overflow s x)) w u v p o o GoesOn placed moved
+    let moved : IsDone (λ x. Leaves (spaced_after overflow s x)) u o Continues v o =
+    quiet_done (spaced_after overflow s) Continues u v o l (λ previous. ap (on_paper previous) i ∙ sym (after_on overflow previous s u.world)) in
+    then_done (λ x. printed_line (spaced_before overflow s x) text) (λ x. Leaves (spaced_after overflow s x)) w u v p o o Continues placed moved
 
 -- a record written
 pub record_done : (overflow : Option ℕ) (s : Spacing) (text : List ℕ) (w : Held) (p o : Bytes) → o.print ≡ p.print → o.disk ≡ (p.disk ++ text) ++ 10 ∷ [] →
-    IsDone (put_on overflow Disk s text) w p GoesOn w o
+    IsDone (put_on overflow Disk s text) w p Continues w o
 unfolding put_on
 record_done overflow s text w p o h d = record {
   following = λ previous e. record {

@@ -5,7 +5,7 @@ use Rattle.rpg_paper.proofs.Papers.{bytes_from-append}
 use Rattle.rpg_paper.specs.Paper.{Position, Placed, bytes_from, last_position_from}
 use Rattle.rpg_program.specs.Effect.{Effect, quiet, then_go, go_on, after_output}
 use Rattle.rpg_program.specs.Put.{Bytes, Held, IsDone, IsLeft, disk_bytes, line_of, on_paper, with_output}
-use Rattle.rpg_program.specs.Ends.{End, GoesOn, Halt}
+use Rattle.rpg_program.specs.Ends.{End, Continues, Halt}
 use Rattle.rpg_program.specs.Ended.{Ended, ends_with, on_data}
 use Rattle.rpg_program.specs.World.{Data, World}
 
@@ -29,7 +29,7 @@ output_both previous xs ys rs ss p = bytes_are _ _
     (append_assoc p.disk (disk_bytes rs) (disk_bytes ss) ∙ ap (λ z. p.disk ++ z) (sym (disk-append rs ss)))
 
 left_both : (previous : Option Position) (one next : Effect nat_cmp) (p q r : Bytes) (v u : Held) (e : End) →
-    IsLeft previous one p GoesOn v q → IsLeft (last_position_from previous one.lines) next q e u r → IsLeft previous (after_output one next) p e u r
+    IsLeft previous one p Continues v q → IsLeft (last_position_from previous one.lines) next q e u r → IsLeft previous (after_output one next) p e u r
 left_both previous one next p q r v u e a b =
     let ends = end_from-lines previous one.lines next.lines in
     record {
@@ -41,7 +41,7 @@ left_both previous one next p q r v u e a b =
 
 -- the one went on, and then the other was done
 pub then_done : (one go : World nat_cmp → Effect nat_cmp) (w v u : Held) (p q r : Bytes) (e : End) →
-    IsDone one w p GoesOn v q → IsDone go v q e u r → IsDone (λ x. then_go (one x) go) w p e u r
+    IsDone one w p Continues v q → IsDone go v q e u r → IsDone (λ x. then_go (one x) go) w p e u r
 then_done one go w v u p q r e h g = record {
   following = λ previous l.
       let first = one (on_paper previous w.world) in
@@ -61,7 +61,7 @@ halts_done one go w v p q k h = record {
       subst (λ (x : End). IsLeft previous (go_on x first go) p (Halt k) v q) a.ending a;
 }
 
--- nothing is put out
+-- nothing is output
 pub quiet_done : (f : World nat_cmp → World nat_cmp) (e : End) (w v : Held) (q : Bytes) → v.last ≡ w.last →
     ((previous : Option Position) → on_paper previous v.world ≡ f (on_paper previous w.world)) → IsDone (λ x. quiet e (f x)) w q e v q
 quiet_done f e w v q l h = record {

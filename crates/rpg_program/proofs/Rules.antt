@@ -3,7 +3,7 @@ use Rattle.std.proofs.Common.{◌≡◌, ℕ, Bool, true, false, not, ◌&&◌, 
 use Rattle.rpg_program.specs.Ends.{Fault}
 use Rattle.rpg_program.specs.Forms.{has_field, is_array, is_index_form, is_plain, is_table, is_text_constant, is_writable, kind_of, may_write, same_kind}
 use Rattle.rpg_program.specs.LineFaults.{KeepsFieldRules, field_fault, fits_editing, fits_source, has_kinds, has_room, has_storage, has_word, prints_page, may_change}
-use Rattle.rpg_program.specs.Rows.{all_of, all_used, fits_use, has_entry, has_form, has_kind, has_shape, is_current_table, is_good_operand, is_one, is_one_entry, is_shaped, is_stored, is_table_as, is_there, is_writable_use, is_written, lacks_storage, mixes_kinds, operand_shape}
+use Rattle.rpg_program.specs.Rows.{all_of, all_used, fits_use, has_entry, has_form, has_kind, has_shape, is_current_table, is_valid_operand, is_one, is_one_entry, is_shaped, is_stored, is_table_as, is_there, is_writable_use, is_written, lacks_storage, mixes_kinds, operand_shape}
 use Rattle.rpg_program.specs.Right.{IsRightRow, KeepsRules}
 use Rattle.rpg_program.specs.declared.form.Class.{Class}
 use Rattle.rpg_program.specs.declared.form.Class.TheVariants as classes
@@ -68,11 +68,11 @@ module _ {K : Type 0} (forms : K → Option FieldForm) where
   form_of_use (Some d) u h k t = both (same_kind d.kind u.kind) _ k (shape_of u.shape d u.operand.index h t)
 
   -- a column, if something stands in it
-  there : (c : Option (Use (Operand K))) → all_used (is_good_operand forms) c ≡ true → all_used (is_there forms) c ≡ true
+  there : (c : Option (Use (Operand K))) → all_used (is_valid_operand forms) c ≡ true → all_used (is_there forms) c ≡ true
   there None h = refl
   there (Some u) h = (parts (is_there forms u) _ h).0
 
-  fits : (c : Option (Use (Operand K))) → all_used (is_good_operand forms) c ≡ true → all_used (has_kind forms) c ≡ true → all_used (is_current_table forms) c ≡ true → all_used (fits_use forms) c ≡ true
+  fits : (c : Option (Use (Operand K))) → all_used (is_valid_operand forms) c ≡ true → all_used (has_kind forms) c ≡ true → all_used (is_current_table forms) c ≡ true → all_used (fits_use forms) c ≡ true
   fits None h k t = refl
   fits (Some u) h k t = form_of_use (forms u.operand.field) u (parts (is_there forms u) _ h).1 k t
 
@@ -96,11 +96,11 @@ module _ {K : Type 0} (forms : K → Option FieldForm) where
   pub right_row : (r : Row (Operand K)) → KeepsRules forms r → IsRightRow forms r
   unfolding lacks_storage mixes_kinds
   right_row r h =
-      let at = three (is_there forms) r (there r.factor1 (first _ r h.good)) (there r.factor2 (second _ r h.good)) (there r.result (third _ r h.good)) in
+      let at = three (is_there forms) r (there r.factor1 (first _ r h.valid)) (there r.factor2 (second _ r h.valid)) (there r.result (third _ r h.valid)) in
       let fit = three (fits_use forms) r
-      (fits r.factor1 (first _ r h.good) (first _ r h.kinds) (first _ r h.tables))
-      (fits r.factor2 (second _ r h.good) (second _ r h.kinds) (second _ r h.tables))
-      (fits r.result (third _ r h.good) (third _ r h.kinds) (third _ r h.tables)) in
+      (fits r.factor1 (first _ r h.valid) (first _ r h.kinds) (first _ r h.tables))
+      (fits r.factor2 (second _ r h.valid) (second _ r h.kinds) (second _ r h.tables))
+      (fits r.result (third _ r h.valid) (third _ r h.kinds) (third _ r h.tables)) in
       record {
         storage = no _ (both (all_of (is_there forms) r) _ at (written r.result h.result));
         kinds = neither _ _ (no (all_of (fits_use forms) r) fit) h.one_sided;

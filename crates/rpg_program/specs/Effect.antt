@@ -2,7 +2,7 @@
 use Rattle.std.specs.Prelude.{ℕ, List, [], ◌++◌, Option, None, Some}
 use Rattle.std.specs.declared.cmp.Ordering.{Ordering}
 use Rattle.rpg_paper.specs.Paper.{Placed}
-use Rattle.rpg_program.specs.Ends.{End, Fault, GoesOn, Halt, Wrong}
+use Rattle.rpg_program.specs.Ends.{End, Fault, Continues, Halt, Wrong}
 use Rattle.rpg_program.specs.World.{World}
 
 -- the lines placed on the printer's paper, each at its page and line, and the records for the disk
@@ -19,7 +19,7 @@ module _ {K : Type 0} {R : K → K → Ordering} where
 
   -- continues with this world, and outputs nothing
   abbrev pub Leaves : World R → Effect R
-  Leaves w = quiet GoesOn w
+  Leaves w = quiet Continues w
 
   -- what an effect outputs follows what another output
   abbrev pub after_output : Effect R → Effect R → Effect R
@@ -27,7 +27,7 @@ module _ {K : Type 0} {R : K → K → Ordering} where
 
   -- an effect that continues is followed by another
   abbrev pub go_on : End → Effect R → (World R → Effect R) → Effect R
-  go_on GoesOn e go = after_output e (go e.world)
+  go_on Continues e go = after_output e (go e.world)
   go_on (Halt k) e go = e
   go_on (Wrong f) e go = e
 

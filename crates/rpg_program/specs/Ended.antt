@@ -3,7 +3,7 @@
 use Rattle.std.specs.Prelude.{ℕ, Option, None, Some}
 use Rattle.std.specs.declared.cmp.Ordering.{Ordering}
 use Rattle.rpg_program.specs.Effect.{Effect, quiet}
-use Rattle.rpg_program.specs.Ends.{End, Fault, GoesOn, Halt, Wrong}
+use Rattle.rpg_program.specs.Ends.{End, Fault, Continues, Halt, Wrong}
 use Rattle.rpg_program.specs.World.{Data, World, with_data}
 
 -- an ending, and the data then
@@ -18,11 +18,11 @@ module _ {K : Type 0} {R : K → K → Ordering} where
 
   -- continues with that data
   abbrev pub Gives : Data R → Ended R
-  Gives d = ends_with GoesOn d
+  Gives d = ends_with Continues d
 
   -- what continues is followed by what comes next
   abbrev pub followed_if : End → Ended R → (Data R → Ended R) → Ended R
-  followed_if GoesOn o go = go o.data
+  followed_if Continues o go = go o.data
   followed_if (Halt k) o go = o
   followed_if (Wrong f) o go = o
 

@@ -14,11 +14,11 @@ pub data Fault : Type 0 where
 
 -- It continues, halts the job with a number, or is wrong.
 pub data End : Type 0 where
-  GoesOn : End
+  Continues : End
   Halt : ℕ → End
   Wrong : Fault → End
 
 -- the end that the code's result means; the code has no case for a fault
 abbrev pub end_of : rust.End → End
-end_of answers.GoesOn = GoesOn
+end_of answers.Continues = Continues
 end_of (answers.Halt h) = Halt (halt_number h)

@@ -7,7 +7,7 @@ use Rattle.std.specs.declared.cmp.Ordering.{Ordering}
 use Rattle.rpg_paper.specs.Paper.{Position, spaced, skipped, turns_overflow_on}
 use Rattle.rpg_program.specs.Effect.{Effect, Leaves, quiet, then_go, unless_wrong}
 use Rattle.rpg_program.specs.Editing.{how_of, text_of}
-use Rattle.rpg_program.specs.Ends.{End, Fault, GoesOn, Halt, Wrong}
+use Rattle.rpg_program.specs.Ends.{End, Fault, Continues, Halt, Wrong}
 use Rattle.rpg_program.specs.Entries.{position_of}
 use Rattle.rpg_program.specs.LineFaults.{field_fault, line_fault}
 use Rattle.rpg_program.specs.Showing.{turned_on, turned_off}
@@ -67,8 +67,8 @@ abbrev pub is_met : Option ℕ → Pass → set.FinSet nat_cmp → Time → List
 is_met overflow pass on time cs = is_pass (pass_of overflow time cs) pass && all_hold on cs
 
 -- a line is due if one of its alternatives is met
-abbrev pub is_asked : Option ℕ → Pass → set.FinSet nat_cmp → Time → List (List Condition) → Bool
-is_asked overflow pass on time alternatives = list_any (λ cs. is_met overflow pass on time cs) alternatives
+abbrev pub is_due : Option ℕ → Pass → set.FinSet nat_cmp → Time → List (List Condition) → Bool
+is_due overflow pass on time alternatives = list_any (λ cs. is_met overflow pass on time cs) alternatives
 
 -- ---- the form
 
@@ -90,11 +90,11 @@ module _ {K : Type 0} {R : K → K → Ordering} where
 
   -- the line is placed where the form is
   abbrev pub printed_line : World R → List ℕ → Effect R
-  printed_line w text = record { ending = GoesOn; world = w; lines = record { at = w.paper.here; text = text } ∷ []; records = [] }
+  printed_line w text = record { ending = Continues; world = w; lines = record { at = w.paper.here; text = text } ∷ []; records = [] }
 
   -- the text becomes a record of the disk
   abbrev pub recorded : World R → List ℕ → Effect R
-  recorded w text = record { ending = GoesOn; world = w; lines = []; records = text ∷ [] }
+  recorded w text = record { ending = Continues; world = w; lines = []; records = text ∷ [] }
 
   -- skip before, space before
   abbrev pub spaced_before : Option ℕ → Spacing → World R → World R
@@ -175,7 +175,7 @@ module _ {K : Type 0} {R : K → K → Ordering} where
 
   -- a draft that continues is passed to what follows
   abbrev pub go_on_with : End → Drafted R → (Draft R → Drafted R) → Drafted R
-  go_on_with GoesOn d go = go d.draft
+  go_on_with Continues d go = go d.draft
   go_on_with (Halt k) d go = d
   go_on_with (Wrong f) d go = d
 
@@ -197,7 +197,7 @@ module _ {K : Type 0} {R : K → K → Ordering} (forms : K → Option FieldForm
   laid d f None = drafted (Halt 2) d
   laid d f (Some position) =
       let fields = with_page_counted f.source (f.operand.field, position) d.fields in
-      drafted GoesOn (record {
+      drafted Continues (record {
         fields = fields;
         text = laid_over d.text f.end (text_of (forms f.operand.field) (how_of words f.editing f.fill) (value_in fields (f.operand.field, position)));
         to_blank = remembered f.is_blanked (f.operand.field, position) d.to_blank;
@@ -208,34 +208,34 @@ module _ {K : Type 0} {R : K → K → Ordering} (forms : K → Option FieldForm
   with_field on len d f =
       if three_hold on f.conditions
       then unless_faulty (field_fault forms words len f) d (laid d f (position_of forms d.fields f.operand))
-      else drafted GoesOn d
+      else drafted Continues d
 
   -- all fields in order, until one is faulty or halts
   abbrev pub assembled : set.FinSet nat_cmp → ℕ → List (LineField K) → Draft R → Drafted R
-  assembled on len [] d = drafted GoesOn d
+  assembled on len [] d = drafted Continues d
   assembled on len (f ∷ fs) d = let one = with_field on len d f in go_on_with one.ending one (assembled on len fs)
 
   -- the line is output, and then its entries are blanked, unless a field has halted it
-  abbrev pub put_out : Option ℕ → Line K → World R → End → Draft R → Effect R
-  put_out overflow l w GoesOn d =
+  abbrev pub write_line_out : Option ℕ → Line K → World R → End → Draft R → Effect R
+  write_line_out overflow l w Continues d =
       then_go (put_on overflow l.file l.spacing d.text (with_fields d.fields w)) (λ v. Leaves (with_fields (blanked_all d.to_blank v.data.fields) v))
-  put_out overflow l w (Halt k) d = quiet (Halt k) (with_fields d.fields w)
-  put_out overflow l w (Wrong f) d = quiet (Wrong f) (with_fields d.fields w)
+  write_line_out overflow l w (Halt k) d = quiet (Halt k) (with_fields d.fields w)
+  write_line_out overflow l w (Wrong f) d = quiet (Wrong f) (with_fields d.fields w)
 
   -- a line is assembled, and then output
   unfoldable pub line_out : Option ℕ → Line K → World R → Effect R
   line_out overflow l w =
       unless_wrong (line_fault l.len l.spacing) w
-      (let done = assembled w.data.on l.len l.fields (blank_line l.len w) in put_out overflow l w done.ending done.draft)
+      (let done = assembled w.data.on l.len l.fields (blank_line l.len w) in write_line_out overflow l w done.ending done.draft)
 
   -- an effect, if it is due
-  abbrev pub where_asked : Bool → Effect R → World R → Effect R
-  where_asked true e w = e
-  where_asked false e w = Leaves w
+  abbrev pub where_due : Bool → Effect R → World R → Effect R
+  where_due true e w = e
+  where_due false e w = Leaves w
 
   -- a line, if it is due in this pass
   unfoldable pub one_out : Option ℕ → Pass → Line K → World R → Effect R
-  one_out overflow pass l w = where_asked (is_asked overflow pass w.data.on l.time l.alternatives) (line_out overflow l w) w
+  one_out overflow pass l w = where_due (is_due overflow pass w.data.on l.time l.alternatives) (line_out overflow l w) w
 
   -- the lines of a pass, in order
   unfoldable pub lines_out : Option ℕ → Pass → List (Line K) → World R → Effect R

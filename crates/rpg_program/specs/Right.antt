@@ -1,6 +1,6 @@
 -- A row of the table of operations with nothing wrong, and what the verifier's rules require of it.
 use Rattle.std.specs.Prelude.{◌≡◌, true, false, Option}
-use Rattle.rpg_program.specs.Rows.{all_of, all_used, has_kind, holds_positions, is_current_table, is_good_operand, is_two_sided, is_writable_use, lacks_storage, mixes_kinds}
+use Rattle.rpg_program.specs.Rows.{all_of, all_used, has_kind, holds_positions, is_current_table, is_valid_operand, is_two_sided, is_writable_use, lacks_storage, mixes_kinds}
 use Rattle.rpg_program.specs.declared.form.FieldForm.{FieldForm}
 use Rattle.rpg_program.specs.declared.operation.Operand.{Operand}
 use Rattle.rpg_program.specs.declared.row.Row.{Row}
@@ -16,7 +16,7 @@ module _ {K : Type 0} (forms : K → Option FieldForm) where
   -- valid operands, of the kinds of their columns, a result that may be written, no search for both high and low, a table for what becomes
   -- current, and positions that fit
   pub record KeepsRules (r : Row (Operand K)) : Type 0 where
-    pub good : all_of (is_good_operand forms) r ≡ true
+    pub valid : all_of (is_valid_operand forms) r ≡ true
     pub kinds : all_of (has_kind forms) r ≡ true
     pub result : all_used (is_writable_use forms) r.result ≡ true
     pub one_sided : is_two_sided r.marks ≡ false

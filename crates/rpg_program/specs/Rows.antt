@@ -170,8 +170,8 @@ module _ {K : Type 0} (forms : K → Option FieldForm) where
   has_kind u = same_kind (kind_of (forms u.operand.field)) u.kind
 
   -- it is a valid operand: its field and its index exist, and the index is as its shape requires
-  abbrev pub is_good_operand : Use (Operand K) → Bool
-  is_good_operand u = is_there u && is_shaped (forms u.operand.field) (operand_shape u.shape) u.operand.index
+  abbrev pub is_valid_operand : Use (Operand K) → Bool
+  is_valid_operand u = is_there u && is_shaped (forms u.operand.field) (operand_shape u.shape) u.operand.index
 
   -- a field or an entry that doesn't exist, or a write that isn't allowed
   unfoldable pub lacks_storage : Row (Operand K) → Bool

@@ -23,9 +23,9 @@ found_as order None = None
 found_as order (Some n) = Some (record { order = order; position = n })
 
 -- what is found, if an indicator is named for it
-abbrev pub if_asked : Option ℕ → Option Found → Option Found
-if_asked None f = None
-if_asked (Some indicator) f = f
+abbrev pub if_named : Option ℕ → Option Found → Option Found
+if_named None f = None
+if_named (Some indicator) f = f
 
 -- one, or the other if nothing was found
 abbrev pub or_else : Option Found → Option Found → Option Found
@@ -55,6 +55,6 @@ module _ (standing : ℕ → Ordering) where
   -- the nearest of the entries that EQ, HI or LO name; EQ's has priority
   unfoldable pub search_of : Shows → List ℕ → Option Found
   search_of s ns =
-      or_else (if_asked s.zero (found_as Equal (nearest Equal ns)))
-      (or_else (if_asked s.plus (found_as Greater (nearest Greater ns)))
-      (if_asked s.minus (found_as Less (nearest Less ns))))
+      or_else (if_named s.zero (found_as Equal (nearest Equal ns)))
+      (or_else (if_named s.plus (found_as Greater (nearest Greater ns)))
+      (if_named s.minus (found_as Less (nearest Less ns))))

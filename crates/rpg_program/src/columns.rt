@@ -265,8 +265,8 @@ fn operand_shape(shape: Shape) -> Shape
 }
 
 /// Whether the field and the index exist, and the index is as the shape requires.
-pub fn is_good(rows: &Rows, used: Use<Operand<u16>>) -> bool
-    ensures { result ≡ words.is_good_operand (forms.form_at rows.now.fields.items) used }
+pub fn is_valid(rows: &Rows, used: Use<Operand<u16>>) -> bool
+    ensures { result ≡ words.is_valid_operand (forms.form_at rows.now.fields.items) used }
 {
     let form = form_at(rows, used.operand.field);
     has_entry(rows, used.operand)

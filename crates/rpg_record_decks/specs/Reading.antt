@@ -18,7 +18,7 @@ type_read t = record { card = t.card; codes = t.codes.items; fields = t.fields.i
 abbrev pub types_done : Types → List TypeRead
 types_done types = map type_read types.done.items
 
--- the type that further cards go on with
+-- the type that further cards continue
 abbrev pub type_now : Types → Option TypeRead
 type_now types = option_map type_read types.now
 

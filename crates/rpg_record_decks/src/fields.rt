@@ -79,7 +79,7 @@ pub(crate) fn number_field(
 ) -> Result<NumberField, CardFault>
     requires counted { 1 ≤ field.first }
     requires ordered { field.first ≤ field.last }
-    ensures good { IfOk result (λ number. (number_fault field form ≡ None) × (number_seen number ≡ number_on_card card field form)) }
+    ensures valid { IfOk result (λ number. (number_fault field form ≡ None) × (number_seen number ≡ number_on_card card field form)) }
     ensures bad { IfErr result (λ fault. number_fault field form ≡ Some fault) }
 {
     let (first, last) = (field.first, field.last);

@@ -35,7 +35,7 @@ fn refuse_numbers(types: &[TypeCards]) -> Result<(), DeckFault>
 
 /// Checks that there is a type, and, if records are lines, that none has packed or binary fields.
 fn refuse_types(are_lines: bool, card: u16, types: &[TypeCards]) -> Result<(), DeckFault>
-    ensures good { OnOk result (and_then (some_types card (map type_read types.now)) (framed are_lines) ≡ Ok (map type_read types.now)) }
+    ensures valid { OnOk result (and_then (some_types card (map type_read types.now)) (framed are_lines) ≡ Ok (map type_read types.now)) }
     ensures bad { IfErr result (λ fault. and_then (some_types card (map type_read types.now)) (framed are_lines) ≡ Err fault) }
 {
     if types.is_empty() {

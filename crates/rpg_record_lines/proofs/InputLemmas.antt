@@ -123,7 +123,7 @@ shift false x p q = refl
 fewer : (k n : ℕ) → suc k - suc n ≡ k - n
 fewer k n = omega arith
 
--- the first line of two parts ends in the first of them, or goes on in the second
+-- the first line of two parts ends in the first of them, or continues in the second
 abbrev MoreOf : ℕ → List ℕ → List ℕ → Type 0
 MoreOf k left rest =
     first_line k (left ++ rest) ≡ cond (list_any is_line_feed (take k left)) (first_line k left) (first_line k left ++ first_line (k - length (first_line k left)) rest)

@@ -55,7 +55,7 @@ abbrev pub line_cut : ℕ → List ℕ → Cut
 line_cut most piece =
     if length piece == 0 then Finished else (if nat_lt most (length (unterminated piece)) then Refused (faults.LongLine most) else Whole (length piece) (unterminated piece))
 
--- a line, which may end without a line feed, is sought among this many bytes and two more
+-- a line, which may end without a line feed, is looked for among this many bytes and two more
 abbrev pub next_line : ℕ → List ℕ → Cut
 next_line most input = line_cut most (take_through 10 (take (counted (most + 2)) input))
 

@@ -99,7 +99,7 @@ fn missing_in(columns: &[u8]) -> Option<usize>
 #[tactic(auto, using(crate::proofs::LineLemmas::place_within))]
 fn bad_character(bytes: &[u8], columns: &[u8]) -> Result<(), RecordFault>
     requires { length bytes.now ≡ length columns.now }
-    ensures good { OnOk result (unless_bad bytes.now columns.now (position (λ c. c == 0) columns.now) ≡ Ok columns.now) }
+    ensures valid { OnOk result (unless_bad bytes.now columns.now (position (λ c. c == 0) columns.now) ≡ Ok columns.now) }
     ensures bad { IfErr result (λ fault. unless_bad bytes.now columns.now (position (λ c. c == 0) columns.now) ≡ Err fault) }
 {
     match missing_in(columns) {

@@ -85,8 +85,8 @@ number_split front b =
     ap₂ (λ d s. signed_number (is_minus_sign s) d) (digits_split front b) (sign_split front b)
     ∙ ap (λ v. if is_minus_sign (b % 16) then neg_ℤ (pos v) else pos v) (place_value_push (halves front) (b / 16))
 
-pub is_packed-good : (front : List ℕ) (b : ℕ) → list_all is_figure (halves front) ≡ true → b / 16 < 10 → 10 ≤ b % 16 → is_packed (front ++ b ∷ []) ≡ true
-is_packed-good front b h l s =
+pub is_packed-valid : (front : List ℕ) (b : ℕ) → list_all is_figure (halves front) ≡ true → b / 16 < 10 → 10 ≤ b % 16 → is_packed (front ++ b ∷ []) ≡ true
+is_packed-valid front b h l s =
     let one : is_figure (b / 16) ≡ true = grind (arith, nat_tests) in
     let two : is_sign (b % 16) ≡ true = grind (arith, nat_tests) in
     is_split front b ∙ and_from _ _ (list_all-append is_figure (halves front) (b / 16 ∷ []) ∙ and_from _ _ h (and_from _ _ one refl)) two
@@ -163,9 +163,9 @@ packed_back k n low fits =
     let below : size / 10 < 10 ^ (2 * (k - 1)) = omega arith in
     let value : place_value (halves front) * 10 + b / 16 ≡ size =
     ap₂ (λ v d. v * 10 + d) (ap place_value front_is ∙ place_value-digits (2 * (k - 1)) (size / 10) ∙ mod-eq_of_lt below) digit ∙ div-add-mod' size 10 in
-    let good : is_packed (front ++ b ∷ []) ≡ true =
-    is_packed-good front b (ap (list_all is_figure) front_is ∙ figures-digits (2 * (k - 1)) (size / 10)) (omega (arith, digit)) (omega (arith, sign, bound.1)) in
-    in_some (front ++ b ∷ []) good
+    let valid : is_packed (front ++ b ∷ []) ≡ true =
+    is_packed-valid front b (ap (list_all is_figure) front_is ∙ figures-digits (2 * (k - 1)) (size / 10)) (omega (arith, digit)) (omega (arith, sign, bound.1)) in
+    in_some (front ++ b ∷ []) valid
     ∙ ap Some (number_split front b ∙ ap₂ (λ s v. if is_minus_sign s then neg_ℤ (pos v) else pos v) sign value ∙ sign_back n)
 
 -- ---- sizes

@@ -5,7 +5,7 @@ use Rattle.std.proofs.lemmas.List.{map-append}
 use Rattle.std.specs.Option.{is_some, option_or}
 use Rattle.std.specs.Prelude.{◌||◌, nat_le}
 use Rattle.rpg_program.specs.Forms.{entries_of, form_at}
-use Rattle.rpg_program.specs.Rows.{all_of, all_used, can_hold, field_of, holds_all, holds_position, holds_positions, is_current_table, is_good_operand, is_searched, is_two_sided, is_writable_use}
+use Rattle.rpg_program.specs.Rows.{all_of, all_used, can_hold, field_of, holds_all, holds_position, holds_positions, is_current_table, is_valid_operand, is_searched, is_two_sided, is_writable_use}
 use Rattle.rpg_program.specs.declared.row.Marks.{Marks}
 use Rattle.rpg_program.specs.declared.operation.Instruction.{Instruction}
 use Rattle.rpg_program.specs.declared.operation.Instruction.TheVariants.{Act, Except, Branch, Call, Return}
@@ -24,7 +24,7 @@ use Rattle.rpg_refusal_causes.specs.declared.cause.Column.{Column}
 use Rattle.rpg_refusal_causes.specs.declared.cause.Column.TheVariants as column_names
 use Rattle.rpg_refusal_causes.specs.declared.cause.Placed.{Placed}
 use Rattle.rpg_refusal_causes.specs.declared.cause.RefusalCause.TheVariants as causes
-use Rattle.rpg_verify_rules.specs.PlaceRules.{are_marked, calls_higher, columns_of_kind, has_known_kind, is_ascending, is_ordered, is_searched_well, judged_after_detail, passing, place_breaks, places_judged, stays_inside, subroutines_judged, those_passing, written_columns, are_asked, holds_found}
+use Rattle.rpg_verify_rules.specs.PlaceRules.{are_marked, calls_higher, columns_of_kind, has_known_kind, is_ascending, is_ordered, is_searched_well, judged_after_detail, passing, place_breaks, places_judged, stays_inside, subroutines_judged, those_passing, written_columns, are_testable, holds_found}
 use Rattle.rpg_verify_rules.specs.declared.rule.PlaceRule.{PlaceRule}
 use Rattle.rpg_verify_rules.specs.declared.rule.PlaceRule.TheVariants.{V16, V17, V18, V19, V20, V21, V22}
 
@@ -49,33 +49,33 @@ module _ (test : Use (Operand ℕ) → Bool) where
       (column_cause (λ u. not (test u)) column_names.Factor1 r.factor1) (column_cause (λ u. not (test u)) column_names.Factor2 r.factor2) (column_cause (λ u. not (test u)) column_names.Result r.result)
       (column_has column_names.Factor1 r.factor1) (column_has column_names.Factor2 r.factor2) (column_has column_names.Result r.result) h
 
-module _ (good known : Use (Operand ℕ) → Bool) where
-  kind_has : (c : Column) (o : Option (Use (Operand ℕ))) → all_used known (passing good o) ≡ false → is_some (column_cause (λ u. good u && not (known u)) c o) ≡ true
+module _ (valid known : Use (Operand ℕ) → Bool) where
+  kind_has : (c : Column) (o : Option (Use (Operand ℕ))) → all_used known (passing valid o) ≡ false → is_some (column_cause (λ u. valid u && not (known u)) c o) ≡ true
   kind_has c None h = absurd (false≢true (sym h))
-  kind_has c (Some u) h = by_good (good u) h
+  kind_has c (Some u) h = by_valid (valid u) h
     where
-      by_good : (b : Bool) → all_used known (cond b (Some u) None) ≡ false → is_some (cause_if (b && not (known u)) (causes.Operand c u)) ≡ true
-      by_good true e = some_unless (known u) (causes.Operand c u) e
-      by_good false e = absurd (false≢true (sym e))
+      by_valid : (b : Bool) → all_used known (cond b (Some u) None) ≡ false → is_some (cause_if (b && not (known u)) (causes.Operand c u)) ≡ true
+      by_valid true e = some_unless (known u) (causes.Operand c u) e
+      by_valid false e = absurd (false≢true (sym e))
 
-  kinds_have : (r : Row (Operand ℕ)) → not (all_of known (those_passing good r)) ≡ true → is_some (instruction_operand_cause (λ u. good u && not (known u)) r) ≡ true
+  kinds_have : (r : Row (Operand ℕ)) → not (all_of known (those_passing valid r)) ≡ true → is_some (instruction_operand_cause (λ u. valid u && not (known u)) r) ≡ true
   kinds_have r h =
-      one_of_three (all_used known (passing good r.factor1)) (all_used known (passing good r.factor2)) (all_used known (passing good r.result))
-      (column_cause (λ u. good u && not (known u)) column_names.Factor1 r.factor1) (column_cause (λ u. good u && not (known u)) column_names.Factor2 r.factor2) (column_cause (λ u. good u && not (known u)) column_names.Result r.result)
+      one_of_three (all_used known (passing valid r.factor1)) (all_used known (passing valid r.factor2)) (all_used known (passing valid r.result))
+      (column_cause (λ u. valid u && not (known u)) column_names.Factor1 r.factor1) (column_cause (λ u. valid u && not (known u)) column_names.Factor2 r.factor2) (column_cause (λ u. valid u && not (known u)) column_names.Result r.result)
       (kind_has column_names.Factor1 r.factor1) (kind_has column_names.Factor2 r.factor2) (kind_has column_names.Result r.result) h
 
-  written_has : (writable : Use (Operand ℕ) → Bool) (c : Column) (o : Option (Use (Operand ℕ))) → not (all_used writable (passing known (passing good o))) ≡ true →
+  written_has : (writable : Use (Operand ℕ) → Bool) (c : Column) (o : Option (Use (Operand ℕ))) → not (all_used writable (passing known (passing valid o))) ≡ true →
       is_some (column_cause (λ u. not (writable u)) c o) ≡ true
   written_has writable c None h = absurd (false≢true h)
-  written_has writable c (Some u) h = by_good (good u) h
+  written_has writable c (Some u) h = by_valid (valid u) h
     where
       by_known : (b : Bool) → not (all_used writable (cond b (Some u) None)) ≡ true → is_some (cause_if (not (writable u)) (causes.Operand c u)) ≡ true
       by_known true e = some_if (not (writable u)) (causes.Operand c u) e
       by_known false e = absurd (false≢true e)
 
-      by_good : (b : Bool) → not (all_used writable (passing known (cond b (Some u) None))) ≡ true → is_some (cause_if (not (writable u)) (causes.Operand c u)) ≡ true
-      by_good true e = by_known (known u) e
-      by_good false e = absurd (false≢true e)
+      by_valid : (b : Bool) → not (all_used writable (passing known (cond b (Some u) None))) ≡ true → is_some (cause_if (not (writable u)) (causes.Operand c u)) ≡ true
+      by_valid true e = by_known (known u) e
+      by_valid false e = absurd (false≢true e)
 
 -- ---- indicators, and where control goes
 
@@ -91,7 +91,7 @@ shows_have p m factor2 h = by (are_marked m) (is_two_sided m) (is_ordered m) fac
     by true false true None h = absurd (false≢true h)
     by true false true (Some u) h = some_if (not (is_ascending p u)) (causes.Unordered m u) h
 
-marks_has : (p : Object) (i : Instruction ℕ) → not (are_asked p.version i && (are_marked (columns p i).marks && is_searched_well p (columns_of_kind p i))) ≡ true → is_some (marks_cause p i) ≡ true
+marks_has : (p : Object) (i : Instruction ℕ) → not (are_testable p.version i && (are_marked (columns p i).marks && is_searched_well p (columns_of_kind p i))) ≡ true → is_some (marks_cause p i) ≡ true
 marks_has p (Act a) h = shows_have p (columns p (Act a)).marks (columns_of_kind p (Act a)).factor2 h
 marks_has p Except h = shows_have p (columns p Except).marks (columns_of_kind p Except).factor2 h
 marks_has p (Branch is_taken_where cs target) h = refl
@@ -140,9 +140,9 @@ call_has p s (Return n) h = absurd (false≢true h)
 
 pub place_has : (r : PlaceRule) (p : Object) (x : Placed) → place_breaks r p x.span.section x.instruction ≡ true → is_some (place_cause r p x) ≡ true
 unfolding place_breaks place_cause
-place_has V16 p x h = operand_has (is_good_operand (form_at p.fields)) (columns p x.instruction) h
-place_has V17 p x h = kinds_have (is_good_operand (form_at p.fields)) (has_known_kind p x.instruction) (columns p x.instruction) h
-place_has V18 p x h = written_has (is_good_operand (form_at p.fields)) (has_known_kind p x.instruction) (is_writable_use (form_at p.fields)) column_names.Result (columns p x.instruction).result h
+place_has V16 p x h = operand_has (is_valid_operand (form_at p.fields)) (columns p x.instruction) h
+place_has V17 p x h = kinds_have (is_valid_operand (form_at p.fields)) (has_known_kind p x.instruction) (columns p x.instruction) h
+place_has V18 p x h = written_has (is_valid_operand (form_at p.fields)) (has_known_kind p x.instruction) (is_writable_use (form_at p.fields)) column_names.Result (columns p x.instruction).result h
 place_has V19 p x h = marks_has p x.instruction h
 place_has V20 p x h = search_has p x.instruction (written_columns p x.instruction) h
 place_has V21 p x h = target_has p x.span x.span.section x.instruction h

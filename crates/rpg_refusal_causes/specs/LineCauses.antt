@@ -8,14 +8,14 @@ use Rattle.rpg_program.specs.declared.rows.Version.{Version}
 use Rattle.rpg_refusal_causes.specs.First.{cause_if, first_cause}
 use Rattle.rpg_refusal_causes.specs.declared.cause.RefusalCause.{RefusalCause}
 use Rattle.rpg_refusal_causes.specs.declared.cause.RefusalCause.TheVariants as causes
-use Rattle.rpg_verify_rules.specs.Indicators.{may_be_asked}
-use Rattle.rpg_verify_rules.specs.LineRules.{asks_wrongly, blanks_wrongly, is_field_there, lacks_editing, lacks_room, lacks_word}
+use Rattle.rpg_verify_rules.specs.Indicators.{is_testable}
+use Rattle.rpg_verify_rules.specs.LineRules.{has_untestable_condition, blanks_wrongly, is_field_there, lacks_editing, lacks_room, lacks_word}
 use Rattle.rpg_verify_rules.specs.declared.rule.LineRule.{LineRule}
 use Rattle.rpg_verify_rules.specs.declared.rule.LineRule.TheVariants.{V2, V8, V9, V10, V11, V12, V13, V14, V15}
 
--- an alternative with a condition that may not be asked
+-- an alternative with a condition that may not be tested
 abbrev pub alternative_cause : Version → ℕ → List Condition → Option RefusalCause
-alternative_cause v n cs = cause_if (not (list_all (may_be_asked v) cs)) (causes.Alternative n)
+alternative_cause v n cs = cause_if (not (list_all (is_testable v) cs)) (causes.Alternative n)
 
 -- a field of a line of that length breaks the rule
 abbrev pub field_breaks : LineRule → Object → ℕ → LineField ℕ → Bool
@@ -24,7 +24,7 @@ field_breaks V11 p len f = lacks_editing p f
 field_breaks V12 p len f = lacks_word p f
 field_breaks V13 p len f = lacks_room p len f
 field_breaks V14 p len f = blanks_wrongly p len f
-field_breaks V15 p len f = asks_wrongly p len f
+field_breaks V15 p len f = has_untestable_condition p len f
 field_breaks V2 p len f = false
 field_breaks V8 p len f = false
 field_breaks V9 p len f = false

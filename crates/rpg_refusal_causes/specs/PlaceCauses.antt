@@ -3,7 +3,7 @@ use Rattle.std.specs.Prelude.{ℕ, ◌+◌, Bool, false, not, ◌&&◌, nat_le, 
 use Rattle.std.specs.Prelude.{if◌then◌else◌}
 use Rattle.std.specs.Option.{option_map, option_map_or, option_or}
 use Rattle.rpg_program.specs.Forms.{entries_of, form_at}
-use Rattle.rpg_program.specs.Rows.{can_hold, is_current_table, is_good_operand, is_searched, is_two_sided, is_writable_use}
+use Rattle.rpg_program.specs.Rows.{can_hold, is_current_table, is_valid_operand, is_searched, is_two_sided, is_writable_use}
 use Rattle.rpg_program.specs.declared.condition.Conditions.{Conditions}
 use Rattle.rpg_program.specs.declared.operation.Instruction.{Instruction}
 use Rattle.rpg_program.specs.declared.operation.Instruction.TheVariants.{Branch, Call}
@@ -58,8 +58,8 @@ placed_at p place = slice_get (all_placed p) place
 
 -- it doesn't exist as required; it is of another kind; it may not be written; it is to become current, but isn't a table
 abbrev pub operand_breaks : PlaceRule → Object → Instruction ℕ → Use (Operand ℕ) → Bool
-operand_breaks V16 p i u = not (is_good_operand (form_at p.fields) u)
-operand_breaks V17 p i u = is_good_operand (form_at p.fields) u && not (has_known_kind p i u)
+operand_breaks V16 p i u = not (is_valid_operand (form_at p.fields) u)
+operand_breaks V17 p i u = is_valid_operand (form_at p.fields) u && not (has_known_kind p i u)
 operand_breaks V18 p i u = not (is_writable_use (form_at p.fields) u)
 operand_breaks V20 p i u = not (is_current_table (form_at p.fields) u)
 operand_breaks r p i u = false
@@ -90,14 +90,14 @@ marked_cause p m factor2 = option_or (cause_if (not (are_marked m && not (is_two
 abbrev pub shows_cause : Object → Instruction ℕ → Option RefusalCause
 shows_cause p i = marked_cause p (columns p i).marks (columns_of_kind p i).factor2
 
--- the conditions that a branch asks
-abbrev pub asked_by : Instruction ℕ → Option Conditions
-asked_by (Branch is_taken_where cs target) = Some cs
-asked_by i = None
+-- the conditions that a branch tests
+abbrev pub tested_by : Instruction ℕ → Option Conditions
+tested_by (Branch is_taken_where cs target) = Some cs
+tested_by i = None
 
--- a branch asks indicators, an operation is marked by them
+-- a branch tests indicators, an operation is marked by them
 abbrev pub marks_cause : Object → Instruction ℕ → Option RefusalCause
-marks_cause p i = option_map_or (λ cs. Some (causes.Asked cs)) (asked_by i) (shows_cause p i)
+marks_cause p i = option_map_or (λ cs. Some (causes.Tested cs)) (tested_by i) (shows_cause p i)
 
 -- ---- what is searched
 

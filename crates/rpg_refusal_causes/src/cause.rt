@@ -105,7 +105,7 @@ pub enum RefusalCause {
         used: Use<Operand<u16>>,
     },
     /// V19: the conditions of a branch.
-    Asked {
+    Tested {
         conditions: Conditions,
     },
     /// V19: the indicators of an operation.

@@ -12,8 +12,8 @@ use rpg_program::line::LineField;
 use rpg_program::rows::{Line, Rows, Version};
 use rpg_verify_rules::LineRule;
 use rpg_verify_rules::lines::{
-    are_all_asked, asks_wrongly, blanks_wrongly, is_field_there, lacks_editing, lacks_room,
-    lacks_word,
+    are_all_testable, blanks_wrongly, has_untestable_condition, is_field_there, lacks_editing,
+    lacks_room, lacks_word,
 };
 
 /// Returns what in a row's line breaks a rule, if it does.
@@ -49,7 +49,7 @@ fn alternative_cause(version: Version, alternatives: &[Vec<Condition>]) -> Optio
     ensures { result ≡ first_cause (words.alternative_cause version) 0 (map (λ a. a.items) alternatives.now) }
 {
     for (at, alternative) in alternatives.iter().enumerate() {
-        if !are_all_asked(version, alternative) {
+        if !are_all_testable(version, alternative) {
             return Some(RefusalCause::Alternative { at });
         }
     }
@@ -83,7 +83,7 @@ fn breaks(rule: LineRule, rows: &Rows, length: u16, field: &LineField<u16>) -> b
         LineRule::V12 => lacks_word(rows, field),
         LineRule::V13 => lacks_room(rows, length, field),
         LineRule::V14 => blanks_wrongly(rows, length, field),
-        LineRule::V15 => asks_wrongly(rows, length, field),
+        LineRule::V15 => has_untestable_condition(rows, length, field),
         LineRule::V2 | LineRule::V8 | LineRule::V9 => false,
     }
 }

@@ -10,7 +10,7 @@ ghost use Rattle.rpg_refusal_causes.specs.PlaceCauses as words;
 use crate::cause::{Column, Placed, RefusalCause};
 use crate::searches::{found_cause, shows_cause};
 use rpg_program::Program;
-use rpg_program::columns::{columns_of, is_current_table, is_good, is_writable_use};
+use rpg_program::columns::{columns_of, is_current_table, is_valid, is_writable_use};
 use rpg_program::condition::Conditions;
 use rpg_program::operation::{Instruction, Operand};
 use rpg_program::row::{Row, Use};
@@ -114,8 +114,8 @@ fn operand_breaks(
     ensures { result ≡ words.operand_breaks rule (seen rows.now) instruction used }
 {
     match rule {
-        PlaceRule::V16 => !is_good(rows, used),
-        PlaceRule::V17 => is_good(rows, used) && !has_known_kind(rows, instruction, used),
+        PlaceRule::V16 => !is_valid(rows, used),
+        PlaceRule::V17 => is_valid(rows, used) && !has_known_kind(rows, instruction, used),
         PlaceRule::V18 => !is_writable_use(rows, used),
         PlaceRule::V20 => !is_current_table(rows, used),
         PlaceRule::V19 | PlaceRule::V21 | PlaceRule::V22 => false,
@@ -156,8 +156,8 @@ fn operand_cause(
 // ---- indicators, and transfers of control
 
 /// Returns the conditions that a branch tests.
-fn asked_by(instruction: Instruction<u16>) -> Option<Conditions>
-    ensures { result ≡ words.asked_by instruction }
+fn tested_by(instruction: Instruction<u16>) -> Option<Conditions>
+    ensures { result ≡ words.tested_by instruction }
 {
     let Instruction::Branch { conditions, .. } = instruction else {
         return None;
@@ -168,8 +168,8 @@ fn asked_by(instruction: Instruction<u16>) -> Option<Conditions>
 fn marks_cause(rows: &Rows, instruction: Instruction<u16>) -> Option<RefusalCause>
     ensures { result ≡ words.marks_cause (seen rows.now) instruction }
 {
-    match asked_by(instruction) {
-        Some(conditions) => Some(RefusalCause::Asked { conditions }),
+    match tested_by(instruction) {
+        Some(conditions) => Some(RefusalCause::Tested { conditions }),
         None => shows_cause(rows, instruction),
     }
 }

@@ -29,21 +29,21 @@ abbrev StartsWith : List ℕ → ℕ → Type 0
 StartsWith ks k = (rest : List ℕ) × (ks ≡ k ∷ rest)
 
 pub record IsTable {X : Type 0} (f : Columns X) (low high : ℕ) : Type 0 where
-  pub good : (card : List ℕ) (x : X) → f.reading card ≡ Ok x → f.bad card ≡ []
+  pub valid : (card : List ℕ) (x : X) → f.reading card ≡ Ok x → f.bad card ≡ []
   pub first : (card : List ℕ) (e : ColumnFault) → f.reading card ≡ Err e → StartsWith (f.bad card) e.column
   pub rises : (card : List ℕ) → Rises low (f.bad card) high
 
 pub values_law : {X : Type 0} (x : X) (low : ℕ) → IsTable (values x) low low
 unfolding values
-values_law x low = record { good = λ card y e. refl; first = λ card d e. absurd cc; rises = λ card. omega arith }
+values_law x low = record { valid = λ card y e. refl; first = λ card d e. absurd cc; rises = λ card. omega arith }
 
 pub at_law : {X : Type 0} {low a b : ℕ} (rule : List ℕ → List ℕ → Option X) → low ≤ a → a ≤ b → IsTable (at_with a b rule) low (b + 1)
 unfolding at_with
-at_law {X} {low} {a} {b} rule h l = record { good = λ card. good (rule card (cols a b card)); first = λ card. first (rule card (cols a b card)); rises = λ card. rises (rule card (cols a b card)) }
+at_law {X} {low} {a} {b} rule h l = record { valid = λ card. valid (rule card (cols a b card)); first = λ card. first (rule card (cols a b card)); rises = λ card. rises (rule card (cols a b card)) }
   where
-    good : (r : Option X) (x : X) → ok_or r (column_fault a b) ≡ Ok x → bad_if_none a r ≡ []
-    good None x e = absurd cc
-    good (Some y) x e = refl
+    valid : (r : Option X) (x : X) → ok_or r (column_fault a b) ≡ Ok x → bad_if_none a r ≡ []
+    valid None x e = absurd cc
+    valid (Some y) x e = refl
 
     first : (r : Option X) (d : ColumnFault) → ok_or r (column_fault a b) ≡ Err d → StartsWith (bad_if_none a r) d.column
     first None d e = let k : column_fault a b ≡ d = cc in ([], ap (λ (f : ColumnFault). f.column ∷ []) k)
@@ -76,7 +76,7 @@ filled_first a (c ∷ cs) = by (is_filled c) (filled_first (a + 1) cs)
 
 pub blank_law : {low a b : ℕ} → low ≤ a → 1 ≤ a → a ≤ b → IsTable (blank a b) low (b + 1)
 unfolding blank
-blank_law {low} {a} {b} h one l = record { good = λ card x. good (cols a b card) x (filled_first a (cols a b card)); first = λ card d. first (cols a b card) d (filled_first a (cols a b card)); rises = rises }
+blank_law {low} {a} {b} h one l = record { valid = λ card x. valid (cols a b card) x (filled_first a (cols a b card)); first = λ card d. first (cols a b card) d (filled_first a (cols a b card)); rises = rises }
   where
     size : (card : List ℕ) → a + length (cols a b card) ≤ b + 1
     size card = omega (arith, length-take (b - (a - 1)) (drop (a - 1) card))
@@ -84,9 +84,9 @@ blank_law {low} {a} {b} h one l = record { good = λ card x. good (cols a b card
     rises : (card : List ℕ) → Rises low (filled_from a (cols a b card)) (b + 1)
     rises card = lower low a (filled_from a (cols a b card)) (b + 1) h (higher a (filled_from a (cols a b card)) (a + length (cols a b card)) (b + 1) (size card) (filled_rises a (cols a b card)))
 
-    good : (text : List ℕ) (x : Unit {0}) → First a text (prefix_len (λ c. not (is_filled c)) text) → fault_if_some a (position is_filled text) ≡ Ok x → filled_from a text ≡ []
-    good text x (inr m) e = m.1
-    good text x (inl m) e = let lt = m.0 in let k : position is_filled text ≡ Some (prefix_len (λ c. not (is_filled c)) text) = grind (arith, common_steps) in absurd (let e' = rw k at e in cc)
+    valid : (text : List ℕ) (x : Unit {0}) → First a text (prefix_len (λ c. not (is_filled c)) text) → fault_if_some a (position is_filled text) ≡ Ok x → filled_from a text ≡ []
+    valid text x (inr m) e = m.1
+    valid text x (inl m) e = let lt = m.0 in let k : position is_filled text ≡ Some (prefix_len (λ c. not (is_filled c)) text) = grind (arith, common_steps) in absurd (let e' = rw k at e in cc)
 
     first : (text : List ℕ) (d : ColumnFault) → First a text (prefix_len (λ c. not (is_filled c)) text) → fault_if_some a (position is_filled text) ≡ Err d → StartsWith (filled_from a text) d.column
     first text d (inl m) e = let lt = m.0 in let k : position is_filled text ≡ Some (prefix_len (λ c. not (is_filled c)) text) = grind (arith, common_steps) in let e' = rw k at e in let j : column_fault (a + prefix_len (λ c. not (is_filled c)) text) (a + prefix_len (λ c. not (is_filled c)) text) ≡ d = cc in (m.1.0, m.1.1 ∙ ap (λ (f : ColumnFault). f.column ∷ m.1.0) j)
@@ -94,13 +94,13 @@ blank_law {low} {a} {b} h one l = record { good = λ card x. good (cols a b card
 
 pub also_law : {X Y : Type 0} {f : Columns (X → Y)} {g : Columns X} {a b c : ℕ} → IsTable f a b → IsTable g b c → IsTable (also f g) a c
 unfolding also
-also_law {X} {Y} {f} {g} {a} {b} {c} p q = record { good = good; first = first; rises = λ card. Rises-append a (f.bad card) (g.bad card) b c (p.rises card) (q.rises card) }
+also_law {X} {Y} {f} {g} {a} {b} {c} p q = record { valid = valid; first = first; rises = λ card. Rises-append a (f.bad card) (g.bad card) b c (p.rises card) (q.rises card) }
   where
-    good : (card : List ℕ) (y : Y) → applied (f.reading card) (g.reading card) ≡ Ok y → f.bad card ++ g.bad card ≡ []
-    good card y e = by (f.reading card) (g.reading card) refl refl e
+    valid : (card : List ℕ) (y : Y) → applied (f.reading card) (g.reading card) ≡ Ok y → f.bad card ++ g.bad card ≡ []
+    valid card y e = by (f.reading card) (g.reading card) refl refl e
       where
         by : (r : Result (X → Y) ColumnFault) (s : Result X ColumnFault) → f.reading card ≡ r → g.reading card ≡ s → applied r s ≡ Ok y → f.bad card ++ g.bad card ≡ []
-        by (Ok h) (Ok x) i j e = rw (p.good card h i, q.good card x j) refl
+        by (Ok h) (Ok x) i j e = rw (p.valid card h i, q.valid card x j) refl
         by (Ok h) (Err d) i j e = absurd cc
         by (Err d) s i j e = absurd cc
 
@@ -109,18 +109,18 @@ also_law {X} {Y} {f} {g} {a} {b} {c} p q = record { good = good; first = first; 
       where
         by : (r : Result (X → Y) ColumnFault) (s : Result X ColumnFault) → f.reading card ≡ r → g.reading card ≡ s → applied r s ≡ Err d → StartsWith (f.bad card ++ g.bad card) d.column
         by (Ok h) (Ok x) i j e = absurd cc
-        by (Ok h) (Err d') i j e = let k : d' ≡ d = cc in let s = q.first card d (j ∙ ap Err k) in rw (p.good card h i) s
+        by (Ok h) (Err d') i j e = let k : d' ≡ d = cc in let s = q.first card d (j ∙ ap Err k) in rw (p.valid card h i) s
         by (Err d') s i j e = let k : d' ≡ d = cc in let s = p.first card d (i ∙ ap Err k) in (s.0 ++ g.bad card, rw s.1 refl)
 
 pub past_law : {X Y : Type 0} {f : Columns X} {g : Columns Y} {a b c : ℕ} → IsTable f a b → IsTable g b c → IsTable (past f g) a c
 unfolding past
-past_law {X} {Y} {f} {g} {a} {b} {c} p q = record { good = good; first = first; rises = λ card. Rises-append a (f.bad card) (g.bad card) b c (p.rises card) (q.rises card) }
+past_law {X} {Y} {f} {g} {a} {b} {c} p q = record { valid = valid; first = first; rises = λ card. Rises-append a (f.bad card) (g.bad card) b c (p.rises card) (q.rises card) }
   where
-    good : (card : List ℕ) (y : X) → and_only (f.reading card) (g.reading card) ≡ Ok y → f.bad card ++ g.bad card ≡ []
-    good card y e = by (f.reading card) (g.reading card) refl refl e
+    valid : (card : List ℕ) (y : X) → and_only (f.reading card) (g.reading card) ≡ Ok y → f.bad card ++ g.bad card ≡ []
+    valid card y e = by (f.reading card) (g.reading card) refl refl e
       where
         by : (r : Result X ColumnFault) (s : Result Y ColumnFault) → f.reading card ≡ r → g.reading card ≡ s → and_only r s ≡ Ok y → f.bad card ++ g.bad card ≡ []
-        by (Ok h) (Ok x) i j e = rw (p.good card h i, q.good card x j) refl
+        by (Ok h) (Ok x) i j e = rw (p.valid card h i, q.valid card x j) refl
         by (Ok h) (Err d) i j e = absurd cc
         by (Err d) s i j e = absurd cc
 
@@ -129,16 +129,16 @@ past_law {X} {Y} {f} {g} {a} {b} {c} p q = record { good = good; first = first; 
       where
         by : (r : Result X ColumnFault) (s : Result Y ColumnFault) → f.reading card ≡ r → g.reading card ≡ s → and_only r s ≡ Err d → StartsWith (f.bad card ++ g.bad card) d.column
         by (Ok h) (Ok x) i j e = absurd cc
-        by (Ok h) (Err d') i j e = let k : d' ≡ d = cc in let s = q.first card d (j ∙ ap Err k) in rw (p.good card h i) s
+        by (Ok h) (Err d') i j e = let k : d' ≡ d = cc in let s = q.first card d (j ∙ ap Err k) in rw (p.valid card h i) s
         by (Err d') s i j e = let k : d' ≡ d = cc in let s = p.first card d (i ∙ ap Err k) in (s.0 ++ g.bad card, rw s.1 refl)
 
 pub where_law : {X : Type 0} {f g : Columns X} {a b : ℕ} (test : List ℕ → Bool) → IsTable f a b → IsTable g a b → IsTable (where_card test f g) a b
 unfolding where_card
-where_law {X} {f} {g} {a} {b} test p q = record { good = λ card. good card (test card); first = λ card. first card (test card); rises = λ card. rises card (test card) }
+where_law {X} {f} {g} {a} {b} test p q = record { valid = λ card. valid card (test card); first = λ card. first card (test card); rises = λ card. rises card (test card) }
   where
-    good : (card : List ℕ) (t : Bool) (x : X) → (if t then f.reading card else g.reading card) ≡ Ok x → (if t then f.bad card else g.bad card) ≡ []
-    good card true x e = p.good card x e
-    good card false x e = q.good card x e
+    valid : (card : List ℕ) (t : Bool) (x : X) → (if t then f.reading card else g.reading card) ≡ Ok x → (if t then f.bad card else g.bad card) ≡ []
+    valid card true x e = p.valid card x e
+    valid card false x e = q.valid card x e
 
     first : (card : List ℕ) (t : Bool) (d : ColumnFault) → (if t then f.reading card else g.reading card) ≡ Err d → StartsWith (if t then f.bad card else g.bad card) d.column
     first card true d e = p.first card d e
@@ -163,10 +163,10 @@ least f low high p card e h =
     by low rest r (suc i) l = let m = above (e.column + 1) rest high i r.1 (omega arith) in omega arith
 
 pub IsTable-lower : {X : Type 0} (a b c : ℕ) (f : Columns X) → a ≤ b → IsTable f b c → IsTable f a c
-IsTable-lower a b c f h p = record { good = p.good; first = p.first; rises = λ card. lower a b (f.bad card) c h (p.rises card) }
+IsTable-lower a b c f h p = record { valid = p.valid; first = p.first; rises = λ card. lower a b (f.bad card) c h (p.rises card) }
 
 -- what a reader of the table returns
 pub read_by : {X : Type 0} {f : Columns X} {low high : ℕ} → IsTable f low high → (card : List ℕ) (r : Result X ColumnFault) → r ≡ f.reading card
-    → record { value : r ≡ f.reading card; good : OnOk r (f.bad card ≡ []); least : IfErr r (λ fault. IsLeastColumn (f.bad card) fault.column) }
-read_by p card (Ok x) e = record { value = e; good = p.good card x (sym e); least = tt }
-read_by {X} {f} {low} {high} p card (Err d) e = record { value = e; good = tt; least = least f low high p card d (sym e) }
+    → record { value : r ≡ f.reading card; valid : OnOk r (f.bad card ≡ []); least : IfErr r (λ fault. IsLeastColumn (f.bad card) fault.column) }
+read_by p card (Ok x) e = record { value = e; valid = p.valid card x (sym e); least = tt }
+read_by {X} {f} {low} {high} p card (Err d) e = record { value = e; valid = tt; least = least f low high p card d (sym e) }

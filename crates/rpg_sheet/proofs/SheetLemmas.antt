@@ -95,7 +95,7 @@ code_unfit count latest data_begun line columns short is bad = rw (not_long (len
 -- characters alone
 pub code_fit : (count latest : ℕ) (data_begun : Bool) (line columns : List ℕ) → length line ≤ 80 → columns ≡ card_of line → list_all is_character columns ≡ true
     → code_seen count latest data_begun line ≡ option_or (sheet_code latest data_begun columns) (if nat_le 2000 count then Some S6 else None)
-code_fit count latest data_begun line columns short is good = rw (not_long (length line) short, same_characters line columns short is ∙ good, is) refl
+code_fit count latest data_begun line columns short is valid = rw (not_long (length line) short, same_characters line columns short is ∙ valid, is) refl
 
 few_cards : (count : ℕ) → count < 2000 → nat_le 2000 count ≡ false
 few_cards count few = grind (arith, common_steps)
@@ -103,9 +103,9 @@ few_cards count few = grind (arith, common_steps)
 many_cards : (count : ℕ) → 2000 ≤ count → nat_le 2000 count ≡ true
 many_cards count many = grind (arith, common_steps)
 
-pub code_good : (count latest : ℕ) (data_begun : Bool) (line columns : List ℕ) → length line ≤ 80 → columns ≡ card_of line → list_all is_character columns ≡ true
+pub code_valid : (count latest : ℕ) (data_begun : Bool) (line columns : List ℕ) → length line ≤ 80 → columns ≡ card_of line → list_all is_character columns ≡ true
     → sheet_code latest data_begun columns ≡ None → count < 2000 → code_seen count latest data_begun line ≡ None
-code_good count latest data_begun line columns short is characters good few = code_fit count latest data_begun line columns short is characters ∙ rw (good, few_cards count few) refl
+code_valid count latest data_begun line columns short is characters valid few = code_fit count latest data_begun line columns short is characters ∙ rw (valid, few_cards count few) refl
 
 pub code_bad : (count latest : ℕ) (data_begun : Bool) (line columns : List ℕ) (code : SheetCode) → length line ≤ 80 → columns ≡ card_of line → list_all is_character columns ≡ true
     → sheet_code latest data_begun columns ≡ Some code → code_seen count latest data_begun line ≡ Some code
@@ -119,34 +119,34 @@ code_past count latest data_begun line columns code short is characters many by 
 -- a card before card 2,001, as it is read
 pub code_if_read : {X E : Type 0} (count latest : ℕ) (data_begun : Bool) (line columns : List ℕ) (Means : X → Type 0) (read : Result X E) → length line ≤ 80 → columns ≡ card_of line
     → list_all is_character columns ≡ true → count < 2000 → IfOk read (λ x. Means x × (sheet_code latest data_begun columns ≡ None)) → OnOk read (code_seen count latest data_begun line ≡ None)
-code_if_read count latest data_begun line columns Means (Ok x) short is characters few good = code_good count latest data_begun line columns short is characters good.1 few
-code_if_read count latest data_begun line columns Means (Err e) short is characters few good = tt
+code_if_read count latest data_begun line columns Means (Ok x) short is characters few valid = code_valid count latest data_begun line columns short is characters valid.1 few
+code_if_read count latest data_begun line columns Means (Err e) short is characters few valid = tt
 
-pub code_if_bad : {X : Type 0} (count latest : ℕ) (data_begun : Bool) (line columns : List ℕ) (Tells : CardFault → Type 0) (read : Result X CardFault) → length line ≤ 80 → columns ≡ card_of line
-    → list_all is_character columns ≡ true → IfErr read (λ fault. (sheet_code latest data_begun columns ≡ Some fault.code) × Tells fault)
+pub code_if_bad : {X : Type 0} (count latest : ℕ) (data_begun : Bool) (line columns : List ℕ) (Reports : CardFault → Type 0) (read : Result X CardFault) → length line ≤ 80 → columns ≡ card_of line
+    → list_all is_character columns ≡ true → IfErr read (λ fault. (sheet_code latest data_begun columns ≡ Some fault.code) × Reports fault)
     → IfErr read (λ fault. code_seen count latest data_begun line ≡ Some fault.code)
-code_if_bad count latest data_begun line columns Tells (Ok x) short is characters bad = tt
-code_if_bad count latest data_begun line columns Tells (Err e) short is characters bad = code_bad count latest data_begun line columns e.code short is characters bad.0
+code_if_bad count latest data_begun line columns Reports (Ok x) short is characters bad = tt
+code_if_bad count latest data_begun line columns Reports (Err e) short is characters bad = code_bad count latest data_begun line columns e.code short is characters bad.0
 
 -- ---- a line more
 
 pub source_ends : (text line following : List ℕ) → lines text ≡ line ∷ lines following → ends_source (card_of line) ≡ true → source text ≡ line ∷ []
 source_ends text line following cut e = rw cut (rw e refl)
 
-pub source_goes_on : (text line following : List ℕ) → lines text ≡ line ∷ lines following → ends_source (card_of line) ≡ false → source text ≡ line ∷ source following
-source_goes_on text line following cut e = rw cut (rw e refl)
+pub source_continues : (text line following : List ℕ) → lines text ≡ line ∷ lines following → ends_source (card_of line) ≡ false → source text ≡ line ∷ source following
+source_continues text line following cut e = rw cut (rw e refl)
 
 source_begins : (text line following : List ℕ) → lines text ≡ line ∷ lines following → (more : List (List ℕ)) × (source text ≡ line ∷ more)
 source_begins text line following cut = by (ends_source (card_of line)) refl
   where
     by : (b : Bool) → ends_source (card_of line) ≡ b → (more : List (List ℕ)) × (source text ≡ line ∷ more)
     by true e = ([], source_ends text line following cut e)
-    by false e = (source following, source_goes_on text line following cut e)
+    by false e = (source following, source_continues text line following cut e)
 
 -- a line without a fault
-pub fault_after-good : (earlier more : List (List ℕ)) (count latest : ℕ) (data_begun : Bool) (line : List ℕ) → AreLinesSeen earlier count latest data_begun → code_seen count latest data_begun line ≡ None
+pub fault_after-valid : (earlier more : List (List ℕ)) (count latest : ℕ) (data_begun : Bool) (line : List ℕ) → AreLinesSeen earlier count latest data_begun → code_seen count latest data_begun line ≡ None
     → fault_after earlier (line ∷ more) ≡ fault_after (earlier ++ line ∷ []) more
-fault_after-good earlier more count latest data_begun line seen good = rw (sym (code_is_seen earlier count latest data_begun line seen) ∙ good) refl
+fault_after-valid earlier more count latest data_begun line seen valid = rw (sym (code_is_seen earlier count latest data_begun line seen) ∙ valid) refl
 
 -- a line with one
 pub fault_after-bad : (earlier : List (List ℕ)) (text rest : List ℕ) (count latest : ℕ) (data_begun : Bool) (line : List ℕ) (code : SheetCode) → lines text ≡ line ∷ lines rest

@@ -31,8 +31,8 @@ pub after_last : (earlier : List (List ℕ)) (line : List ℕ) → length earlie
 after_last earlier line h = rw (few_lines (length earlier) h) (append-nil (unreadable_at earlier line))
 
 -- a line without a fault, and one with a fault
-pub at_good : (earlier : List (List ℕ)) (count latest : ℕ) (data_begun : Bool) (line : List ℕ) → AreLinesSeen earlier count latest data_begun → code_seen count latest data_begun line ≡ None → unreadable_at earlier line ≡ []
-at_good earlier count latest data_begun line seen good = rw (sym (code_is_seen earlier count latest data_begun line seen) ∙ good) refl
+pub at_valid : (earlier : List (List ℕ)) (count latest : ℕ) (data_begun : Bool) (line : List ℕ) → AreLinesSeen earlier count latest data_begun → code_seen count latest data_begun line ≡ None → unreadable_at earlier line ≡ []
+at_valid earlier count latest data_begun line seen valid = rw (sym (code_is_seen earlier count latest data_begun line seen) ∙ valid) refl
 
 pub at_bad : (earlier : List (List ℕ)) (count latest : ℕ) (data_begun : Bool) (line : List ℕ) (code : SheetCode) → AreLinesSeen earlier count latest data_begun → code_seen count latest data_begun line ≡ Some code
     → unreadable_at earlier line ≡ record { card = count + 1; code = code; columns = sheet_fault_columns data_begun (card_of line) code } ∷ []
@@ -44,19 +44,19 @@ cut_short found all earlier more count so_far same many = sym (append-nil found)
 -- ---- the least one
 
 -- card 2,001 has a fault
-never_good : (a b c d e : Bool) → first_code a b c d e true ≡ None → ⊥
-never_good true b c d e h = absurd cc
-never_good false true c d e h = absurd cc
-never_good false false true d e h = absurd cc
-never_good false false false true e h = absurd cc
-never_good false false false false true h = absurd cc
-never_good false false false false false h = absurd cc
+never_valid : (a b c d e : Bool) → first_code a b c d e true ≡ None → ⊥
+never_valid true b c d e h = absurd cc
+never_valid false true c d e h = absurd cc
+never_valid false false true d e h = absurd cc
+never_valid false false false true e h = absurd cc
+never_valid false false false false true h = absurd cc
+never_valid false false false false false h = absurd cc
 
-few_if_good : (earlier : List (List ℕ)) (line : List ℕ) → line_code earlier line ≡ None → length earlier < 2000
-few_if_good earlier line h = by (nat_le 2000 (length earlier)) refl
+few_if_valid : (earlier : List (List ℕ)) (line : List ℕ) → line_code earlier line ≡ None → length earlier < 2000
+few_if_valid earlier line h = by (nat_le 2000 (length earlier)) refl
   where
     by : (b : Bool) → nat_le 2000 (length earlier) ≡ b → length earlier < 2000
-    by true e = absurd (never_good _ _ _ _ _ (rw e at h))
+    by true e = absurd (never_valid _ _ _ _ _ (rw e at h))
     by false e = grind (arith, common_steps)
 
 pub first_is : (earlier more : List (List ℕ)) → length earlier ≤ 2000 → fault_after earlier more ≡ option_map reported_fault (slice_get (unreadable_after earlier more) 0)
@@ -67,4 +67,4 @@ first_is earlier (line ∷ more) few = rw (few_lines (length earlier) few) (by (
         → (length (earlier ++ line ∷ []) ≤ 2000 → fault_after (earlier ++ line ∷ []) more ≡ option_map reported_fault (slice_get (unreadable_after (earlier ++ line ∷ []) more) 0))
         → fault_after earlier (line ∷ more) ≡ option_map reported_fault (slice_get (unreadable_at earlier line ++ unreadable_after (earlier ++ line ∷ []) more) 0)
     by (Some code) e later = rw e refl
-    by None e later = rw e (later (let f = few_if_good earlier line e in omega (arith, length-append earlier (line ∷ []))))
+    by None e later = rw e (later (let f = few_if_valid earlier line e in omega (arith, length-append earlier (line ∷ []))))

@@ -65,7 +65,7 @@ impl Card {
     /// Reads a C card, or returns the leftmost of its bad values.
     pub fn c(&self) -> Result<CalculationSpec, ColumnFault>
         ensures value { result ≡ tables.calculation_card.reading self.now }
-        ensures good { OnOk result (tables.calculation_card.bad self.now ≡ []) }
+        ensures valid { OnOk result (tables.calculation_card.bad self.now ≡ []) }
         ensures least { IfErr result (λ fault. IsLeastColumn (tables.calculation_card.bad self.now) fault.column) }
     {
         calculation_card(self)

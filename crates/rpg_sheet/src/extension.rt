@@ -52,7 +52,7 @@ impl Card {
     /// Reads an E card, or returns the leftmost of its bad values.
     pub fn e(&self) -> Result<ExtensionSpec, ColumnFault>
         ensures value { result ≡ tables.extension.reading self.now }
-        ensures good { OnOk result (tables.extension.bad self.now ≡ []) }
+        ensures valid { OnOk result (tables.extension.bad self.now ≡ []) }
         ensures least { IfErr result (λ fault. IsLeastColumn (tables.extension.bad self.now) fault.column) }
     {
         extension(self)

@@ -79,7 +79,7 @@ impl Card {
     /// Reads an F card, or returns the leftmost of its bad values.
     pub fn f(&self) -> Result<FileSpec, ColumnFault>
         ensures value { result ≡ tables.file.reading self.now }
-        ensures good { OnOk result (tables.file.bad self.now ≡ []) }
+        ensures valid { OnOk result (tables.file.bad self.now ≡ []) }
         ensures least { IfErr result (λ fault. IsLeastColumn (tables.file.bad self.now) fault.column) }
     {
         file(self)

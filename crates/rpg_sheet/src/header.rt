@@ -20,7 +20,7 @@ impl Card {
     /// Reads an H card, or returns the leftmost of its bad values.
     pub fn h(&self) -> Result<HeaderSpec, ColumnFault>
         ensures value { result ≡ tables.header.reading self.now }
-        ensures good { OnOk result (tables.header.bad self.now ≡ []) }
+        ensures valid { OnOk result (tables.header.bad self.now ≡ []) }
         ensures least { IfErr result (λ fault. IsLeastColumn (tables.header.bad self.now) fault.column) }
     {
         header(self)

@@ -27,7 +27,7 @@ impl Card {
     /// Reads an I card, or returns the leftmost of its bad values.
     pub fn i(&self) -> Result<InputSpec, ColumnFault>
         ensures value { result ≡ tables.input_card.reading self.now }
-        ensures good { OnOk result (tables.input_card.bad self.now ≡ []) }
+        ensures valid { OnOk result (tables.input_card.bad self.now ≡ []) }
         ensures least { IfErr result (λ fault. IsLeastColumn (tables.input_card.bad self.now) fault.column) }
     {
         input_card(self)

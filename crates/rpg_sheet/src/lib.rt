@@ -25,4 +25,4 @@ pub use rpg_sheet_specs::{
 };
 pub use sheet::{Cards, SheetCode, SheetFault, sheet_place};
 pub use source::cards;
-pub use unreadable::{UnreadableCard, refusal_tells_the_first, unreadable_cards};
+pub use unreadable::{UnreadableCard, refusal_names_the_first, unreadable_cards};

@@ -26,7 +26,7 @@ impl Card {
     /// Reads an O card, or returns the leftmost of its bad values.
     pub fn o(&self) -> Result<OutputSpec, ColumnFault>
         ensures value { result ≡ tables.output_card.reading self.now }
-        ensures good { OnOk result (tables.output_card.bad self.now ≡ []) }
+        ensures valid { OnOk result (tables.output_card.bad self.now ≡ []) }
         ensures least { IfErr result (λ fault. IsLeastColumn (tables.output_card.bad self.now) fault.column) }
     {
         output_card(self)

@@ -104,7 +104,7 @@ pub(crate) fn checked(
 ) -> Result<Option<Spec>, CardFault>
     requires { columns.now ≡ card_of line.now }
     ensures spec { IfOk result (λ spec. spec ≡ spec_of earlier.data_begun columns.now) }
-    ensures good { OnOk result (code_seen earlier.count earlier.latest earlier.data_begun line.now ≡ None) }
+    ensures valid { OnOk result (code_seen earlier.count earlier.latest earlier.data_begun line.now ≡ None) }
     ensures code { IfErr result (λ fault. code_seen earlier.count earlier.latest earlier.data_begun line.now ≡ Some fault.code) }
     ensures columns { IfErr result (λ fault. fault.columns ≡ sheets.sheet_fault_columns earlier.data_begun columns.now fault.code) }
 {

@@ -12,7 +12,7 @@ impl Card {
     #[tactic(auto, unfolding(rpg_sheet_specs::specs::Columns::values, rpg_sheet_specs::specs::Columns::also))]
     pub fn read(&self, sheet: FormType) -> Result<Spec, ColumnFault>
         ensures value { result ≡ (card_on sheet).reading self.now }
-        ensures good { OnOk result ((card_on sheet).bad self.now ≡ []) }
+        ensures valid { OnOk result ((card_on sheet).bad self.now ≡ []) }
         ensures least { IfErr result (λ fault. IsLeastColumn ((card_on sheet).bad self.now) fault.column) }
     {
         match sheet {

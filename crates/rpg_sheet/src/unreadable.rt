@@ -74,6 +74,6 @@ fn put_if_unreadable(
 }
 
 /// A law: the first of the cards that can't be read is the one that `cards` reports, and there is none if it reports none.
-pub fn refusal_tells_the_first(text: &[u8])
+pub fn refusal_names_the_first(text: &[u8])
     ensures { sheets.first_sheet_fault (sheets.source text.now) ≡ option_map every.reported_fault (slice_get (every.unreadable_cards (sheets.source text.now)) 0) }
 {}

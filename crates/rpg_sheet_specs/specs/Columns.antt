@@ -91,7 +91,7 @@ also f g = record {
   bad = λ card. f.bad card ++ g.bad card;
 }
 
--- the second part only has to be good
+-- the second part only has to be valid
 unfoldable pub past : {X Y : Type 0} → Columns X → Columns Y → Columns X
 past f g = record {
   reading = λ card. and_only (f.reading card) (g.reading card);

@@ -1,4 +1,4 @@
--- The cards, one line for each range of columns: `⊛` a range that gives the next member of the spec, `⊘` one that only has to be good.
+-- The cards, one line for each range of columns: `⊛` a range that gives the next member of the spec, `⊘` one that only has to be valid.
 -- 1-5 and 75-80 are free on every card, and further columns if a sheet's headline says so.
 use Rattle.std.specs.Prelude.{ℕ, List, [], ◌∷◌, Bool, Option, None, Some, if◌then◌else◌, ◌&&◌, codes, map}
 use Rattle.std.specs.Str.{bytes_eq}

@@ -1,2 +1,2 @@
--- What a run gave beside what its case wants.
+-- What a run gave beside what its case expects.
 pub mod Outcome

@@ -15,7 +15,7 @@ pub fn write_ending(out: &mut TextWriter, ending: JobEnd) {
 /// Writes how a cycle ended.
 pub fn write_end(out: &mut TextWriter, end: CycleEnd) {
     match end {
-        CycleEnd::GoesOn => out.write_str("goes on"),
+        CycleEnd::Continues => out.write_str("goes on"),
         CycleEnd::EndOfJob => write_ending(out, JobEnd::EndOfJob),
         CycleEnd::Halt(halt) => write_ending(out, JobEnd::Halt(halt)),
         CycleEnd::Failed => out.write_str("failed"),
@@ -67,8 +67,8 @@ fn write_fault(out: &mut TextWriter, fault: RunFault) {
 }
 
 /// Writes the line of `rpg2 run` for a run's result, with the bytes that a failed writer had accepted.
-pub fn write_answer(out: &mut TextWriter, told: &Result<Report, RunFault>) {
-    match told {
+pub fn write_answer(out: &mut TextWriter, reported: &Result<Report, RunFault>) {
+    match reported {
         Ok(report) => {
             write_ending(out, report.ending);
             write_counts(out, report.cycles, report.most, report.bound);

@@ -65,7 +65,7 @@ fn write_cycles<S: Store + Drop>(
         match job.cycle(first.as_deref(), second.as_deref()) {
             Ok(end) => {
                 write_cycle(out, job, end, is_over, printed);
-                is_over = !matches!(end, CycleEnd::GoesOn);
+                is_over = !matches!(end, CycleEnd::Continues);
                 printed = job.output().print.len();
             }
             Err(_) => out.write_str("; no memory"),

@@ -81,9 +81,9 @@ fn do_row(
 fn report_of(alloc: Global, object: &[u8], row: &Row<'_>) -> Result<Vec<u8>, AllocError> {
     let mut out = TextWriter::new(alloc);
     do_row(alloc, &mut out, object, row)?;
-    let told = out.finish()?;
+    let reported = out.finish()?;
     let wanted = bytes_of(alloc, row.wanted)?;
-    report(alloc, row.name, told.as_bytes(), &wanted)
+    report(alloc, row.name, reported.as_bytes(), &wanted)
 }
 
 /// Does the rows of a file. An object stays loaded for the rows after it.
@@ -105,7 +105,7 @@ fn main(rt: HostRuntime) -> io::Result<()> {
         let text = fs::read_to_string(&rt, path.as_str())?;
         do_rows(rt.alloc(), &mut out, text.as_str())?;
     }
-    let mut told = TextWriter::new(rt.alloc());
-    calls::write_calls(&mut told);
-    out.write_all(told.finish()?.as_bytes())
+    let mut reported = TextWriter::new(rt.alloc());
+    calls::write_calls(&mut reported);
+    out.write_all(reported.finish()?.as_bytes())
 }

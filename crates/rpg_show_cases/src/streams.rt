@@ -28,7 +28,7 @@ impl<'a> Given<'a> {
 /// The result of `execute`, and what its writers accepted.
 #[derive(Drop)]
 pub struct Streamed {
-    pub told: Result<Report, RunFault>,
+    pub reported: Result<Report, RunFault>,
     pub print: CaseWriter,
     pub disk: CaseWriter,
 }
@@ -36,7 +36,7 @@ pub struct Streamed {
 impl Streamed {
     /// Whether a cycle of the job took more steps than its bound.
     pub fn is_past_bound(&self) -> bool {
-        match &self.told {
+        match &self.reported {
             Ok(report) => report.most > report.bound,
             Err(_) => false,
         }
@@ -52,9 +52,9 @@ pub fn run_over(alloc: Global, object: &[u8], given: &Given<'_>, devices: &Devic
     );
     let mut readers = Readers::new(input, secondary);
     let mut writers = Writers::new(writer(alloc, print), writer(alloc, disk));
-    let told = execute(alloc, object, given.date, &mut readers, &mut writers);
+    let reported = execute(alloc, object, given.date, &mut readers, &mut writers);
     Streamed {
-        told,
+        reported,
         print: writers.printer.into_device(),
         disk: writers.disk.into_device(),
     }
@@ -69,7 +69,7 @@ pub fn run_row(
 ) -> Result<(), AllocError> {
     let given = Given::of(alloc, row)?;
     let streamed = run_over(alloc, object, &given, &devices_of(row.devices));
-    write_answer(out, &streamed.told);
+    write_answer(out, &streamed.reported);
     write_outputs(out, streamed.print.written(), streamed.disk.written());
     Ok(())
 }

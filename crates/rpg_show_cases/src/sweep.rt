@@ -26,7 +26,7 @@ fn run(
 ) -> Result<(), AllocError> {
     let streamed = run_over(alloc, object, given, &ALL_WHOLE);
     let mut line = TextWriter::new(alloc);
-    write_answer(&mut line, &streamed.told);
+    write_answer(&mut line, &streamed.reported);
     let line = line.finish()?;
     tally.add_bytes(line.as_bytes());
     tally.add_bytes(streamed.print.written());

@@ -102,7 +102,7 @@ fn run_out<S: Store + Drop>(
         most = job.steps().max(most);
         primary = primary.saturating_add(usize::from(need.primary));
         secondary = secondary.saturating_add(usize::from(need.secondary));
-        if !matches!(end, CycleEnd::GoesOn) {
+        if !matches!(end, CycleEnd::Continues) {
             write_end(out, end);
             write_counts(out, cycles, most, bound);
             break;

@@ -98,11 +98,11 @@ is_like kinds.Text len t (Text u) l h = h.0 ∙ sym l
 
 -- the first values may be put into an area of their fields
 pub may_take : (slots : List Slot) (area : List ℕ) (vss : List (List Value)) → IsArea (parts slots) area → All IsFieldRow (forms_of slots) → AreValuesOf (forms_of slots) vss → MayTakeFields (forms_of slots) (flat_contents (flat slots area)) vss
-may_take slots area vss whole good h k vs i =
+may_take slots area vss whole valid h k vs i =
     let g = field_values (forms_of slots) vss k vs h i in
     let number = g.1.1.number in
     let at : slice_get (forms_of slots) k ≡ Some g.0 = g.1.0 in
-    let row : IsFieldRow g.0 = subst (λ (x : FieldForm). IsFieldRow x) (get_or_from_slice_get (forms_of slots) k g.0 g.0 at) (good k g.0 (slice_get_within (forms_of slots) k g.0 at)) in
+    let row : IsFieldRow g.0 = subst (λ (x : FieldForm). IsFieldRow x) (get_or_from_slice_get (forms_of slots) k g.0 g.0 at) (valid k g.0 (slice_get_within (forms_of slots) k g.0 at)) in
     let most = row.most in
     let next : k + 1 ≡ suc k = omega arith in
     let form : form_at (forms_of slots) (k + 1) ≡ Some g.0 = ap (form_at (forms_of slots)) next ∙ at in
@@ -128,9 +128,9 @@ abbrev pub first_flat : List FieldForm → Flat
 first_flat fs = flat (area_slots 0 (all_number_bytes fs) fs) (zeros (storage_of fs))
 
 pub may_take_first : (fs : List FieldForm) (vss : List (List Value)) → All IsFieldRow fs → AreValuesOf fs vss → MayTakeFields (forms_of (first_flat fs).slots) (flat_contents (first_flat fs)) vss
-may_take_first fs vss good h =
+may_take_first fs vss valid h =
     let forms = forms_area 0 (all_number_bytes fs) fs in
-    may_take (area_slots 0 (all_number_bytes fs) fs) (zeros (storage_of fs)) vss (zeros_area fs good) (subst (λ ds. All IsFieldRow ds) (sym forms) good) (subst (λ (ds : List FieldForm). AreValuesOf ds vss) (sym forms) h)
+    may_take (area_slots 0 (all_number_bytes fs) fs) (zeros (storage_of fs)) vss (zeros_area fs valid) (subst (λ ds. All IsFieldRow ds) (sym forms) valid) (subst (λ (ds : List FieldForm). AreValuesOf ds vss) (sym forms) h)
 
 pub first_filled : (fs : List FieldForm) (vss : List (List Value)) → AreValuesOf fs vss → with_field_values (flat_contents (first_flat fs)) 1 vss ≡ by_entry fs (joined_values vss)
 first_filled fs vss h =

@@ -8,12 +8,12 @@ use Rattle.rpg_program.specs.Object.{Object, SubroutineRow}
 use Rattle.rpg_program.specs.Sections.{first_place, section_instructions}
 use Rattle.rpg_program.specs.declared.section.Place.{Place}
 use Rattle.rpg_program.specs.declared.section.Section.{Section}
-use Rattle.rpg_verify.specs.Paths.{Stretch, costs_from}
+use Rattle.rpg_verify.specs.Paths.{SectionCode, costs_from}
 use Rattle.rpg_verify.specs.Weighing.{all_outputs_weight}
 
 -- a section of a program, with its first place
-abbrev pub stretch : Object → Section → Stretch
-stretch p s = record { first = first_place p s; code = section_instructions p s }
+abbrev pub section_code : Object → Section → SectionCode
+section_code p s = record { first = first_place p s; code = section_instructions p s }
 
 -- the costs of the places of a section that begins at a place
 abbrev pub costs_at : Object → ℕ → List (Instruction ℕ) → List ℕ

@@ -5,12 +5,12 @@ use Rattle.rpg_program.specs.declared.operation.Instruction.TheVariants.{Act, Ex
 use Rattle.rpg_program.specs.Control.{always_goes}
 
 -- a section with its first place and its instructions
-pub record Stretch : Type 0 where
+pub record SectionCode : Type 0 where
   pub first : ℕ
   pub code : List (Instruction ℕ)
 
 -- the instruction at a place of the section
-abbrev pub at_place : Stretch → ℕ → Option (Instruction ℕ)
+abbrev pub at_place : SectionCode → ℕ → Option (Instruction ℕ)
 at_place s place = if nat_le s.first place then slice_get s.code (place - s.first) else None
 
 -- Whether a place can come right after another one with this instruction, and is later. After a call comes the next place, and after a
@@ -23,15 +23,15 @@ Follows place (Call s) next = next ≡ place + 1
 Follows place (Return s) next = ⊥
 
 -- there is an instruction at the place
-abbrev pub IsPlace : Stretch → ℕ → Type 0
+abbrev pub IsPlace : SectionCode → ℕ → Type 0
 IsPlace s place = (i : Instruction ℕ) × (at_place s place ≡ Some i)
 
 -- control may go from one place to the other
-abbrev pub Leads : Stretch → ℕ → ℕ → Type 0
+abbrev pub Leads : SectionCode → ℕ → ℕ → Type 0
 Leads s place next = (i : Instruction ℕ) × (at_place s place ≡ Some i) × Follows place i next
 
 -- places of the section, each of which can come right after the previous one
-abbrev pub IsPath : Stretch → List ℕ → Type 0
+abbrev pub IsPath : SectionCode → List ℕ → Type 0
 IsPath s [] = Unit {0}
 IsPath s (x ∷ []) = IsPlace s x
 IsPath s (x ∷ y ∷ rest) = Leads s x y × IsPath s (y ∷ rest)
@@ -66,12 +66,12 @@ module _ (weight : Instruction ℕ → ℕ) where
   weight_in (Some i) = weight i
 
   -- the weight of a path
-  abbrev pub weight_along : Stretch → List ℕ → ℕ
+  abbrev pub weight_along : SectionCode → List ℕ → ℕ
   weight_along s [] = 0
   weight_along s (x ∷ xs) = weight_in (at_place s x) + weight_along s xs
 
   -- the greatest sum along a path from a place
-  pub record IsCost (s : Stretch) (place cost : ℕ) : Type 0 where
+  pub record IsCost (s : SectionCode) (place cost : ℕ) : Type 0 where
     pub above : (path : List ℕ) → IsPath s path → IsFrom place path → weight_along s path ≤ cost
     pub reached : (path : List ℕ) × IsPath s path × IsFrom place path × (weight_along s path ≡ cost)
 
@@ -85,5 +85,5 @@ module _ (weight : Instruction ℕ → ℕ) where
   costs_from place (i ∷ is) = with_cost place i (costs_from (place + 1) is)
 
   -- the cost of each place of a section, in order; 0 at its end and after it
-  abbrev pub AreCosts : Stretch → List ℕ → Type 0
+  abbrev pub AreCosts : SectionCode → List ℕ → Type 0
   AreCosts s costs = (x : ℕ) → s.first ≤ x → IsCost s x (slice_index costs (x - s.first))

@@ -2,14 +2,14 @@
 use Rattle.std.proofs.Common.{◌≡◌, ℕ, Bool, true, false, not, ◌||◌, cond, Option, None, Some, refl, ap, ◌∙◌}
 use Rattle.std.proofs.lemmas.Bool.{and_parts}
 use Rattle.rpg_program.specs.Forms.{form_at}
-use Rattle.rpg_program.specs.Rows.{all_of, all_used, has_kind, is_good_operand, is_writable_use}
+use Rattle.rpg_program.specs.Rows.{all_of, all_used, has_kind, is_valid_operand, is_writable_use}
 use Rattle.rpg_program.specs.declared.operation.Instruction.{Instruction}
 use Rattle.rpg_program.specs.declared.operation.Operand.{Operand}
 use Rattle.rpg_program.specs.declared.row.Row.{Row}
 use Rattle.rpg_program.specs.declared.row.Use.{Use}
 use Rattle.rpg_program.specs.ObjectInstructions.{columns}
 use Rattle.rpg_program.specs.Object.{Object}
-use Rattle.rpg_verify_rules.specs.PlaceRules.{columns_of_kind, compares, good_columns, has_known_kind, knows_kinds, passing, those_passing, written_columns}
+use Rattle.rpg_verify_rules.specs.PlaceRules.{columns_of_kind, compares, valid_columns, has_known_kind, knows_kinds, passing, those_passing, written_columns}
 
 -- ---- operands that all pass
 
@@ -32,26 +32,26 @@ known false b h = h
 
 -- ---- an instruction
 
-module _ (p : Object) (i : Instruction ℕ) (good : all_of (is_good_operand (form_at p.fields)) (columns p i) ≡ true) where
+module _ (p : Object) (i : Instruction ℕ) (valid : all_of (is_valid_operand (form_at p.fields)) (columns p i) ≡ true) where
   -- V16 takes none out
-  good_same : good_columns p i ≡ columns p i
-  good_same = row_same (is_good_operand (form_at p.fields)) (columns p i) good
+  valid_same : valid_columns p i ≡ columns p i
+  valid_same = row_same (is_valid_operand (form_at p.fields)) (columns p i) valid
 
   kinds_known : knows_kinds p i ≡ true
-  kinds_known = known (not (compares i)) _ (first_column (is_good_operand (form_at p.fields)) (columns p i) good)
+  kinds_known = known (not (compares i)) _ (first_column (is_valid_operand (form_at p.fields)) (columns p i) valid)
 
-  -- V17 asks the kinds of all
-  pub kinds_same : all_of (has_known_kind p i) (good_columns p i) ≡ all_of (has_kind (form_at p.fields)) (columns p i)
+  -- V17 tests the kinds of all
+  pub kinds_same : all_of (has_known_kind p i) (valid_columns p i) ≡ all_of (has_kind (form_at p.fields)) (columns p i)
   kinds_same =
-      ap (λ r. all_of (has_known_kind p i) r) good_same
+      ap (λ r. all_of (has_known_kind p i) r) valid_same
       ∙ ap (λ b. all_of (λ u. not b || has_kind (form_at p.fields) u) (columns p i)) kinds_known
 
   module _ (kinds : all_of (has_kind (form_at p.fields)) (columns p i) ≡ true) where
     -- V18 and V19 ask all
     pub columns_same : columns_of_kind p i ≡ columns p i
-    columns_same = row_same (has_known_kind p i) (good_columns p i) (kinds_same ∙ kinds) ∙ good_same
+    columns_same = row_same (has_known_kind p i) (valid_columns p i) (kinds_same ∙ kinds) ∙ valid_same
 
-    -- V20 asks all
+    -- V20 tests all
     pub written_same : all_used (is_writable_use (form_at p.fields)) (columns p i).result ≡ true → written_columns p i ≡ columns p i
     written_same writable =
         ap (λ (r : Row (Operand ℕ)). with_result r (passing (is_writable_use (form_at p.fields)) r.result)) columns_same

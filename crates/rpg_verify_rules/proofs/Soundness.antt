@@ -62,7 +62,7 @@ none_at test (y ∷ xs) h (suc k) x e = none_at test xs (or_parts (test y) _ h).
 all_by : {X : Type 0} (P : X → Type 0) (xs : List X) → ((k : ℕ) (x : X) → slice_get xs k ≡ Some x → P x) → All P xs
 all_by P xs h = λ k d l. h k (get_or xs k d) (slice_get-get_or xs k d l)
 
--- what is asked only where something else holds
+-- what is tested only where something else holds
 then_holds : (a b : Bool) → a ≡ true → (a && not b) ≡ false → b ≡ true
 then_holds true b h g = not-false b g
 then_holds false b h g = cc
@@ -101,17 +101,17 @@ leads_well p h s k (Return n) at g = return_well p h s k n at
 instruction_sound : (p : Object) (s : Section) (i : Instruction ℕ) → ((r : PlaceRule) → place_breaks r p s i ≡ false) → LeadsWell p s i → IsSoundInstruction p s i
 unfolding place_breaks
 instruction_sound p s i g c =
-    let good = not-false _ (g V16) in
-    let kinds = sym (kinds_same p i good) ∙ not-false _ (g V17) in
-    let same = columns_same p i good kinds in
+    let valid = not-false _ (g V16) in
+    let kinds = sym (kinds_same p i valid) ∙ not-false _ (g V17) in
+    let same = columns_same p i valid kinds in
     let written = ap (λ r. all_used (is_writable_use (form_at p.fields)) r.result) (sym same) ∙ not-false _ (g V18) in
     let marked = and_parts _ _ (not-false _ (g V19)) in
     let sought = and_parts _ _ marked.1 in
     let searched = and_parts _ _ (ap (is_searched_well p) (sym same) ∙ sought.1) in
-    let found = and_parts _ _ (ap (holds_found p) (sym (written_same p i good kinds written)) ∙ not-false _ (g V20)) in
+    let found = and_parts _ _ (ap (holds_found p) (sym (written_same p i valid kinds written)) ∙ not-false _ (g V20)) in
     record {
       operands = right_row (form_at p.fields) _ (record {
-        good = good;
+        valid = valid;
         kinds = kinds;
         result = written;
         one_sided = not-true _ searched.0;
@@ -250,7 +250,7 @@ type_sound p t g =
 
 -- ---- a program
 
--- an accepted program gives no step, line or record that is wrong
+-- an accepted program has no step, line or record that is wrong
 pub sound : (p : Object) → IsAccepted p → IsSound p
 sound p h = record {
   each = sound_at p h;

@@ -29,14 +29,14 @@ abbrev pub has_shows : Shows → Bool
 has_shows s = is_some s.plus || (is_some s.minus || is_some s.zero)
 
 -- conditions may name MR only in version 2
-abbrev pub most_asked : Version → ℕ
-most_asked One = 128
-most_asked Two = 129
+abbrev pub highest_testable : Version → ℕ
+highest_testable One = 128
+highest_testable Two = 129
 
 -- the condition is on an indicator that the version has
-abbrev pub may_be_asked : Version → Condition → Bool
-may_be_asked v c = nat_le c.indicator (most_asked v)
+abbrev pub is_testable : Version → Condition → Bool
+is_testable v c = nat_le c.indicator (highest_testable v)
 
 -- each of three that is present may be tested
-abbrev pub all_asked : Version → Conditions → Bool
-all_asked v cs = if_any (may_be_asked v) cs.first && (if_any (may_be_asked v) cs.second && if_any (may_be_asked v) cs.third)
+abbrev pub all_testable : Version → Conditions → Bool
+all_testable v cs = if_any (is_testable v) cs.first && (if_any (is_testable v) cs.second && if_any (is_testable v) cs.third)

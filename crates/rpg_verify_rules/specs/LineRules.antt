@@ -17,13 +17,13 @@ use Rattle.rpg_program.specs.declared.line.Spacing.{Spacing}
 use Rattle.rpg_program.specs.Constants.{word_at}
 use Rattle.rpg_program.specs.Object.{LineRow, Object, file_length}
 use Rattle.rpg_program.specs.declared.rows.Version.{Version}
-use Rattle.rpg_verify_rules.specs.Indicators.{all_asked, may_be_asked}
+use Rattle.rpg_verify_rules.specs.Indicators.{all_testable, is_testable}
 use Rattle.rpg_verify_rules.specs.declared.rule.LineRule.{LineRule}
 use Rattle.rpg_verify_rules.specs.declared.rule.LineRule.TheVariants.{V2, V8, V9, V10, V11, V12, V13, V14, V15}
 
 -- the form of the field that is output
-abbrev pub form_put_out : Object → LineField ℕ → Option FieldForm
-form_put_out p f = form_at p.fields f.operand.field
+abbrev pub output_form_of : Object → LineField ℕ → Option FieldForm
+output_form_of p f = form_at p.fields f.operand.field
 
 -- no space and no skip
 abbrev pub is_unspaced : Spacing → Bool
@@ -37,7 +37,7 @@ is_spaced_on Disk s = is_unspaced s
 -- a single entry that exists; PAGE is a plain number of 4 digits without decimals
 abbrev pub is_field_there : Object → LineField ℕ → Bool
 is_field_there p f =
-    (has_entry (form_at p.fields) f.operand && is_one_entry (form_at p.fields) f.operand) && fits_source f.source (form_put_out p f)
+    (has_entry (form_at p.fields) f.operand && is_one_entry (form_at p.fields) f.operand) && fits_source f.source (output_form_of p f)
 
 -- Codes and words edit only numbers, and codes only those that they fit. A fill is used only with a code that allows it.
 abbrev pub edits_form : Option FieldForm → Editing ℕ → Fill → Bool
@@ -47,7 +47,7 @@ edits_form form (Word k) fill = same_kind (kind_of form) kinds.Number && is_blan
 
 -- the edit code fits the field
 abbrev pub is_field_edited : Object → LineField ℕ → Bool
-is_field_edited p f = edits_form (form_put_out p f) f.editing f.fill
+is_field_edited p f = edits_form (output_form_of p f) f.editing f.fill
 
 -- an edit word is a text constant of 1 to 24 characters that fits the digits
 abbrev pub is_word_for : Object → ℕ → Editing ℕ → Bool
@@ -57,7 +57,7 @@ is_word_for p digits (Word k) = is_text_constant (form_at p.fields k) && fits_wo
 
 -- the edit word fits the field
 abbrev pub is_field_worded : Object → LineField ℕ → Bool
-is_field_worded p f = is_word_for p (length_of (form_put_out p f)) f.editing
+is_field_worded p f = is_word_for p (length_of (output_form_of p f)) f.editing
 
 -- the field exists, and can't be edited this way
 abbrev pub lacks_editing : Object → LineField ℕ → Bool
@@ -94,12 +94,12 @@ abbrev pub blanks_wrongly : Object → ℕ → LineField ℕ → Bool
 blanks_wrongly p len f = not (blanks_writable (form_at p.fields) (word_at p) f) && fits_line p len f
 
 -- the conditions are on indicators that the version has
-abbrev pub is_field_asked : Version → LineField ℕ → Bool
-is_field_asked v f = all_asked v f.conditions
+abbrev pub is_field_testable : Version → LineField ℕ → Bool
+is_field_testable v f = all_testable v f.conditions
 
 -- it fits and is validly blanked, but tests an indicator that isn't allowed
-abbrev pub asks_wrongly : Object → ℕ → LineField ℕ → Bool
-asks_wrongly p len f = not (is_field_asked p.version f) && (blanks_writable (form_at p.fields) (word_at p) f && fits_line p len f)
+abbrev pub has_untestable_condition : Object → ℕ → LineField ℕ → Bool
+has_untestable_condition p len f = not (is_field_testable p.version f) && (blanks_writable (form_at p.fields) (word_at p) f && fits_line p len f)
 
 -- ---- whether a line breaks a rule; V10 to V15 don't apply to a field that a lower-numbered one rejects
 
@@ -107,10 +107,10 @@ asks_wrongly p len f = not (is_field_asked p.version f) && (blanks_writable (for
 unfoldable pub line_breaks : LineRule → Object → LineRow → Bool
 line_breaks V2 p l = file_length p l.file == 0
 line_breaks V8 p l = not (is_spaced_on l.file l.spacing)
-line_breaks V9 p l = not (list_all (list_all (may_be_asked p.version)) l.alternatives)
+line_breaks V9 p l = not (list_all (list_all (is_testable p.version)) l.alternatives)
 line_breaks V10 p l = not (list_all (is_field_there p) l.fields)
 line_breaks V11 p l = list_any (lacks_editing p) l.fields
 line_breaks V12 p l = list_any (lacks_word p) l.fields
 line_breaks V13 p l = list_any (lacks_room p (file_length p l.file)) l.fields
 line_breaks V14 p l = list_any (blanks_wrongly p (file_length p l.file)) l.fields
-line_breaks V15 p l = list_any (asks_wrongly p (file_length p l.file)) l.fields
+line_breaks V15 p l = list_any (has_untestable_condition p (file_length p l.file)) l.fields

@@ -3,7 +3,7 @@ use Rattle.std.specs.Prelude.{ℕ, ◌+◌, ◌-◌, Bool, true, false, not, ◌
 use Rattle.std.specs.List.{list_all, list_any}
 use Rattle.rpg_program.specs.Control.{has_conditions}
 use Rattle.rpg_program.specs.Forms.{form_at}
-use Rattle.rpg_program.specs.Rows.{all_of, all_used, has_kind, holds_positions, is_current_table, is_good_operand, is_two_sided, is_writable_use}
+use Rattle.rpg_program.specs.Rows.{all_of, all_used, has_kind, holds_positions, is_current_table, is_valid_operand, is_two_sided, is_writable_use}
 use Rattle.rpg_program.specs.declared.form.FieldForm.{FieldForm}
 use Rattle.rpg_program.specs.declared.operation.Action.TheVariants.{Compare, LookUp}
 use Rattle.rpg_program.specs.declared.operation.Instruction.{Instruction}
@@ -20,9 +20,9 @@ use Rattle.rpg_program.specs.declared.rows.Version.{Version}
 use Rattle.rpg_program.specs.declared.section.Section.{Section}
 use Rattle.rpg_program.specs.declared.section.Section.TheVariants.{Detail, Total, Subroutine}
 use Rattle.rpg_text.specs.Texts.{is_between}
-use Rattle.rpg_verify_rules.specs.Indicators.{all_asked, are_settable, has_shows}
+use Rattle.rpg_verify_rules.specs.Indicators.{all_testable, are_settable, has_shows}
 use Rattle.rpg_verify_rules.specs.declared.places.OperandTest.{OperandTest}
-use Rattle.rpg_verify_rules.specs.declared.places.OperandTest.TheVariants.{Good, Known, Writable, Current}
+use Rattle.rpg_verify_rules.specs.declared.places.OperandTest.TheVariants.{Valid, Known, Writable, Current}
 use Rattle.rpg_verify_rules.specs.declared.rule.PlaceRule.{PlaceRule}
 use Rattle.rpg_verify_rules.specs.declared.rule.PlaceRule.TheVariants.{V16, V17, V18, V19, V20, V21, V22}
 
@@ -54,9 +54,9 @@ abbrev pub is_searched_well : Object → Row (Operand ℕ) → Bool
 is_searched_well p r = not (is_two_sided r.marks) && (not (is_ordered r.marks) || all_used (is_ascending p) r.factor2)
 
 -- conditions that may be tested, for SKIP at least one
-abbrev pub are_asked : Version → Instruction ℕ → Bool
-are_asked v (Branch is_taken_where cs target) = all_asked v cs && (is_taken_where || has_conditions cs)
-are_asked v i = true
+abbrev pub are_testable : Version → Instruction ℕ → Bool
+are_testable v (Branch is_taken_where cs target) = all_testable v cs && (is_taken_where || has_conditions cs)
+are_testable v i = true
 
 -- ---- transfers of control
 
@@ -89,7 +89,7 @@ compares i = false
 
 -- the required kinds are known: if factors are compared, factor 1 is valid
 abbrev pub knows_kinds : Object → Instruction ℕ → Bool
-knows_kinds p i = not (compares i) || all_used (is_good_operand (form_at p.fields)) (columns p i).factor1
+knows_kinds p i = not (compares i) || all_used (is_valid_operand (form_at p.fields)) (columns p i).factor1
 
 -- the operand has the kind that its use requires, if kinds are known here
 abbrev pub has_known_kind : Object → Instruction ℕ → Use (Operand ℕ) → Bool
@@ -97,18 +97,18 @@ has_known_kind p i u = not (knows_kinds p i) || has_kind (form_at p.fields) u
 
 -- the operand passes the test
 abbrev pub passes : Object → OperandTest → Use (Operand ℕ) → Bool
-passes p Good = is_good_operand (form_at p.fields)
+passes p Valid = is_valid_operand (form_at p.fields)
 passes p (Known i) = has_known_kind p i
 passes p Writable = is_writable_use (form_at p.fields)
 passes p Current = is_current_table (form_at p.fields)
 
 -- the operands that V16 allows; of these, those that V17 allows; of these, with the result only if V18 allows it
-abbrev pub good_columns : Object → Instruction ℕ → Row (Operand ℕ)
-good_columns p i = those_passing (is_good_operand (form_at p.fields)) (columns p i)
+abbrev pub valid_columns : Object → Instruction ℕ → Row (Operand ℕ)
+valid_columns p i = those_passing (is_valid_operand (form_at p.fields)) (columns p i)
 
 -- the operands that have the required kind
 abbrev pub columns_of_kind : Object → Instruction ℕ → Row (Operand ℕ)
-columns_of_kind p i = those_passing (has_known_kind p i) (good_columns p i)
+columns_of_kind p i = those_passing (has_known_kind p i) (valid_columns p i)
 
 -- those of them that may be written where they are
 abbrev pub written_columns : Object → Instruction ℕ → Row (Operand ℕ)
@@ -123,10 +123,10 @@ holds_found p r = all_of (is_current_table (form_at p.fields)) r && holds_positi
 
 -- the instruction breaks the rule
 unfoldable pub place_breaks : PlaceRule → Object → Section → Instruction ℕ → Bool
-place_breaks V16 p s i = not (all_of (is_good_operand (form_at p.fields)) (columns p i))
-place_breaks V17 p s i = not (all_of (has_known_kind p i) (good_columns p i))
+place_breaks V16 p s i = not (all_of (is_valid_operand (form_at p.fields)) (columns p i))
+place_breaks V17 p s i = not (all_of (has_known_kind p i) (valid_columns p i))
 place_breaks V18 p s i = not (all_used (is_writable_use (form_at p.fields)) (columns_of_kind p i).result)
-place_breaks V19 p s i = not (are_asked p.version i && (are_marked (columns p i).marks && is_searched_well p (columns_of_kind p i)))
+place_breaks V19 p s i = not (are_testable p.version i && (are_marked (columns p i).marks && is_searched_well p (columns_of_kind p i)))
 place_breaks V20 p s i = not (holds_found p (written_columns p i))
 place_breaks V21 p s i = not (stays_inside p s i)
 place_breaks V22 p s i = not (calls_higher p s i)

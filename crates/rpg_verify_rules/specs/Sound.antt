@@ -16,7 +16,7 @@ use Rattle.rpg_program.specs.declared.section.Section.{Section}
 use Rattle.rpg_program.specs.declared.section.Section.TheVariants.{Subroutine}
 use Rattle.rpg_verify_rules.specs.Indicators.{if_any, is_of_type}
 use Rattle.rpg_verify_rules.specs.LineRules.{is_spaced_on}
-use Rattle.rpg_verify_rules.specs.PlaceRules.{are_asked, are_marked, ends_in_return}
+use Rattle.rpg_verify_rules.specs.PlaceRules.{are_testable, are_marked, ends_in_return}
 use Rattle.rpg_verify_rules.specs.TypeRules.{all_measured, are_joined_as, are_once, first_matches, is_code_in, is_control_in, is_input_shown, joined_widths, measures}
 
 -- an instruction is at a place of a section
@@ -37,7 +37,7 @@ pub record IsSoundInstruction (p : Object) (s : Section) (i : Instruction ℕ) :
   pub operands : IsRightRow (form_at p.fields) (columns p i)
   pub control : LeadsWell p s i
   pub marks : are_marked (columns p i).marks ≡ true
-  pub conditions : are_asked p.version i ≡ true
+  pub conditions : are_testable p.version i ≡ true
 
 -- a line: its file exists, its movements are in range, with none on the disk file, and nothing is wrong with its fields
 pub record IsSoundLine (p : Object) (l : LineRow) : Type 0 where

@@ -47,8 +47,8 @@ pub(crate) fn has_shows(shows: Shows) -> bool
 }
 
 /// Conditions may name MR only in version 2.
-const fn most_asked(version: Version) -> u8
-    ensures { result ≡ marks.most_asked version }
+const fn highest_testable(version: Version) -> u8
+    ensures { result ≡ marks.highest_testable version }
 {
     match version {
         Version::One => 128,
@@ -56,25 +56,25 @@ const fn most_asked(version: Version) -> u8
     }
 }
 
-pub(crate) fn may_be_asked(version: Version, condition: &Condition) -> bool
-    ensures { result ≡ marks.may_be_asked version condition.now }
+pub(crate) fn is_testable(version: Version, condition: &Condition) -> bool
+    ensures { result ≡ marks.is_testable version condition.now }
 {
-    condition.indicator <= most_asked(version)
+    condition.indicator <= highest_testable(version)
 }
 
-fn is_asked_if_any(version: Version, condition: Option<Condition>) -> bool
-    ensures { result ≡ marks.if_any (marks.may_be_asked version) condition }
+fn is_testable_if_any(version: Version, condition: Option<Condition>) -> bool
+    ensures { result ≡ marks.if_any (marks.is_testable version) condition }
 {
     match condition {
         None => true,
-        Some(condition) => may_be_asked(version, &condition),
+        Some(condition) => is_testable(version, &condition),
     }
 }
 
-pub(crate) fn all_asked(version: Version, conditions: Conditions) -> bool
-    ensures { result ≡ marks.all_asked version conditions }
+pub(crate) fn all_testable(version: Version, conditions: Conditions) -> bool
+    ensures { result ≡ marks.all_testable version conditions }
 {
-    is_asked_if_any(version, conditions.first)
-        && (is_asked_if_any(version, conditions.second)
-            && is_asked_if_any(version, conditions.third))
+    is_testable_if_any(version, conditions.first)
+        && (is_testable_if_any(version, conditions.second)
+            && is_testable_if_any(version, conditions.third))
 }

@@ -13,7 +13,7 @@ ghost use Rattle.rpg_program.specs.Object.{seen, line_row};
 ghost use Rattle.rpg_verify_rules.specs.Indicators as marks;
 ghost use Rattle.rpg_verify_rules.specs.LineRules as words;
 
-use crate::indicators::{all_asked, may_be_asked};
+use crate::indicators::{all_testable, is_testable};
 use crate::rule::LineRule;
 use crate::words::{edit_word_width, is_edit_word};
 use rpg_edit_marks::Fill;
@@ -36,13 +36,13 @@ pub fn breaks(rule: LineRule, rows: &Rows, line: &Line) -> bool
     match rule {
         LineRule::V2 => rows.file_length(line.file) == 0,
         LineRule::V8 => !is_spaced_on(line.file, line.spacing),
-        LineRule::V9 => !are_alternatives_asked(rows.version, &line.alternatives),
+        LineRule::V9 => !are_alternatives_testable(rows.version, &line.alternatives),
         LineRule::V10 => !are_fields_there(rows, &line.fields),
         LineRule::V11 => lack_editing(rows, &line.fields),
         LineRule::V12 => lack_words(rows, &line.fields),
         LineRule::V13 => lack_room(rows, rows.file_length(line.file), &line.fields),
         LineRule::V14 => blank_wrongly(rows, rows.file_length(line.file), &line.fields),
-        LineRule::V15 => ask_wrongly(rows, rows.file_length(line.file), &line.fields),
+        LineRule::V15 => have_untestable_condition(rows, rows.file_length(line.file), &line.fields),
     }
 }
 
@@ -62,22 +62,22 @@ fn is_spaced_on(file: File, s: Spacing) -> bool
 
 // ---- alternatives
 
-pub fn are_all_asked(version: Version, conditions: &[Condition]) -> bool
-    ensures { result ≡ list_all (marks.may_be_asked version) conditions.now }
+pub fn are_all_testable(version: Version, conditions: &[Condition]) -> bool
+    ensures { result ≡ list_all (marks.is_testable version) conditions.now }
 {
-    conditions.iter().all(|c| may_be_asked(version, c))
+    conditions.iter().all(|c| is_testable(version, c))
 }
 
-fn are_each_asked(version: Version, alternatives: &[Vec<Condition>]) -> bool
-    ensures { result ≡ list_all (λ (a : Vec Condition). list_all (marks.may_be_asked version) a.items) alternatives.now }
+fn are_each_testable(version: Version, alternatives: &[Vec<Condition>]) -> bool
+    ensures { result ≡ list_all (λ (a : Vec Condition). list_all (marks.is_testable version) a.items) alternatives.now }
 {
-    alternatives.iter().all(|a| are_all_asked(version, a))
+    alternatives.iter().all(|a| are_all_testable(version, a))
 }
 
-fn are_alternatives_asked(version: Version, alternatives: &[Vec<Condition>]) -> bool
-    ensures { result ≡ list_all (list_all (marks.may_be_asked version)) (map (λ a. a.items) alternatives.now) }
+fn are_alternatives_testable(version: Version, alternatives: &[Vec<Condition>]) -> bool
+    ensures { result ≡ list_all (list_all (marks.is_testable version)) (map (λ a. a.items) alternatives.now) }
 {
-    are_each_asked(version, alternatives)
+    are_each_testable(version, alternatives)
 }
 
 // ---- whether fields exist, and may be blanked
@@ -292,17 +292,19 @@ fn blank_wrongly(rows: &Rows, length: u16, fields: &[LineField<u16>]) -> bool
     fields.iter().any(|f| blanks_wrongly(rows, length, f))
 }
 
-pub fn asks_wrongly(rows: &Rows, length: u16, field: &LineField<u16>) -> bool
+pub fn has_untestable_condition(rows: &Rows, length: u16, field: &LineField<u16>) -> bool
     requires { IsProgram (seen rows.now) }
-    ensures { result ≡ words.asks_wrongly (seen rows.now) length field.now }
+    ensures { result ≡ words.has_untestable_condition (seen rows.now) length field.now }
 {
-    !all_asked(rows.version, field.conditions)
+    !all_testable(rows.version, field.conditions)
         && (is_blanked_writable(rows, field) && fits_line(rows, length, field))
 }
 
-fn ask_wrongly(rows: &Rows, length: u16, fields: &[LineField<u16>]) -> bool
+fn have_untestable_condition(rows: &Rows, length: u16, fields: &[LineField<u16>]) -> bool
     requires { IsProgram (seen rows.now) }
-    ensures { result ≡ list_any (words.asks_wrongly (seen rows.now) length) fields.now }
+    ensures { result ≡ list_any (words.has_untestable_condition (seen rows.now) length) fields.now }
 {
-    fields.iter().any(|f| asks_wrongly(rows, length, f))
+    fields
+        .iter()
+        .any(|f| has_untestable_condition(rows, length, f))
 }

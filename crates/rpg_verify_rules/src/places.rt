@@ -7,10 +7,10 @@ ghost use Rattle.rpg_program.specs.Rows as rows_words;
 ghost use Rattle.rpg_program.specs.Object.{seen};
 ghost use Rattle.rpg_verify_rules.specs.PlaceRules as words;
 
-use crate::indicators::{all_asked, are_settable, has_shows};
+use crate::indicators::{all_testable, are_settable, has_shows};
 use crate::rule::PlaceRule;
 use rpg_program::columns::{
-    columns_of, has_kind, holds_positions, is_current_table, is_good, is_writable_use,
+    columns_of, has_kind, holds_positions, is_current_table, is_valid, is_writable_use,
 };
 use rpg_program::condition::has_conditions;
 use rpg_program::forms::form_at;
@@ -27,11 +27,11 @@ pub fn breaks(rule: PlaceRule, rows: &Rows, span: Span, instruction: Instruction
 {
     let row = columns_of(rows, instruction);
     match rule {
-        PlaceRule::V16 => !all_pass(rows, OperandTest::Good, row),
+        PlaceRule::V16 => !all_pass(rows, OperandTest::Valid, row),
         PlaceRule::V17 => !all_pass(
             rows,
             OperandTest::Known(instruction),
-            those_passing(rows, OperandTest::Good, row),
+            those_passing(rows, OperandTest::Valid, row),
         ),
         PlaceRule::V18 => !passes_if_any(
             rows,
@@ -39,7 +39,7 @@ pub fn breaks(rule: PlaceRule, rows: &Rows, span: Span, instruction: Instruction
             columns_of_kind(rows, instruction).result,
         ),
         PlaceRule::V19 => {
-            !(are_asked(rows.version, instruction)
+            !(are_testable(rows.version, instruction)
                 && (are_marked(row.marks)
                     && is_searched_well(rows, columns_of_kind(rows, instruction))))
         }
@@ -71,7 +71,7 @@ fn knows_kinds(rows: &Rows, instruction: Instruction<u16>) -> bool
     !compares(instruction)
         || match columns_of(rows, instruction).factor1 {
             None => true,
-            Some(used) => is_good(rows, used),
+            Some(used) => is_valid(rows, used),
         }
 }
 
@@ -85,7 +85,7 @@ pub fn has_known_kind(rows: &Rows, instruction: Instruction<u16>, used: Use<Oper
 #[derive(Clone, Copy)]
 pub enum OperandTest {
     /// It exists, with an index that it may have.
-    Good,
+    Valid,
     /// It is of the kind that the instruction requires.
     Known(Instruction<u16>),
     /// It may be written at that place.
@@ -98,7 +98,7 @@ fn passes(rows: &Rows, test: OperandTest, used: Use<Operand<u16>>) -> bool
     ensures { result ≡ words.passes (seen rows.now) test used }
 {
     match test {
-        OperandTest::Good => is_good(rows, used),
+        OperandTest::Valid => is_valid(rows, used),
         OperandTest::Known(instruction) => has_known_kind(rows, instruction, used),
         OperandTest::Writable => is_writable_use(rows, used),
         OperandTest::Current => is_current_table(rows, used),
@@ -163,8 +163,8 @@ fn those_passing(rows: &Rows, test: OperandTest, row: Row<Operand<u16>>) -> Row<
 pub fn columns_of_kind(rows: &Rows, instruction: Instruction<u16>) -> Row<Operand<u16>>
     ensures { result ≡ words.columns_of_kind (seen rows.now) instruction }
 {
-    let good = those_passing(rows, OperandTest::Good, columns_of(rows, instruction));
-    those_passing(rows, OperandTest::Known(instruction), good)
+    let valid = those_passing(rows, OperandTest::Valid, columns_of(rows, instruction));
+    those_passing(rows, OperandTest::Known(instruction), valid)
 }
 
 /// The operands that pass V16 to V18.
@@ -182,15 +182,15 @@ pub fn written_columns(rows: &Rows, instruction: Instruction<u16>) -> Row<Operan
 
 // ---- indicators
 
-fn are_asked(version: Version, instruction: Instruction<u16>) -> bool
-    ensures { result ≡ words.are_asked version instruction }
+fn are_testable(version: Version, instruction: Instruction<u16>) -> bool
+    ensures { result ≡ words.are_testable version instruction }
 {
     match instruction {
         Instruction::Branch {
             is_taken_where,
             conditions,
             ..
-        } => all_asked(version, conditions) && (is_taken_where || has_conditions(conditions)),
+        } => all_testable(version, conditions) && (is_taken_where || has_conditions(conditions)),
         Instruction::Act(_)
         | Instruction::Except
         | Instruction::Call { .. }

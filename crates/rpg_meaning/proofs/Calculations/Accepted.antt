@@ -1,4 +1,4 @@
--- What the machine of an accepted program gives: nothing is wrong, and control is where the rules let it go.
+-- What the machine of an accepted program does: nothing is wrong, and control is where the rules let it go.
 use Rattle.std.proofs.Common.{◌≡◌, ◌≢◌, ◌<◌, ℕ, true, false, ◌&&◌, cond, eqb, Some, None, subst, ap, ◌∙◌}
 use Rattle.rpg_program.specs.Ends.{Fault, Halt, Wrong}
 use Rattle.rpg_program.specs.declared.operation.Instruction.{Instruction}

@@ -2,10 +2,10 @@
 use Rattle.std.proofs.Common.{◌≡◌, ℕ, zero, suc, Bool, true, false, cond, refl}
 use Rattle.std.specs.Prelude.{if◌then◌else◌}
 use Rattle.rpg_machine.specs.Config.{Output, no_output}
-use Rattle.rpg_meaning.specs.Calculations.Meaning.{AtEnd, AtHalt, CardsCome, MeantOutcome, On, Over, Source, State, Stops, Then, cards_step, is_finished, told_before}
+use Rattle.rpg_meaning.specs.Calculations.Meaning.{AtEnd, AtHalt, CardsCome, MeantOutcome, On, Over, Source, State, Stops, Then, cards_step, is_finished, with_earlier_output}
 
 abbrev pub followed : MeantOutcome → (State → MeantOutcome) → MeantOutcome
-followed (On s o) go = told_before o (go s)
+followed (On s o) go = with_earlier_output o (go s)
 followed (Stops k s o) go = Stops k s o
 followed Over go = Over
 
@@ -21,7 +21,7 @@ HasEnded source (Stops k t o) = Unit {0}
 HasEnded source Over = ⊥
 
 module _ (source : Source) where
-  had_ended : (o : Output) (e : MeantOutcome) → HasEnded source (told_before o e) → HasEnded source e
+  had_ended : (o : Output) (e : MeantOutcome) → HasEnded source (with_earlier_output o e) → HasEnded source e
   had_ended o (On t more) h = h
   had_ended o (Stops k t more) h = tt
   had_ended o Over h = h

@@ -2,15 +2,15 @@
 use Rattle.std.proofs.Common.{◌≡◌, ◌≢◌, ℕ, zero, suc, ◌+◌, ◌-◌, ◌*◌, ◌<◌, ◌≤◌, Bool, true, false, cond, eqb, List, [], ◌∷◌, length, Option, Some, None, refl, ap, ◌∙◌, arith, slice_get, nat_lt}
 use Rattle.std.proofs.lemmas.Bool.{ltb-false}
 use Rattle.std.proofs.lemmas.Option.{slice_get_within}
-use Rattle.rpg_cards.specs.Deeds.{Acts, Begins, Calculation, Deed, Ends, Executes, GoesTo, Marks, Nothing, PutsOut}
+use Rattle.rpg_cards.specs.Statements.{Acts, Begins, Calculation, Statement, Ends, Executes, GoesTo, Marks, Nothing, WritesExceptions}
 use Rattle.rpg_cards.specs.Keys.{Key, key_cmp}
 use Rattle.rpg_cards.specs.Sections.{Sections}
-use Rattle.rpg_program.specs.Ends.{End, GoesOn, Halt, Wrong}
+use Rattle.rpg_program.specs.Ends.{End, Continues, Halt, Wrong}
 use Rattle.rpg_program.specs.World.{World}
 use Rattle.rpg_machine.specs.Config.{Output, no_output}
 use Rattle.rpg_meaning.proofs.Calculations.Counted.{cards_run, followed}
 use Rattle.rpg_meaning.proofs.Calculations.Placed.{not_own}
-use Rattle.rpg_meaning.specs.Calculations.Meaning.{MeantOutcome, On, Over, Source, State, Stops, after_effect, at_next, calculation_done, cards_step, come_back, deed_done, gone_to, is_done, is_finished, spending, told_before}
+use Rattle.rpg_meaning.specs.Calculations.Meaning.{MeantOutcome, On, Over, Source, State, Stops, after_effect, at_next, calculation_done, cards_step, come_back, statement_done, gone_to, is_done, is_finished, spending, with_earlier_output}
 use Rattle.rpg_meaning.specs.Calculations.Parts.{InSubroutine, Part, bears, calculations_in, label_position}
 
 -- an end: no calculation is left, a halt, or nothing that is meant
@@ -51,7 +51,7 @@ module _ (source : Source) (most : ℕ) (long : (part : Part) → length (calcul
   one_on s w o a e h = omega arith
 
   ended_less : (x : End) (s : State) (w : World key_cmp) (o : Output) → s.next < length (calculations_in source.sections s.part) → Less s (after_effect x s w o)
-  ended_less GoesOn s w o h = one_on s w o s.allowance refl h
+  ended_less Continues s w o h = one_on s w o s.allowance refl h
   ended_less (Halt k) s w o h = tt
   ended_less (Wrong f) s w o h = tt
 
@@ -73,35 +73,35 @@ module _ (source : Source) (most : ℕ) (long : (part : Part) → length (calcul
   back_less s h [] e = tt
   back_less s h (b ∷ bs) e = let same = ap (following source.sections) e in omega arith
 
-  deed_less : (s : State) (g : Calculation Key) → slice_get (calculations_in source.sections s.part) s.next ≡ Some g → (x : Deed Key) → g.deed ≡ x → Less s (deed_done source s x)
-  deed_less s g e (Marks l) f = one_on s s.world no_output s.allowance refl (slice_get_within _ _ g e)
-  deed_less s g e (Begins l) f = one_on s s.world no_output s.allowance refl (slice_get_within _ _ g e)
-  deed_less s g e Nothing f = one_on s s.world no_output s.allowance refl (slice_get_within _ _ g e)
-  deed_less s g e (Acts a) f = ended_less _ s _ _ (slice_get_within _ _ g e)
-  deed_less s g e PutsOut f = ended_less _ s _ _ (slice_get_within _ _ g e)
-  deed_less s g e (GoesTo l) f = goto_less s (label_position l (calculations_in source.sections s.part)) (not_own l (calculations_in source.sections s.part) s.next g e (ap (λ x. bears l (record g { deed = x })) f)) (slice_get_within _ _ g e)
-  deed_less s g e (Executes n) f =
+  statement_less : (s : State) (g : Calculation Key) → slice_get (calculations_in source.sections s.part) s.next ≡ Some g → (x : Statement Key) → g.statement ≡ x → Less s (statement_done source s x)
+  statement_less s g e (Marks l) f = one_on s s.world no_output s.allowance refl (slice_get_within _ _ g e)
+  statement_less s g e (Begins l) f = one_on s s.world no_output s.allowance refl (slice_get_within _ _ g e)
+  statement_less s g e Nothing f = one_on s s.world no_output s.allowance refl (slice_get_within _ _ g e)
+  statement_less s g e (Acts a) f = ended_less _ s _ _ (slice_get_within _ _ g e)
+  statement_less s g e WritesExceptions f = ended_less _ s _ _ (slice_get_within _ _ g e)
+  statement_less s g e (GoesTo l) f = goto_less s (label_position l (calculations_in source.sections s.part)) (not_own l (calculations_in source.sections s.part) s.next g e (ap (λ x. bears l (record g { statement = x })) f)) (slice_get_within _ _ g e)
+  statement_less s g e (Executes n) f =
       let h = slice_get_within (calculations_in source.sections s.part) s.next g e in
       let m = long (InSubroutine n) in
       spending_less s (record s { part = InSubroutine n; next = 0; back = (s.part, s.next + 1) ∷ s.back }) (omega arith)
-  deed_less s g e (Ends l) f = back_less s (slice_get_within _ _ g e) s.back refl
+  statement_less s g e (Ends l) f = back_less s (slice_get_within _ _ g e) s.back refl
 
   step_less : (s : State) → Less s (cards_step source s)
   unfolding cards_step
   step_less s = by_group (slice_get (calculations_in source.sections s.part) s.next) refl
     where
-      by_done : (g : Calculation Key) → slice_get (calculations_in source.sections s.part) s.next ≡ Some g → (b : Bool) → Less s (cond b (deed_done source s g.deed) (On (at_next s (s.next + 1)) no_output))
-      by_done g e true = deed_less s g e g.deed refl
+      by_done : (g : Calculation Key) → slice_get (calculations_in source.sections s.part) s.next ≡ Some g → (b : Bool) → Less s (cond b (statement_done source s g.statement) (On (at_next s (s.next + 1)) no_output))
+      by_done g e true = statement_less s g e g.statement refl
       by_done g e false = one_on s s.world no_output s.allowance refl (slice_get_within _ _ g e)
 
       by_group : (o : Option (Calculation Key)) → slice_get (calculations_in source.sections s.part) s.next ≡ o → Less s (calculation_done source s o)
       by_group None e = tt
       by_group (Some g) e = by_done g e (is_done s.world.data.on g)
 
-  told_end : (o : Output) (x : MeantOutcome) → IsAtEnd source.sections x → IsAtEnd source.sections (told_before o x)
-  told_end o (On t more) h = h
-  told_end o (Stops k t more) h = h
-  told_end o Over h = h
+  reported_end : (o : Output) (x : MeantOutcome) → IsAtEnd source.sections x → IsAtEnd source.sections (with_earlier_output o x)
+  reported_end o (On t more) h = h
+  reported_end o (Stops k t more) h = h
+  reported_end o Over h = h
 
   -- what the cards do comes to an end
   pub run_ends : (n : ℕ) (s : State) → work s < n → IsAtEnd source.sections (cards_run source n s)
@@ -109,7 +109,7 @@ module _ (source : Source) (most : ℕ) (long : (part : Part) → length (calcul
   run_ends (suc n) s h = by_end (is_finished source.sections s) refl (λ t l. run_ends n t l)
     where
       rest : (x : MeantOutcome) → Less s x → ((t : State) → work t < n → IsAtEnd source.sections (cards_run source n t)) → IsAtEnd source.sections (followed x (cards_run source n))
-      rest (On t o) l go = told_end o (cards_run source n t) (go t (omega arith))
+      rest (On t o) l go = reported_end o (cards_run source n t) (go t (omega arith))
       rest (Stops k t o) l go = tt
       rest Over l go = tt
 

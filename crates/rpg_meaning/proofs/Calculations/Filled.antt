@@ -3,8 +3,8 @@ use Rattle.std.proofs.Common.{◌≡◌, ◌<◌, Bool, true, false, not, cond, 
 use Rattle.std.proofs.lemmas.List.Elements.{All-cons, All-head, All-nil, All-tail}
 use Rattle.std.specs.Option.{option_map_or}
 use Rattle.std.specs.Prelude.{All, is_some}
-use Rattle.rpg_cards.specs.Calculations.{CalculationGroup, alone, alternatives, calculations, calculations_before, completed, conditions_on, depends, goes_on, group_end, is_or, joined_group, open_calculation_group, tests_on}
-use Rattle.rpg_cards.specs.Deeds.{Calculation}
+use Rattle.rpg_cards.specs.Calculations.{CalculationGroup, alone, alternatives, calculations, calculations_before, completed, conditions_on, depends, continues, group_end, is_or, joined_group, open_calculation_group, tests_on}
+use Rattle.rpg_cards.specs.Statements.{Calculation}
 use Rattle.rpg_cards.specs.Keys.{Key, Name}
 use Rattle.rpg_cards.specs.Sections.{Subroutine, begun_by, is_detail, is_same_name, is_subroutine, is_total, of_control, sections_of, subroutines_of, unless_begun, up_to_begin, with_begun}
 use Rattle.rpg_cards.specs.Cards.{calculation_on}
@@ -76,7 +76,7 @@ or_true : (a : Bool) → (a || true) ≡ true
 or_true true = refl
 or_true false = refl
 
-goes_or_alone : (k : CalculationSpec) (after : List SpecCard) → is_alone (completed (alone k) after) ≡ false → goes_on after ≡ true
+goes_or_alone : (k : CalculationSpec) (after : List SpecCard) → is_alone (completed (alone k) after) ≡ false → continues after ≡ true
 goes_or_alone k [] e = absurd cc
 goes_or_alone k (c ∷ cs) e = by (calculation_on c.spec) e
   where
@@ -93,11 +93,11 @@ by_followers [] first h = tt
 by_followers (k ∷ ks) first h = filled_from first (k ∷ ks) (h refl)
 
 module _ (cards : List SpecCard) (kept : KeepsRule bad_calculation_columns cards) where
-  must_depend : (before : List SpecCard) (c : SpecCard) (after : List SpecCard) (k : CalculationSpec) → cards ≡ before ++ c ∷ after → calculation_on c.spec ≡ Some k → (goes_on after || (joins k.control_level && is_some (open_calculation_group before))) ≡ true → depends k ≡ true
+  must_depend : (before : List SpecCard) (c : SpecCard) (after : List SpecCard) (k : CalculationSpec) → cards ≡ before ++ c ∷ after → calculation_on c.spec ≡ Some k → (continues after || (joins k.control_level && is_some (open_calculation_group before))) ≡ true → depends k ≡ true
   must_depend before c after k s e m =
-      let several = goes_on after || (joins k.control_level && is_some (open_calculation_group before)) in
-      let good : bad_calculation (open_calculation_group before) k after ≡ false = sym (ap (λ x. option_map_or (λ k. bad_calculation (open_calculation_group before) k after) x false) e) ∙ kept before c after s in
-      let both = or_first (several && not (depends k)) (depends k && not (may_depend (group_end k after))) (or_first (bad_conditions (open_calculation_group before) k after) _ good) in
+      let several = continues after || (joins k.control_level && is_some (open_calculation_group before)) in
+      let valid : bad_calculation (open_calculation_group before) k after ≡ false = sym (ap (λ x. option_map_or (λ k. bad_calculation (open_calculation_group before) k after) x false) e) ∙ kept before c after s in
+      let both = or_first (several && not (depends k)) (depends k && not (may_depend (group_end k after))) (or_first (bad_conditions (open_calculation_group before) k after) _ valid) in
       by (depends k) (ap (λ b. b && not (depends k)) (sym m) ∙ both)
     where
       by : (b : Bool) → (true && not b) ≡ false → b ≡ true
@@ -113,7 +113,7 @@ module _ (cards : List SpecCard) (kept : KeepsRule bad_calculation_columns cards
     stray = λ before c after k s e j p. begin before c after k s e;
     more = λ before c after k g s e j p q m.
         filled_push (tests_on g.first) g.followers k
-        (some_test k (must_depend before c after k s e (ap (λ b. goes_on after || (b && is_some (open_calculation_group before))) j ∙ ap (λ o. goes_on after || is_some o) p ∙ or_true (goes_on after)))) (q m);
+        (some_test k (must_depend before c after k s e (ap (λ b. continues after || (b && is_some (open_calculation_group before))) j ∙ ap (λ o. continues after || is_some o) p ∙ or_true (continues after)))) (q m);
     last = λ before c after g s p q. by_followers g.followers (tests_on g.first) q;
   }
 
@@ -143,7 +143,7 @@ module _ (P : Calculation Key → Type 0) where
 
   up_to_all : (gs : List (Calculation Key)) → AllIn gs → AllIn (up_to_begin gs)
   up_to_all [] h = h
-  up_to_all (g ∷ gs) h = by (begun_by g.deed) (up_to_all gs (All-tail P g gs h))
+  up_to_all (g ∷ gs) h = by (begun_by g.statement) (up_to_all gs (All-tail P g gs h))
     where
       by : (o : Option (Option Name)) → AllIn (up_to_begin gs) → AllIn (unless_begun o (g ∷ up_to_begin gs))
       by None r = All-cons P g (up_to_begin gs) (All-head P g gs h) r
@@ -151,7 +151,7 @@ module _ (P : Calculation Key → Type 0) where
 
   bodies_all : (gs : List (Calculation Key)) → AllIn gs → All IsAll (subroutines_of gs)
   bodies_all [] h = All-nil IsAll
-  bodies_all (g ∷ gs) h = by (begun_by g.deed) (up_to_all gs (All-tail P g gs h)) (bodies_all gs (All-tail P g gs h))
+  bodies_all (g ∷ gs) h = by (begun_by g.statement) (up_to_all gs (All-tail P g gs h)) (bodies_all gs (All-tail P g gs h))
     where
       by : (o : Option (Option Name)) → AllIn (up_to_begin gs) → All IsAll (subroutines_of gs) → All IsAll (with_begun o (up_to_begin gs) (subroutines_of gs))
       by None b r = r

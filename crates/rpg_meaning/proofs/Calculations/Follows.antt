@@ -1,14 +1,14 @@
 -- The code of one calculation does what the calculation means.
 use Rattle.std.proofs.Common.{◌≡◌, ℕ, ◌+◌, ◌-◌, ◌<◌, ◌≤◌, Bool, true, false, cond, eqb, List, [], ◌∷◌, ◌++◌, length, map, Option, Some, refl, sym, ap, ◌∙◌, subst, arith, append_assoc, slice_get, nat_le, nat_lt, leb-true, ltb-true, le-leb}
 use Rattle.std.proofs.lemmas.Bool.{ltb-false}
-use Rattle.rpg_cards.specs.Deeds.{Acts, Begins, Calculation, Deed, Ends, Executes, GoesTo, Marks, Nothing, PutsOut, has_instruction, tests}
+use Rattle.rpg_cards.specs.Statements.{Acts, Begins, Calculation, Statement, Ends, Executes, GoesTo, Marks, Nothing, WritesExceptions, has_instruction, tests}
 use Rattle.rpg_cards.specs.Keys.{Key, Name, key_cmp}
 use Rattle.rpg_compile_program.proofs.Counts.{level_length, tests_length}
 use Rattle.rpg_compile_program.specs.Code.{group_code, jump, label_place, level_code, no_conditions, section_code, step_code, tests_code, waits}
 use Rattle.rpg_compile_program.specs.Whole.{called_number}
 use Rattle.rpg_program.specs.Effect.{Effect}
 use Rattle.rpg_program.specs.Ended.{on_data}
-use Rattle.rpg_program.specs.Ends.{End, GoesOn, Halt, Wrong}
+use Rattle.rpg_program.specs.Ends.{End, Continues, Halt, Wrong}
 use Rattle.rpg_program.specs.Forms.{form_at}
 use Rattle.rpg_program.specs.Instructions.{instruction_effect}
 use Rattle.rpg_program.specs.Lines.{exception_output}
@@ -31,7 +31,7 @@ use Rattle.rpg_meaning.proofs.Calculations.Parts.{code_of_part, own_number}
 use Rattle.rpg_meaning.proofs.Calculations.Placed.{cut, label_there, not_own, parts, place_low, place_next, place_up, size_none, size_some}
 use Rattle.rpg_meaning.specs.Calculations.Agreement.{AgreeAt, Comes, IsRunnable, MachineFollows, part_section, place_at}
 use Rattle.rpg_meaning.specs.Calculations.Laws.{stays_in_part}
-use Rattle.rpg_meaning.specs.Calculations.Meaning.{On, Source, State, Stops, affected, after_effect, at_next, calculation_done, cards_step, deed_done, gone_to, is_done}
+use Rattle.rpg_meaning.specs.Calculations.Meaning.{On, Source, State, Stops, affected, after_effect, at_next, calculation_done, cards_step, statement_done, gone_to, is_done}
 use Rattle.rpg_meaning.specs.Calculations.Parts.{bears, calculations_in, label_position}
 use Rattle.rpg_meaning.specs.Calculations.Translation.{IsFilled, IsTranslation}
 use Rattle.rpg_program.specs.Constants.{word_at}
@@ -89,24 +89,24 @@ module _ {p : Object} {source : Source} {number : Key → ℕ} (orderly : IsOrde
       subst (λ n. HasAt p orderly d n (group_code number (own_label s) callee_of (own s) d.place g)) base
       (subst (λ n. HasAt p orderly d (first_place p d.section + length part.0) (group_code number (own_label s) callee_of (own s) n g)) (sym a.place) there)
 
-  -- ---- the conditions of a calculation, and its deed
+  -- ---- the conditions of a calculation, and its statement
 
-  -- control reaches the deed or what is after the calculation, and the deed's instruction stands there
+  -- control reaches the statement or what is after the calculation, and the statement's instruction stands there
   pub record IsReached (s : State) (d : Config) (g : Calculation Key) : Type 0 where
     pub op : ℕ
     pub reaches : Reaches p orderly d d.place (cond (is_done d.world.data.on g) op (op + 1))
-    pub code : HasAt p orderly d op (step_code number (own_label s) callee_of (own s) g.deed)
+    pub code : HasAt p orderly d op (step_code number (own_label s) callee_of (own s) g.statement)
     pub low : place_at (first s) (calculations s) s.next ≤ op
     pub next : op + 1 ≡ place_at (first s) (calculations s) (s.next + 1)
 
-  pub reached : (s : State) (d : Config) (g : Calculation Key) → AgreeAt p source number s d → slice_get (calculations s) s.next ≡ Some g → has_instruction g.deed ≡ true → IsReached s d g
+  pub reached : (s : State) (d : Config) (g : Calculation Key) → AgreeAt p source number s d → slice_get (calculations s) s.next ≡ Some g → has_instruction g.statement ≡ true → IsReached s d g
   reached s d g a e f =
       let op = d.place + waits g.level + tests g.alternatives in
-      let deed = step_code number (own_label s) callee_of (own s) g.deed in
+      let statement = step_code number (own_label s) callee_of (own s) g.statement in
       let alternatives = tests_code (d.place + waits g.level) op (op + 1) g.alternatives in
       let h = subst (HasAt p orderly d d.place) (parts number (own_label s) callee_of (own s) d.place op g f refl) (calculation_stands s d g a e) in
-      let following = has_back p orderly d d.place (level_code (op + 1) g.level) (alternatives ++ deed) h in
-      let last = has_back p orderly d _ alternatives deed following in
+      let following = has_back p orderly d d.place (level_code (op + 1) g.level) (alternatives ++ statement) h in
+      let last = has_back p orderly d _ alternatives statement following in
       let l = level_length (op + 1) g.level in
       let t = tests_length (d.place + waits g.level) op (op + 1) g.alternatives in
       let there : d.place + length (level_code (op + 1) g.level) + length alternatives ≡ op = omega arith in
@@ -115,8 +115,8 @@ module _ {p : Object} {source : Source} {number : Key → ℕ} (orderly : IsOrde
       let z = size_some g f in
       record {
         op = op;
-        reaches = level_leads p orderly d g.level g.alternatives (all_at IsFilled (calculations s) s.next g (is.filled s.part) e) d.place op deed refl h;
-        code = subst (λ m. HasAt p orderly d m deed) there last;
+        reaches = level_leads p orderly d g.level g.alternatives (all_at IsFilled (calculations s) s.next g (is.filled s.part) e) d.place op statement refl h;
+        code = subst (λ m. HasAt p orderly d m statement) there last;
         low = omega arith;
         next = omega arith;
       }
@@ -128,7 +128,7 @@ module _ {p : Object} {source : Source} {number : Key → ℕ} (orderly : IsOrde
       let b = r.by d.steps a.fit in
       (at p orderly d x b.0, b.1, record { world = a.world; allowance = a.allowance; section = a.section; place = e; fit = b.2 }, refl)
 
-  -- ---- a deed that changes the world and goes on after itself
+  -- ---- a statement that changes the world and continues after itself
 
   pub affects : (s : State) (d : Config) (op : ℕ) (i : Instruction ℕ) (e : Effect key_cmp) → AgreeAt p source number s d → Reaches p orderly d d.place op → stands p orderly d op i → control d.world.data.on op i ≡ Goes (op + 1)
       → SameEffect source.forms number e (effect p i d.world) → op + 1 ≡ place_at (first s) (calculations s) (s.next + 1) → MachineFollows p source number d (affected s e)
@@ -156,7 +156,7 @@ module _ {p : Object} {source : Source} {number : Key → ℕ} (orderly : IsOrde
       stepped = step_of p orderly before i (Goes (op + 1)) b.2 there goes
 
       by_end : (x : End) → (effect p i d.world).ending ≡ x → MachineFollows p source number d (after_effect x s e.world out)
-      by_end GoesOn is_on =
+      by_end Continues is_on =
           let left = record after { world = (effect p i d.world).world } in
           let on = stepped ∙ ap (λ x. outcome_of x (charged (weight p i) before) after (effect p i d.world).world made) is_on ∙ ap (Next left) same_out in (
             left,
@@ -269,17 +269,17 @@ module _ {p : Object} {source : Source} {number : Key → ℕ} (orderly : IsOrde
   done_same : (s : State) (d : Config) (g : Calculation Key) → AgreeAt p source number s d → is_done d.world.data.on g ≡ is_done s.world.data.on g
   done_same s d g a = ap (λ on. is_done on g) a.world.data.on
 
-  -- the deed, where control has reached it
-  does : (s : State) (d : Config) (g : Calculation Key) → AgreeAt p source number s d → slice_get (calculations s) s.next ≡ Some g → (x : Deed Key) → g.deed ≡ x → has_instruction x ≡ true → stays_in_part x ≡ true
+  -- the statement, where control has reached it
+  does : (s : State) (d : Config) (g : Calculation Key) → AgreeAt p source number s d → slice_get (calculations s) s.next ≡ Some g → (x : Statement Key) → g.statement ≡ x → has_instruction x ≡ true → stays_in_part x ≡ true
       → (op : ℕ) → Reaches p orderly d d.place op → HasAt p orderly d op (step_code number (own_label s) callee_of (own s) x) → place_at (first s) (calculations s) s.next ≤ op → op + 1 ≡ place_at (first s) (calculations s) (s.next + 1)
-      → MachineFollows p source number d (deed_done source s x)
+      → MachineFollows p source number d (statement_done source s x)
   unfolding step_code
   does s d g a e (Marks l) f m i op r h low next = absurd cc
   does s d g a e (Begins l) f m i op r h low next = absurd cc
   does s d g a e Nothing f m i op r h low next = absurd cc
   does s d g a e (Acts x) f m i op r h low next = acts_follows s d op x a r h.0 low next
-  does s d g a e PutsOut f m i op r h low next = puts_follows s d op a r h.0 next
-  does s d g a e (GoesTo l) f m i op r h low next = goto_follows s d op l g a e (ap (λ x. bears l (record g { deed = x })) f) r h.0 low next
+  does s d g a e WritesExceptions f m i op r h low next = puts_follows s d op a r h.0 next
+  does s d g a e (GoesTo l) f m i op r h low next = goto_follows s d op l g a e (ap (λ x. bears l (record g { statement = x })) f) r h.0 low next
   does s d g a e (Executes n) f m i op r h low next = absurd cc
   does s d g a e (Ends l) f m i op r h low next = absurd cc
 
@@ -287,30 +287,30 @@ module _ {p : Object} {source : Source} {number : Key → ℕ} (orderly : IsOrde
   either_way true x y e = e
   either_way false x y e = refl
 
-  pub calculation_follows : (s : State) (d : Config) (g : Calculation Key) → slice_get (calculations s) s.next ≡ Some g → stays_in_part g.deed ≡ true → AgreeAt p source number s d → MachineFollows p source number d (cards_step source s)
+  pub calculation_follows : (s : State) (d : Config) (g : Calculation Key) → slice_get (calculations s) s.next ≡ Some g → stays_in_part g.statement ≡ true → AgreeAt p source number s d → MachineFollows p source number d (cards_step source s)
   unfolding cards_step
   calculation_follows s d g e inside a =
-      subst (λ x. MachineFollows p source number d (calculation_done source s x)) (sym e) (by_instruction (has_instruction g.deed) refl)
+      subst (λ x. MachineFollows p source number d (calculation_done source s x)) (sym e) (by_instruction (has_instruction g.statement) refl)
     where
-      by_done : IsReached s d g → has_instruction g.deed ≡ true → (b : Bool) → is_done s.world.data.on g ≡ b → MachineFollows p source number d (cond b (deed_done source s g.deed) (On (at_next s (s.next + 1)) no_output))
-      by_done x m true h = does s d g a e g.deed refl m inside x.op (subst (λ b. Reaches p orderly d d.place (cond b x.op (x.op + 1))) (done_same s d g a ∙ h) x.reaches) x.code x.low x.next
+      by_done : IsReached s d g → has_instruction g.statement ≡ true → (b : Bool) → is_done s.world.data.on g ≡ b → MachineFollows p source number d (cond b (statement_done source s g.statement) (On (at_next s (s.next + 1)) no_output))
+      by_done x m true h = does s d g a e g.statement refl m inside x.op (subst (λ b. Reaches p orderly d d.place (cond b x.op (x.op + 1))) (done_same s d g a ∙ h) x.reaches) x.code x.low x.next
       by_done x m false h = passed s d (x.op + 1) a (subst (λ b. Reaches p orderly d d.place (cond b x.op (x.op + 1))) (done_same s d g a ∙ h) x.reaches) x.next
 
-      mark_passes : (x : Deed Key) → has_instruction x ≡ false → deed_done source s x ≡ On (at_next s (s.next + 1)) no_output
+      mark_passes : (x : Statement Key) → has_instruction x ≡ false → statement_done source s x ≡ On (at_next s (s.next + 1)) no_output
       mark_passes (Marks l) m = refl
       mark_passes (Begins l) m = refl
       mark_passes Nothing m = refl
       mark_passes (Acts y) m = absurd cc
-      mark_passes PutsOut m = absurd cc
+      mark_passes WritesExceptions m = absurd cc
       mark_passes (GoesTo l) m = absurd cc
       mark_passes (Executes n) m = absurd cc
       mark_passes (Ends l) m = absurd cc
 
-      by_instruction : (b : Bool) → has_instruction g.deed ≡ b → MachineFollows p source number d (cond (is_done s.world.data.on g) (deed_done source s g.deed) (On (at_next s (s.next + 1)) no_output))
+      by_instruction : (b : Bool) → has_instruction g.statement ≡ b → MachineFollows p source number d (cond (is_done s.world.data.on g) (statement_done source s g.statement) (On (at_next s (s.next + 1)) no_output))
       by_instruction false m =
           let z = size_none g m in
           let n = place_next (calculations s) (first s) s.next g e in
           let q = a.place in
           let same : d.place ≡ place_at (first s) (calculations s) (s.next + 1) = omega arith in
-          subst (MachineFollows p source number d) (sym (either_way (is_done s.world.data.on g) _ _ (mark_passes g.deed m))) (passed s d d.place a (here_is p orderly d d.place d.place refl) same)
+          subst (MachineFollows p source number d) (sym (either_way (is_done s.world.data.on g) _ _ (mark_passes g.statement m))) (passed s d d.place a (here_is p orderly d d.place d.place refl) same)
       by_instruction true m = by_done (reached s d g a e m) m (is_done s.world.data.on g) refl

@@ -2,10 +2,10 @@
 use Rattle.std.proofs.Common.{◌≡◌, ℕ, suc, ◌+◌, ◌<◌, ◌≤◌, Bool, true, false, not, cond, ◌&&◌, ◌||◌, eqb, List, [], ◌∷◌, ◌++◌, length, map, Option, Some, None, refl, sym, ap, ◌∙◌, subst, arith, leb-true, nat_le}
 use Rattle.std.specs.List.{list_any}
 use Rattle.std.specs.FinSet as set
-use Rattle.rpg_cards.specs.Deeds.{tests}
+use Rattle.rpg_cards.specs.Statements.{tests}
 use Rattle.rpg_compile_program.proofs.Counts.{alternative_length}
 use Rattle.rpg_compile_program.specs.Code.{alternative_code, jump, level_code, on_level, skip_code, tests_code, waits}
-use Rattle.rpg_program.specs.Ends.{GoesOn, Halt}
+use Rattle.rpg_program.specs.Ends.{Continues, Halt}
 use Rattle.rpg_program.specs.Instructions.{instruction_effect}
 use Rattle.rpg_program.specs.World.{three_hold}
 use Rattle.rpg_program.specs.declared.condition.Conditions.{Conditions}
@@ -45,13 +45,13 @@ module _ (p : Object) (orderly : IsOrderly p) where
   one_step c d o i ready at is = record {
     by = λ k. (
       suc k,
-      ap (λ b. cond b (Stop GoesOn c no_output) (onward (step p c) (run p k))) (more_there p c i ready.0.place at) ∙ ap (λ x. onward x (run p k)) is,
+      ap (λ b. cond b (Stop Continues c no_output) (onward (step p c) (run p k))) (more_there p c i ready.0.place at) ∙ ap (λ x. onward x (run p k)) is,
     );
   }
 
   pub one_stop : (c d : Config) (o : Output) (k : ℕ) (i : Instruction ℕ) → IsRunnable p c → instruction_at p (here c) ≡ Some i → step p c ≡ Stop (Halt k) d o → run p 1 c ≡ Stop (Halt k) d o
   one_stop c d o k i ready at is =
-      ap (λ b. cond b (Stop GoesOn c no_output) (onward (step p c) (run p 0))) (more_there p c i ready.0.place at) ∙ ap (λ x. onward x (run p 0)) is
+      ap (λ b. cond b (Stop Continues c no_output) (onward (step p c) (run p 0))) (more_there p c i ready.0.place at) ∙ ap (λ x. onward x (run p 0)) is
 
   pub stop_after : (c d e : Config) (o : Output) (k : ℕ) → Comes p c d no_output → run p 1 d ≡ Stop (Halt k) e o → (j : ℕ) × (run p j c ≡ Stop (Halt k) e o)
   stop_after c d e o k x r = let a = x.by 1 in (a.0, a.1 ∙ nothing_before (run p 1 d) ∙ r)

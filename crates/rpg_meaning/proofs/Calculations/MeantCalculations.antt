@@ -3,9 +3,9 @@ use Rattle.std.proofs.Common.{◌≡◌, ℕ, Bool, true, false, cond, List, [],
 use Rattle.std.specs.List.{last_or}
 use Rattle.std.specs.Option.{option_and_then, option_map, option_map_or, option_to_list}
 use Rattle.std.specs.Prelude.{is_some, unwrap_or}
-use Rattle.rpg_cards.specs.Calculations.{CalculationGroup, alone, alternatives, awaited_level, calculation_of, calculations, calculations_from, completed, goes_on, group_with, is_or, joined_group, open_with, tests_on}
+use Rattle.rpg_cards.specs.Calculations.{CalculationGroup, alone, alternatives, awaited_level, calculation_of, calculations, calculations_from, completed, continues, group_with, is_or, joined_group, open_with, tests_on}
 use Rattle.rpg_cards.specs.Cards.{calculation_on}
-use Rattle.rpg_cards.specs.Deeds.{Acts, Begins, Calculation, Ends, Executes, GoesTo, Marks, deed_from, shows_of}
+use Rattle.rpg_cards.specs.Statements.{Acts, Begins, Calculation, Ends, Executes, GoesTo, Marks, statement_from, shows_of}
 use Rattle.rpg_program.specs.declared.operation.Action.TheVariants.{Assign, Compare, Compute, CrossFoot, Divide, LookUp, Move, TakeRemainder}
 use Rattle.rpg_program.specs.declared.operation.Operator.TheVariants as operator
 use Rattle.rpg_program.specs.declared.operation.Side.TheVariants.{Left, Right}
@@ -25,7 +25,7 @@ use Rattle.rpg_sheet_specs.specs.declared.indicator.ConditionSpec as written
 use Rattle.rpg_sheet_specs.specs.declared.literal.Factor.{Factor}
 use Rattle.rpg_sheet_specs.specs.declared.literal.Factor.TheVariants as factor
 use Rattle.rpg_sheet_specs.specs.declared.literal.Literal.TheVariants as literal
-use Rattle.rpg_job.specs.Calculations.{asked_else, asked_further, filled_conditions_on, meant_calculation, meant_calculations, done_by, entry_named, meant_factor, first_or, is_continuation, is_or_calculation, joined_after, meant_level, meant_name, meant_result, meant_from}
+use Rattle.rpg_job.specs.Calculations.{tested_else, tested_further, filled_conditions_on, meant_calculation, meant_calculations, done_by, entry_named, meant_factor, first_or, is_continuation, is_or_calculation, joined_after, meant_level, meant_name, meant_result, meant_from}
 
 append_none : {X : Type 0} (xs : List X) → xs ++ [] ≡ xs
 append_none [] = refl
@@ -72,28 +72,28 @@ name_same (Some (factor.Entry e)) = by e.index
     by None = refl
     by (Some i) = refl
 
-deed_same : (k : CalculationSpec) (o : Option Operation) → deed_from k o ≡ done_by k o
-deed_same k None = refl
-deed_same k (Some op.Add) = λ i. Acts (Compute operator.Add k.half_adjust (first_same k.factor_1 k.result_field i) (factor_same k.factor_2 i) (result_same k.result_field i) (shows_of k.resulting_indicators))
-deed_same k (Some op.Subtract) = λ i. Acts (Compute operator.Subtract k.half_adjust (first_same k.factor_1 k.result_field i) (factor_same k.factor_2 i) (result_same k.result_field i) (shows_of k.resulting_indicators))
-deed_same k (Some op.Multiply) = λ i. Acts (Compute operator.Multiply k.half_adjust (first_same k.factor_1 k.result_field i) (factor_same k.factor_2 i) (result_same k.result_field i) (shows_of k.resulting_indicators))
-deed_same k (Some op.Divide) = λ i. Acts (Divide k.half_adjust (first_same k.factor_1 k.result_field i) (factor_same k.factor_2 i) (result_same k.result_field i) (shows_of k.resulting_indicators))
-deed_same k (Some op.ZeroAdd) = λ i. Acts (Assign false k.half_adjust (factor_same k.factor_2 i) (result_same k.result_field i) (shows_of k.resulting_indicators))
-deed_same k (Some op.ZeroSubtract) = λ i. Acts (Assign true k.half_adjust (factor_same k.factor_2 i) (result_same k.result_field i) (shows_of k.resulting_indicators))
-deed_same k (Some op.MoveRemainder) = λ i. Acts (TakeRemainder (result_same k.result_field i) (shows_of k.resulting_indicators))
-deed_same k (Some op.CrossFoot) = λ i. Acts (CrossFoot k.half_adjust (factor_same k.factor_2 i) (result_same k.result_field i) (shows_of k.resulting_indicators))
-deed_same k (Some op.Move) = λ i. Acts (Move Right (factor_same k.factor_2 i) (result_same k.result_field i))
-deed_same k (Some op.MoveLeft) = λ i. Acts (Move Left (factor_same k.factor_2 i) (result_same k.result_field i))
-deed_same k (Some op.Compare) = λ i. Acts (Compare (factor_same k.factor_1 i) (factor_same k.factor_2 i) (shows_of k.resulting_indicators))
-deed_same k (Some op.LookUp) = λ i. Acts (LookUp (factor_same k.factor_1 i) (factor_same k.factor_2 i) (looked_same k.result_field i) (shows_of k.resulting_indicators))
-deed_same k (Some op.SetOn) = refl
-deed_same k (Some op.SetOff) = refl
-deed_same k (Some op.GoTo) = ap GoesTo (name_same k.factor_2)
-deed_same k (Some op.Call) = ap Executes (name_same k.factor_2)
-deed_same k (Some op.Label) = ap Marks (name_same k.factor_1)
-deed_same k (Some op.BeginSubroutine) = ap Begins (name_same k.factor_1)
-deed_same k (Some op.EndSubroutine) = ap Ends (name_same k.factor_1)
-deed_same k (Some op.Except) = refl
+statement_same : (k : CalculationSpec) (o : Option Operation) → statement_from k o ≡ done_by k o
+statement_same k None = refl
+statement_same k (Some op.Add) = λ i. Acts (Compute operator.Add k.half_adjust (first_same k.factor_1 k.result_field i) (factor_same k.factor_2 i) (result_same k.result_field i) (shows_of k.resulting_indicators))
+statement_same k (Some op.Subtract) = λ i. Acts (Compute operator.Subtract k.half_adjust (first_same k.factor_1 k.result_field i) (factor_same k.factor_2 i) (result_same k.result_field i) (shows_of k.resulting_indicators))
+statement_same k (Some op.Multiply) = λ i. Acts (Compute operator.Multiply k.half_adjust (first_same k.factor_1 k.result_field i) (factor_same k.factor_2 i) (result_same k.result_field i) (shows_of k.resulting_indicators))
+statement_same k (Some op.Divide) = λ i. Acts (Divide k.half_adjust (first_same k.factor_1 k.result_field i) (factor_same k.factor_2 i) (result_same k.result_field i) (shows_of k.resulting_indicators))
+statement_same k (Some op.ZeroAdd) = λ i. Acts (Assign false k.half_adjust (factor_same k.factor_2 i) (result_same k.result_field i) (shows_of k.resulting_indicators))
+statement_same k (Some op.ZeroSubtract) = λ i. Acts (Assign true k.half_adjust (factor_same k.factor_2 i) (result_same k.result_field i) (shows_of k.resulting_indicators))
+statement_same k (Some op.MoveRemainder) = λ i. Acts (TakeRemainder (result_same k.result_field i) (shows_of k.resulting_indicators))
+statement_same k (Some op.CrossFoot) = λ i. Acts (CrossFoot k.half_adjust (factor_same k.factor_2 i) (result_same k.result_field i) (shows_of k.resulting_indicators))
+statement_same k (Some op.Move) = λ i. Acts (Move Right (factor_same k.factor_2 i) (result_same k.result_field i))
+statement_same k (Some op.MoveLeft) = λ i. Acts (Move Left (factor_same k.factor_2 i) (result_same k.result_field i))
+statement_same k (Some op.Compare) = λ i. Acts (Compare (factor_same k.factor_1 i) (factor_same k.factor_2 i) (shows_of k.resulting_indicators))
+statement_same k (Some op.LookUp) = λ i. Acts (LookUp (factor_same k.factor_1 i) (factor_same k.factor_2 i) (looked_same k.result_field i) (shows_of k.resulting_indicators))
+statement_same k (Some op.SetOn) = refl
+statement_same k (Some op.SetOff) = refl
+statement_same k (Some op.GoTo) = ap GoesTo (name_same k.factor_2)
+statement_same k (Some op.Call) = ap Executes (name_same k.factor_2)
+statement_same k (Some op.Label) = ap Marks (name_same k.factor_1)
+statement_same k (Some op.BeginSubroutine) = ap Begins (name_same k.factor_1)
+statement_same k (Some op.EndSubroutine) = ap Ends (name_same k.factor_1)
+statement_same k (Some op.Except) = refl
 
 -- ---- conditions
 
@@ -128,23 +128,23 @@ or_same k = by k.control_level
     by control.And = refl
     by control.Or = refl
 
-alternatives_same : (so_far : List Conditions) (ks : List CalculationSpec) → alternatives so_far ks ≡ (so_far ++ asked_further ks) ∷ asked_else ks
+alternatives_same : (so_far : List Conditions) (ks : List CalculationSpec) → alternatives so_far ks ≡ (so_far ++ tested_further ks) ∷ tested_else ks
 alternatives_same so_far [] = λ i. sym (append_none so_far) i ∷ []
 alternatives_same so_far (k ∷ ks) =
     (λ i. cond (or_same k i) (so_far ∷ alternatives (tests_same k i) ks) (alternatives (so_far ++ tests_same k i) ks)) ∙ by (is_or_calculation k) (λ s. alternatives_same s ks)
   where
-    by : (b : Bool) → ((s : List Conditions) → alternatives s ks ≡ (s ++ asked_further ks) ∷ asked_else ks)
+    by : (b : Bool) → ((s : List Conditions) → alternatives s ks ≡ (s ++ tested_further ks) ∷ tested_else ks)
         → cond b (so_far ∷ alternatives (filled_conditions_on k) ks) (alternatives (so_far ++ filled_conditions_on k) ks)
-        ≡ (so_far ++ cond b [] (filled_conditions_on k ++ asked_further ks)) ∷ cond b ((filled_conditions_on k ++ asked_further ks) ∷ asked_else ks) (asked_else ks)
+        ≡ (so_far ++ cond b [] (filled_conditions_on k ++ tested_further ks)) ∷ cond b ((filled_conditions_on k ++ tested_further ks) ∷ tested_else ks) (tested_else ks)
     by true rest = λ i. sym (append_none so_far) i ∷ rest (filled_conditions_on k) i
-    by false rest = rest (so_far ++ filled_conditions_on k) ∙ (λ i. append_twice so_far (filled_conditions_on k) (asked_further ks) i ∷ asked_else ks)
+    by false rest = rest (so_far ++ filled_conditions_on k) ∙ (λ i. append_twice so_far (filled_conditions_on k) (tested_further ks) i ∷ tested_else ks)
 
 calculation_same : (k : CalculationSpec) (ks : List CalculationSpec) → calculation_of (record { first = k; followers = ks }) ≡ meant_calculation k ks
 calculation_same k ks = λ i. record {
   control = k.control_level;
   level = level_same k.control_level i;
-  alternatives = (alternatives_same (tests_on k) ks ∙ (λ j. (tests_same k j ++ asked_further ks) ∷ asked_else ks)) i;
-  deed = deed_same (unwrap_or (last_or None ks) k) (let last : CalculationSpec = unwrap_or (last_or None ks) k in last.operation) i;
+  alternatives = (alternatives_same (tests_on k) ks ∙ (λ j. (tests_same k j ++ tested_further ks) ∷ tested_else ks)) i;
+  statement = statement_same (unwrap_or (last_or None ks) k) (let last : CalculationSpec = unwrap_or (last_or None ks) k in last.operation) i;
 }
 
 -- ---- groups
@@ -173,7 +173,7 @@ completed_same k ks (c ∷ cs) = by (calculation_on c.spec) (λ ls. completed_sa
 
 -- after the last card read of an open group
 tail_of : CalculationGroup → List SpecCard → List (Calculation Key)
-tail_of g cs = option_to_list (option_map calculation_of (cond (goes_on cs) None (Some g))) ++ calculations_from (Some g) cs []
+tail_of g cs = option_to_list (option_map calculation_of (cond (continues cs) None (Some g))) ++ calculations_from (Some g) cs []
 
 -- the calculations after an open group, and with no group open
 module _ (cs : List SpecCard) where
@@ -183,8 +183,8 @@ module _ (cs : List SpecCard) where
   alone_same : ((g : CalculationGroup) → tail_of g cs ≡ calculation_of (completed g cs) ∷ meant_from true cs) → (k : CalculationSpec) → tail_of (alone k) cs ≡ meant_calculation k (joined_after cs) ∷ meant_from true cs
   alone_same rest k = rest (alone k) ∙ (λ i. whole_same k i ∷ meant_from true cs)
 
-  no_group : calculations_from None cs [] ≡ meant_from false cs → option_to_list (option_map calculation_of (cond (goes_on cs) None None)) ++ calculations_from None cs [] ≡ meant_from false cs
-  no_group rest = by (goes_on cs)
+  no_group : calculations_from None cs [] ≡ meant_from false cs → option_to_list (option_map calculation_of (cond (continues cs) None None)) ++ calculations_from None cs [] ≡ meant_from false cs
+  no_group rest = by (continues cs)
     where
       by : (b : Bool) → option_to_list (option_map calculation_of (cond b None None)) ++ calculations_from None cs [] ≡ meant_from false cs
       by true = rest
@@ -202,7 +202,7 @@ module _ (cs : List SpecCard) where
   grown rest g k xs false e = λ i. calculation_of g ∷ (e ∙ alone_same rest k) i
 
   after_group : ((g : CalculationGroup) → tail_of g cs ≡ calculation_of (completed g cs) ∷ meant_from true cs) → calculations_from None cs [] ≡ meant_from false cs → (g : CalculationGroup) (o : Option CalculationSpec) (xs : List (Calculation Key))
-      → xs ≡ option_to_list (option_map calculation_of (cond (goes_on cs) None (option_map (group_with (Some g)) o))) ++ calculations_from (option_map (group_with (Some g)) o) cs []
+      → xs ≡ option_to_list (option_map calculation_of (cond (continues cs) None (option_map (group_with (Some g)) o))) ++ calculations_from (option_map (group_with (Some g)) o) cs []
       → option_to_list (option_map calculation_of (cond (option_map_or (λ k. joins k.control_level) o false) None (Some g))) ++ xs
       ≡ calculation_of (option_map_or (λ k. cond (joins k.control_level) (completed (joined_group g k) cs) g) o g)
       ∷ (option_map_or (λ k. cond (is_continuation k.control_level) [] (meant_calculation k (joined_after cs) ∷ [])) o [] ++ meant_from (is_some o) cs)
@@ -211,15 +211,15 @@ module _ (cs : List SpecCard) where
   after_group go none g (Some k) xs e = subst (λ b. Grows g k xs b (is_continuation k.control_level)) (sym (joins_same k.control_level)) (grown go g k xs (is_continuation k.control_level)) e
 
   following_none : ((g : CalculationGroup) → tail_of g cs ≡ calculation_of (completed g cs) ∷ meant_from true cs) → calculations_from None cs [] ≡ meant_from false cs → (o : Option CalculationSpec)
-      → option_to_list (option_map calculation_of (cond (goes_on cs) None (option_map (group_with None) o))) ++ calculations_from (option_map (group_with None) o) cs []
+      → option_to_list (option_map calculation_of (cond (continues cs) None (option_map (group_with None) o))) ++ calculations_from (option_map (group_with None) o) cs []
       ≡ option_map_or (λ k. meant_calculation k (joined_after cs) ∷ []) o [] ++ meant_from (is_some o) cs
   unfolding tail_of
   following_none go none None = no_group none
   following_none go none (Some k) = alone_same go k
 
 first_card : (o : Option CalculationGroup) (c : SpecCard) (cs : List SpecCard)
-    → calculations_from o (c ∷ cs) [] ≡ option_to_list (option_map calculation_of (cond (goes_on cs) None (open_with o c.spec))) ++ calculations_from (open_with o c.spec) cs []
-first_card o c cs = ap (λ (after : List SpecCard). option_to_list (option_map calculation_of (cond (goes_on after) None (open_with o c.spec))) ++ calculations_from (open_with o c.spec) cs []) (append_none cs)
+    → calculations_from o (c ∷ cs) [] ≡ option_to_list (option_map calculation_of (cond (continues cs) None (open_with o c.spec))) ++ calculations_from (open_with o c.spec) cs []
+first_card o c cs = ap (λ (after : List SpecCard). option_to_list (option_map calculation_of (cond (continues after) None (open_with o c.spec))) ++ calculations_from (open_with o c.spec) cs []) (append_none cs)
 
 record Same (cs : List SpecCard) : Type 0 where
   go : (g : CalculationGroup) → tail_of g cs ≡ calculation_of (completed g cs) ∷ meant_from true cs

@@ -1,6 +1,6 @@
 -- The compiler divides calculations into the sections that the cards mean.
 use Rattle.std.proofs.Common.{◌≡◌, ◌++◌, Bool, cond, List, [], ◌∷◌, filter, refl, ap, ◌∙◌}
-use Rattle.rpg_cards.specs.Deeds.{Acts, Begins, Calculation, Deed, Ends, Executes, GoesTo, Marks, Nothing, PutsOut}
+use Rattle.rpg_cards.specs.Statements.{Acts, Begins, Calculation, Statement, Ends, Executes, GoesTo, Marks, Nothing, WritesExceptions}
 use Rattle.rpg_cards.specs.Keys.{Key}
 use Rattle.rpg_cards.specs.Sections.{Subroutine, begun_by, is_detail, is_subroutine, is_total, of_control, sections_of, subroutines_of, unless_begun, up_to_begin, with_begun}
 use Rattle.rpg_sheet_specs.specs.declared.calculation.ControlLevel.{ControlLevel}
@@ -38,12 +38,12 @@ those_same test own same (g ∷ gs) = λ i. cond (same g.control i) (g ∷ those
 
 body_same : (gs : List (Calculation Key)) → up_to_begin gs ≡ meant_body gs
 body_same [] = refl
-body_same (g ∷ gs) = by (body_same gs) g.deed
+body_same (g ∷ gs) = by (body_same gs) g.statement
   where
-    by : up_to_begin gs ≡ meant_body gs → (d : Deed Key) → unless_begun (begun_by d) (g ∷ up_to_begin gs) ≡ cond (is_begin d) [] (g ∷ meant_body gs)
+    by : up_to_begin gs ≡ meant_body gs → (d : Statement Key) → unless_begun (begun_by d) (g ∷ up_to_begin gs) ≡ cond (is_begin d) [] (g ∷ meant_body gs)
     by rest (Begins name) = refl
     by rest (Acts a) = λ i. g ∷ rest i
-    by rest PutsOut = λ i. g ∷ rest i
+    by rest WritesExceptions = λ i. g ∷ rest i
     by rest (GoesTo label) = λ i. g ∷ rest i
     by rest (Executes name) = λ i. g ∷ rest i
     by rest (Marks label) = λ i. g ∷ rest i
@@ -52,12 +52,12 @@ body_same (g ∷ gs) = by (body_same gs) g.deed
 
 subroutines_same : (gs : List (Calculation Key)) → subroutines_of gs ≡ meant_subroutines gs
 subroutines_same [] = refl
-subroutines_same (g ∷ gs) = by (subroutines_same gs) g.deed
+subroutines_same (g ∷ gs) = by (subroutines_same gs) g.statement
   where
-    by : subroutines_of gs ≡ meant_subroutines gs → (d : Deed Key) → with_begun (begun_by d) (up_to_begin gs) (subroutines_of gs) ≡ begun_before gs d ++ meant_subroutines gs
+    by : subroutines_of gs ≡ meant_subroutines gs → (d : Statement Key) → with_begun (begun_by d) (up_to_begin gs) (subroutines_of gs) ≡ begun_before gs d ++ meant_subroutines gs
     by rest (Begins name) = λ i. record { name = name; body = body_same gs i } ∷ rest i
     by rest (Acts a) = rest
-    by rest PutsOut = rest
+    by rest WritesExceptions = rest
     by rest (GoesTo label) = rest
     by rest (Executes name) = rest
     by rest (Marks label) = rest

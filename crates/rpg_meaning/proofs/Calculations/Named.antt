@@ -47,17 +47,17 @@ module _ {p : Object} {source : Source} {number : Key → ℕ} (orderly : IsOrde
       (fields_named len fs (All-tail (IsRightField len) (renamed_field number f) (map (renamed_field number) fs) h))
 
   -- nothing is wrong with its fields
-  abbrev IsGood : Line ℕ → Type 0
-  IsGood l = AreRight (form_at p.fields) (word_at p) l.len l.fields
+  abbrev IsValid : Line ℕ → Type 0
+  IsValid l = AreRight (form_at p.fields) (word_at p) l.len l.fields
 
   abbrev AreThere : Line Key → Type 0
   AreThere l = All IsThere l.fields
 
-  each_named : (ls : List (Line Key)) → All IsGood (map (renamed_line number) ls) → AreNamed source.forms ls
+  each_named : (ls : List (Line Key)) → All IsValid (map (renamed_line number) ls) → AreNamed source.forms ls
   each_named [] h = All-nil AreThere
   each_named (l ∷ ls) h =
-      All-cons AreThere l ls (fields_named l.len l.fields (All-head IsGood (renamed_line number l) (map (renamed_line number) ls) h))
-      (each_named ls (All-tail IsGood (renamed_line number l) (map (renamed_line number) ls) h))
+      All-cons AreThere l ls (fields_named l.len l.fields (All-head IsValid (renamed_line number l) (map (renamed_line number) ls) h))
+      (each_named ls (All-tail IsValid (renamed_line number l) (map (renamed_line number) ls) h))
 
   pub lines_named : AreNamed source.forms source.lines
-  lines_named = each_named source.lines (subst (All IsGood) is.lines (All-map IsGood (program_line p) p.lines (All-weaker (IsRightLine p) (λ l. IsGood (program_line p l)) (λ l h. h.fields) p.lines orderly.lines)))
+  lines_named = each_named source.lines (subst (All IsValid) is.lines (All-map IsValid (program_line p) p.lines (All-weaker (IsRightLine p) (λ l. IsValid (program_line p l)) (λ l h. h.fields) p.lines orderly.lines)))

@@ -5,8 +5,8 @@ use Rattle.std.proofs.lemmas.Option.{slice_get-map}
 use Rattle.std.specs.List.{filter}
 use Rattle.std.specs.Option.{option_map, option_map_or, option_to_list}
 use Rattle.std.specs.Prelude.{All, is_some}
-use Rattle.rpg_cards.specs.Calculations.{CalculationGroup, alone, calculation_of, calculations, calculations_from, completed, goes_on, group_with, joined_group, open_calculation_group, open_with}
-use Rattle.rpg_cards.specs.Deeds.{Calculation}
+use Rattle.rpg_cards.specs.Calculations.{CalculationGroup, alone, calculation_of, calculations, calculations_from, completed, continues, group_with, joined_group, open_calculation_group, open_with}
+use Rattle.rpg_cards.specs.Statements.{Calculation}
 use Rattle.rpg_cards.specs.Keys.{Key, Name}
 use Rattle.rpg_cards.specs.Sections.{begun_by, is_detail, is_same_name, is_subroutine, is_total, of_control, sections_of, subroutines_of, unless_begun, up_to_begin, with_begun}
 use Rattle.rpg_cards.specs.Cards.{Numbered, calculation_on}
@@ -55,8 +55,8 @@ ended_same false (Some y) rest following e = ap (λ gs. calculation_of y.1 ∷ g
 all_same : (o : Option (ℕ × CalculationGroup)) (cs : List SpecCard) → map calculation (numbered_from o cs) ≡ calculations_from (option_map group o) cs []
 all_same o [] = refl
 all_same o (c ∷ cs) =
-    ended_same (goes_on cs) (open_at o c) (numbered_from (open_at o c) cs) (calculations_from (option_map group (open_at o c)) cs []) (all_same (open_at o c) cs)
-    ∙ (λ i. option_to_list (option_map calculation_of (cond (goes_on (sym (append-nil cs) i)) None (open_same o c i))) ++ calculations_from (open_same o c i) cs [])
+    ended_same (continues cs) (open_at o c) (numbered_from (open_at o c) cs) (calculations_from (option_map group (open_at o c)) cs []) (all_same (open_at o c) cs)
+    ∙ (λ i. option_to_list (option_map calculation_of (cond (continues (sym (append-nil cs) i)) None (open_same o c i))) ++ calculations_from (open_same o c i) cs [])
 
 -- ---- those of a part
 
@@ -71,7 +71,7 @@ filter_same test (e ∷ es) = by (test e.1.control) (filter_same test es)
 
 next_same : (es : List Entry) → map calculation (up_to_next es) ≡ up_to_begin (map calculation es)
 next_same [] = refl
-next_same (e ∷ es) = by (begun_by e.1.deed) (next_same es)
+next_same (e ∷ es) = by (begun_by e.1.statement) (next_same es)
   where
     by : (o : Option (Option Name)) → map calculation (up_to_next es) ≡ up_to_begin (map calculation es)
         → map calculation (cond (is_some o) [] (e ∷ up_to_next es)) ≡ unless_begun o (e.1 ∷ up_to_begin (map calculation es))
@@ -80,7 +80,7 @@ next_same (e ∷ es) = by (begun_by e.1.deed) (next_same es)
 
 after_same : (name : Option Name) (es : List Entry) → map calculation (after_begsr name es) ≡ body_named name (subroutines_of (map calculation es))
 after_same name [] = refl
-after_same name (e ∷ es) = by (begun_by e.1.deed) (after_same name es)
+after_same name (e ∷ es) = by (begun_by e.1.statement) (after_same name es)
   where
     named : (b : Bool) → map calculation (after_begsr name es) ≡ body_named name (subroutines_of (map calculation es))
         → map calculation (cond b (up_to_next es) (after_begsr name es)) ≡ cond b (up_to_begin (map calculation es)) (body_named name (subroutines_of (map calculation es)))
@@ -110,7 +110,7 @@ module _ (P : Entry → Type 0) where
 
   next_all : (es : List Entry) → All P es → All P (up_to_next es)
   next_all [] h = h
-  next_all (e ∷ es) h = by (is_some (begun_by e.1.deed)) (next_all es (All-tail P e es h))
+  next_all (e ∷ es) h = by (is_some (begun_by e.1.statement)) (next_all es (All-tail P e es h))
     where
       by : (b : Bool) → All P (up_to_next es) → All P (cond b [] (e ∷ up_to_next es))
       by true r = All-nil P
@@ -118,7 +118,7 @@ module _ (P : Entry → Type 0) where
 
   after_all : (name : Option Name) (es : List Entry) → All P es → All P (after_begsr name es)
   after_all name [] h = h
-  after_all name (e ∷ es) h = by (option_map_or (is_same_name name) (begun_by e.1.deed) false) (next_all es (All-tail P e es h)) (after_all name es (All-tail P e es h))
+  after_all name (e ∷ es) h = by (option_map_or (is_same_name name) (begun_by e.1.statement) false) (next_all es (All-tail P e es h)) (after_all name es (All-tail P e es h))
     where
       by : (b : Bool) → All P (up_to_next es) → All P (after_begsr name es) → All P (cond b (up_to_next es) (after_begsr name es))
       by true r s = r
@@ -143,7 +143,7 @@ pub record IsOpen (before : List SpecCard) (e : ℕ × CalculationGroup) : Type 
   pub number : e.0 ≡ card.number
   pub whole : (rest : List SpecCard) → completed (alone first) (further ++ rest) ≡ completed e.1 rest
 
-completed_stays : (g : CalculationGroup) (rest : List SpecCard) → goes_on rest ≡ false → completed g rest ≡ g
+completed_stays : (g : CalculationGroup) (rest : List SpecCard) → continues rest ≡ false → completed g rest ≡ g
 completed_stays g [] e = refl
 completed_stays g (c ∷ cs) e = by (calculation_on c.spec) e
   where
@@ -196,7 +196,7 @@ module _ (cards : List SpecCard) where
   Begins : Entry → Type 0
   Begins e = BeginsOn cards e.1 (Some e.0)
 
-  ended_begins : (before : List SpecCard) (rest : List SpecCard) → cards ≡ before ++ rest → goes_on rest ≡ false → (e : ℕ × CalculationGroup) → IsOpen before e → BeginsOn cards (calculation_of e.1) (Some e.0)
+  ended_begins : (before : List SpecCard) (rest : List SpecCard) → cards ≡ before ++ rest → continues rest ≡ false → (e : ℕ × CalculationGroup) → IsOpen before e → BeginsOn cards (calculation_of e.1) (Some e.0)
   ended_begins before rest s g e o = record {
     before = o.front;
     card = o.card;
@@ -206,7 +206,7 @@ module _ (cards : List SpecCard) where
     is = o.is;
     begins = o.begins;
     whole = ap calculation_of (o.whole rest ∙ completed_stays e.1 rest g);
-    told = ap Some o.number;
+    reported = ap Some o.number;
   }
 
   each_begins : (before rest : List SpecCard) (o : Option (ℕ × CalculationGroup)) → cards ≡ before ++ rest → AreKnown before o → All Begins (numbered_from o rest)
@@ -215,9 +215,9 @@ module _ (cards : List SpecCard) where
   each_begins before (c ∷ cs) o s known =
       let split = s ∙ sym (append_assoc before (c ∷ []) cs) in
       let more = known_more before c o known in
-      by (goes_on cs) refl (open_at o c) refl split more (each_begins (before ++ c ∷ []) cs (open_at o c) split more)
+      by (continues cs) refl (open_at o c) refl split more (each_begins (before ++ c ∷ []) cs (open_at o c) split more)
     where
-      by : (b : Bool) → goes_on cs ≡ b → (x : Option (ℕ × CalculationGroup)) → open_at o c ≡ x → cards ≡ (before ++ c ∷ []) ++ cs → AreKnown (before ++ c ∷ []) (open_at o c) → All Begins (numbered_from (open_at o c) cs)
+      by : (b : Bool) → continues cs ≡ b → (x : Option (ℕ × CalculationGroup)) → open_at o c ≡ x → cards ≡ (before ++ c ∷ []) ++ cs → AreKnown (before ++ c ∷ []) (open_at o c) → All Begins (numbered_from (open_at o c) cs)
           → All Begins (option_to_list (option_map numbered_calculation (cond b None x)) ++ numbered_from (open_at o c) cs)
       by true g x e split more rest = rest
       by false g None e split more rest = rest
@@ -267,7 +267,7 @@ filter_up test low (e ∷ es) h = by (test e) (filter_up test (e.0 + 1) es h.1)
 
 next_up : (low : ℕ) (es : List Entry) → GoUp low es → GoUp low (up_to_next es)
 next_up low [] h = tt
-next_up low (e ∷ es) h = by (is_some (begun_by e.1.deed)) (next_up (e.0 + 1) es h.1)
+next_up low (e ∷ es) h = by (is_some (begun_by e.1.statement)) (next_up (e.0 + 1) es h.1)
   where
     by : (b : Bool) → GoUp (e.0 + 1) (up_to_next es) → GoUp low (cond b [] (e ∷ up_to_next es))
     by true r = tt
@@ -277,7 +277,7 @@ following_up : (name : Option Name) (low : ℕ) (es : List Entry) → GoUp low e
 following_up name low [] h = tt
 following_up name low (e ∷ es) h =
     let a = h.0 in
-    by (option_map_or (is_same_name name) (begun_by e.1.deed) false) (go_lower low (e.0 + 1) (up_to_next es) (omega arith) (next_up (e.0 + 1) es h.1)) (go_lower low (e.0 + 1) (after_begsr name es) (omega arith) (following_up name (e.0 + 1) es h.1))
+    by (option_map_or (is_same_name name) (begun_by e.1.statement) false) (go_lower low (e.0 + 1) (up_to_next es) (omega arith) (next_up (e.0 + 1) es h.1)) (go_lower low (e.0 + 1) (after_begsr name es) (omega arith) (following_up name (e.0 + 1) es h.1))
   where
     by : (b : Bool) → GoUp low (up_to_next es) → GoUp low (after_begsr name es) → GoUp low (cond b (up_to_next es) (after_begsr name es))
     by true r s = r
@@ -288,9 +288,9 @@ part_up InDetail low es h = filter_up (λ e. is_detail e.1.control) low es h
 part_up InTotal low es h = filter_up (λ e. is_total e.1.control) low es h
 part_up (InSubroutine name) low es h = following_up name low (filter (λ e. is_subroutine e.1.control) es) (filter_up (λ e. is_subroutine e.1.control) low es h)
 
--- the open group began before, and where it goes on no earlier than that
+-- the open group began before, and where it continues no earlier than that
 abbrev IsBetween : ℕ → ℕ → List SpecCard → Option (ℕ × CalculationGroup) → Type 0
-IsBetween from low rest o = (e : ℕ × CalculationGroup) → o ≡ Some e → (e.0 < low) × (goes_on rest ≡ true → from ≤ e.0)
+IsBetween from low rest o = (e : ℕ × CalculationGroup) → o ≡ Some e → (e.0 < low) × (continues rest ≡ true → from ≤ e.0)
 
 group_between : (from low : ℕ) (c : SpecCard) (cs : List SpecCard) (o : Option (ℕ × CalculationGroup)) (k : CalculationSpec) → from ≤ low → low ≤ c.number → calculation_on c.spec ≡ Some k → IsBetween from low (c ∷ cs) o
     → ((numbered_group o c.number k).0 < c.number + 1) × (from ≤ (numbered_group o c.number k).0)
@@ -308,10 +308,10 @@ group_between from low c cs (Some e) k f l is between = by (joins k.control_leve
 numbered_up : (from low : ℕ) (o : Option (ℕ × CalculationGroup)) (cs : List SpecCard) → from ≤ low → Numbered low cs → IsBetween from low cs o → GoUp from (numbered_from o cs)
 numbered_up from low o [] f h between = tt
 numbered_up from low o (c ∷ cs) f h between =
-    by (calculation_on c.spec) refl (goes_on cs) refl
+    by (calculation_on c.spec) refl (continues cs) refl
     (λ start next. numbered_up start (c.number + 1) (open_at o c) cs next h.1)
   where
-    by : (x : Option CalculationSpec) → calculation_on c.spec ≡ x → (b : Bool) → goes_on cs ≡ b
+    by : (x : Option CalculationSpec) → calculation_on c.spec ≡ x → (b : Bool) → continues cs ≡ b
         → ((start : ℕ) → start ≤ c.number + 1 → IsBetween start (c.number + 1) cs (open_at o c) → GoUp start (numbered_from (open_at o c) cs))
         → GoUp from (option_to_list (option_map numbered_calculation (cond b None (option_map (numbered_group o c.number) x))) ++ numbered_from (open_at o c) cs)
     by None is true g rest = let l = h.0 in rest from (omega arith) (λ e same. let none = sym (ap (option_map (numbered_group o c.number)) is) ∙ same in absurd cc)

@@ -1,7 +1,7 @@
 -- Where the code of calculations stands.
 use Rattle.std.proofs.Common.{◌≡◌, ◌≢◌, ℕ, zero, suc, ◌+◌, ◌≤◌, Bool, true, false, cond, List, [], ◌∷◌, ◌++◌, length, Option, Some, refl, sym, ap, ◌∙◌, arith, length-append, append_assoc, slice_get}
 use Rattle.std.proofs.lemmas.Bool.{false≢true}
-use Rattle.rpg_cards.specs.Deeds.{Calculation, has_instruction, tests}
+use Rattle.rpg_cards.specs.Statements.{Calculation, has_instruction, tests}
 use Rattle.rpg_cards.specs.Keys.{Key, Name}
 use Rattle.rpg_compile_program.proofs.Counts.{group_length}
 use Rattle.rpg_compile_program.specs.Code.{code_from, group_code, label_place, level_code, size, step_code, tests_code, waits}
@@ -9,25 +9,25 @@ use Rattle.rpg_program.specs.declared.operation.Instruction.{Instruction}
 use Rattle.rpg_meaning.specs.Calculations.Agreement.{place_at}
 use Rattle.rpg_meaning.specs.Calculations.Parts.{bears, label_position}
 
-pub size_none : (g : Calculation Key) → has_instruction g.deed ≡ false → size g ≡ 0
+pub size_none : (g : Calculation Key) → has_instruction g.statement ≡ false → size g ≡ 0
 unfolding size
 size_none g e = ap (λ b. cond b (waits g.level + tests g.alternatives + 1) 0) e
 
-pub size_some : (g : Calculation Key) → has_instruction g.deed ≡ true → size g ≡ waits g.level + tests g.alternatives + 1
+pub size_some : (g : Calculation Key) → has_instruction g.statement ≡ true → size g ≡ waits g.level + tests g.alternatives + 1
 unfolding size
 size_some g e = ap (λ b. cond b (waits g.level + tests g.alternatives + 1) 0) e
 
 module _ (number : Key → ℕ) (place_of callee_of : Option Name → ℕ) (own : ℕ) where
   -- the code of a calculation that becomes some
-  pub parts : (place op : ℕ) (g : Calculation Key) → has_instruction g.deed ≡ true → op ≡ place + waits g.level + tests g.alternatives →
+  pub parts : (place op : ℕ) (g : Calculation Key) → has_instruction g.statement ≡ true → op ≡ place + waits g.level + tests g.alternatives →
       group_code number place_of callee_of own place g
-      ≡ level_code (op + 1) g.level ++ (tests_code (place + waits g.level) op (op + 1) g.alternatives ++ step_code number place_of callee_of own g.deed)
+      ≡ level_code (op + 1) g.level ++ (tests_code (place + waits g.level) op (op + 1) g.alternatives ++ step_code number place_of callee_of own g.statement)
   unfolding group_code
   parts place op g e o =
       let z = size_some g e in
       let following : place + size g ≡ op + 1 = omega arith in
-      ap (λ b. cond b (level_code (place + size g) g.level ++ (tests_code (place + waits g.level) (place + waits g.level + tests g.alternatives) (place + size g) g.alternatives ++ step_code number place_of callee_of own g.deed)) []) e
-      ∙ (λ i. level_code (following i) g.level ++ (tests_code (place + waits g.level) (sym o i) (following i) g.alternatives ++ step_code number place_of callee_of own g.deed))
+      ap (λ b. cond b (level_code (place + size g) g.level ++ (tests_code (place + waits g.level) (place + waits g.level + tests g.alternatives) (place + size g) g.alternatives ++ step_code number place_of callee_of own g.statement)) []) e
+      ∙ (λ i. level_code (following i) g.level ++ (tests_code (place + waits g.level) (sym o i) (following i) g.alternatives ++ step_code number place_of callee_of own g.statement))
 
   -- the code of all of them is that of those before, of the n-th, and of those after it
   pub cut : (gs : List (Calculation Key)) (place n : ℕ) (g : Calculation Key) → slice_get gs n ≡ Some g →

@@ -4,7 +4,7 @@ use Rattle.std.proofs.lemmas.Bool.{false≢true}
 use Rattle.std.specs.FinMap as map
 use Rattle.rpg_cards.specs.Keys.{Key, key_cmp}
 use Rattle.rpg_cards.specs.Sections.{Sections}
-use Rattle.rpg_program.specs.Ends.{End, GoesOn, Halt}
+use Rattle.rpg_program.specs.Ends.{End, Continues, Halt}
 use Rattle.rpg_program.specs.World.{World}
 use Rattle.rpg_machine.proofs.OneRun.{runs_are_one}
 use Rattle.rpg_machine.proofs.Starting.{safe_start}
@@ -45,7 +45,7 @@ module _ {p : Object} {source : Source} {number : Key → ℕ} (orderly : IsOrde
 
   came : (x : MeantOutcome) (section : Section) (c : Config) (e : End) (d : Config) (out : Output) → RunsTo p section c e d out → Meets p source number (at_first p section c) x → EndsAs p source number x e d out
   came (On t o) section c e d out run (end, f, (j, ran), a) =
-      let same = runs_are_one p section c e GoesOn d f out o run (record { enough = j; run = ran }) in
+      let same = runs_are_one p section c e Continues d f out o run (record { enough = j; run = ran }) in
       (same.0, same.2, subst (AgreeEnded p source number t) (sym same.1) (record { world = a.world; allowance = a.allowance }))
   came (Stops k t o) section c e d out run (f, (j, ran), a) =
       let same = runs_are_one p section c e (Halt k) d f out o run (record { enough = j; run = ran }) in

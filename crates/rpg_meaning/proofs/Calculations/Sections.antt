@@ -3,11 +3,11 @@ use Rattle.std.proofs.Common.{◌≡◌, ◌≢◌, ℕ, zero, suc, ◌+◌, ◌
 use Rattle.std.proofs.lemmas.Bool.{false≢true, ne_eqb, eq-eqb}
 use Rattle.std.specs.Cmp.{nat_cmp_total, unsigned_tied}
 use Rattle.std.specs.FinMap as map
-use Rattle.rpg_cards.specs.Deeds.{Acts, Begins, Calculation, Deed, Ends, Executes, GoesTo, Marks, Nothing, PutsOut, has_instruction}
+use Rattle.rpg_cards.specs.Statements.{Acts, Begins, Calculation, Statement, Ends, Executes, GoesTo, Marks, Nothing, WritesExceptions, has_instruction}
 use Rattle.rpg_cards.specs.Keys.{Key, Name}
 use Rattle.rpg_cards.specs.Sections.{callee}
 use Rattle.rpg_compile_program.specs.Code.{size, sizes, step_code}
-use Rattle.rpg_program.specs.Ends.{End, GoesOn, Halt, Wrong}
+use Rattle.rpg_program.specs.Ends.{End, Continues, Halt, Wrong}
 use Rattle.rpg_program.specs.Instructions.{instruction_effect}
 use Rattle.rpg_program.specs.declared.operation.Instruction.TheVariants.{Call, Return}
 use Rattle.rpg_machine.specs.Accepted.{IsOrderly}
@@ -25,7 +25,7 @@ use Rattle.rpg_meaning.proofs.Calculations.Parts.{code_of_part, own_number, sect
 use Rattle.rpg_meaning.proofs.Calculations.Placed.{place_start}
 use Rattle.rpg_meaning.specs.Calculations.Agreement.{AgreeAt, AgreeEnded, Comes, IsRunnable, MachineFollows, part_section, place_at}
 use Rattle.rpg_meaning.specs.Calculations.Laws.{stays_in_part}
-use Rattle.rpg_meaning.specs.Calculations.Meaning.{MeantOutcome, On, Over, Source, State, Stops, after_effect, at_next, calculation_done, cards_step, come_back, deed_done, gone_to, is_done, is_finished, part_has_end, told_before}
+use Rattle.rpg_meaning.specs.Calculations.Meaning.{MeantOutcome, On, Over, Source, State, Stops, after_effect, at_next, calculation_done, cards_step, come_back, statement_done, gone_to, is_done, is_finished, part_has_end, with_earlier_output}
 use Rattle.rpg_meaning.specs.Calculations.Parts.{InDetail, InSubroutine, InTotal, Part, calculations_in, label_position}
 use Rattle.rpg_meaning.specs.Calculations.Sections.{AreOpen, return_place}
 use Rattle.rpg_meaning.specs.Calculations.Translation.{IsTranslation}
@@ -79,7 +79,7 @@ module _ {p : Object} {source : Source} {number : Key → ℕ} (orderly : IsOrde
   open_remove cells n x [] l o = o
   open_remove cells n x (b ∷ bs) l (m, e, g, low, o) = (m, e, get_removed cells n m (other x n m e l) ∙ g, low, open_remove cells n b.0 bs (omega arith) o)
 
-  -- ---- deeds that stay inside their part
+  -- ---- statements that stay inside their part
 
   -- the part and what is open stay
   abbrev Stays : State → MeantOutcome → Type 0
@@ -88,7 +88,7 @@ module _ {p : Object} {source : Source} {number : Key → ℕ} (orderly : IsOrde
   Stays s Over = Unit {0}
 
   ended_stays : (x : End) (s : State) (w : _) (o : Output) → Stays s (after_effect x s w o)
-  ended_stays GoesOn s w o = (refl, refl)
+  ended_stays Continues s w o = (refl, refl)
   ended_stays (Halt k) s w o = tt
   ended_stays (Wrong f) s w o = tt
 
@@ -100,15 +100,15 @@ module _ {p : Object} {source : Source} {number : Key → ℕ} (orderly : IsOrde
       by_side true false = (refl, refl)
       by_side false x = (refl, refl)
 
-  deed_stays : (s : State) (x : Deed Key) → stays_in_part x ≡ true → Stays s (deed_done source s x)
-  deed_stays s (Marks l) h = (refl, refl)
-  deed_stays s (Begins l) h = (refl, refl)
-  deed_stays s Nothing h = (refl, refl)
-  deed_stays s (Acts a) h = ended_stays _ s _ _
-  deed_stays s PutsOut h = ended_stays _ s _ _
-  deed_stays s (GoesTo l) h = goto_stays s (label_position l (calculations_in source.sections s.part))
-  deed_stays s (Executes n) h = absurd cc
-  deed_stays s (Ends l) h = absurd cc
+  statement_stays : (s : State) (x : Statement Key) → stays_in_part x ≡ true → Stays s (statement_done source s x)
+  statement_stays s (Marks l) h = (refl, refl)
+  statement_stays s (Begins l) h = (refl, refl)
+  statement_stays s Nothing h = (refl, refl)
+  statement_stays s (Acts a) h = ended_stays _ s _ _
+  statement_stays s WritesExceptions h = ended_stays _ s _ _
+  statement_stays s (GoesTo l) h = goto_stays s (label_position l (calculations_in source.sections s.part))
+  statement_stays s (Executes n) h = absurd cc
+  statement_stays s (Ends l) h = absurd cc
 
   either_stays : (s : State) (b : Bool) (x : MeantOutcome) → Stays s x → Stays s (cond b x (On (at_next s (s.next + 1)) no_output))
   either_stays s true x h = h
@@ -127,7 +127,7 @@ module _ {p : Object} {source : Source} {number : Key → ℕ} (orderly : IsOrde
   passed_open s d x a opened r e = combine s d (On (at_next s (s.next + 1)) no_output) opened (refl, refl) (passed orderly is s d x a r e)
 
   call_does : (s : State) (d : Config) (name : Option Name) (op : ℕ) → Agrees s d → Open d.cells s.part s.back → Reaches p orderly d d.place op → HasAt p orderly d op (step_code number (own_label orderly is s) (callee_of orderly is) (own orderly is s) (Executes name))
-      → op + 1 ≡ place_at (first_place p (part_section source.sections s.part)) (calculations_in source.sections s.part) (s.next + 1) → Did_so d (deed_done source s (Executes name))
+      → op + 1 ≡ place_at (first_place p (part_section source.sections s.part)) (calculations_in source.sections s.part) (s.next + 1) → Did_so d (statement_done source s (Executes name))
   unfolding step_code control instruction_effect
   call_does s d name op a opened r there next = by_left (eqb s.allowance 0) refl
     where
@@ -171,7 +171,7 @@ module _ {p : Object} {source : Source} {number : Key → ℕ} (orderly : IsOrde
           )
 
   return_does : (s : State) (d : Config) (l : Option Name) (op : ℕ) → Agrees s d → Open d.cells s.part s.back → Reaches p orderly d d.place op → HasAt p orderly d op (step_code number (own_label orderly is s) (callee_of orderly is) (own orderly is s) (Ends l))
-      → Did_so d (deed_done source s (Ends l))
+      → Did_so d (statement_done source s (Ends l))
   unfolding step_code control instruction_effect
   return_does s d l op a opened r there = by_back s.back opened
     where
@@ -212,41 +212,41 @@ module _ {p : Object} {source : Source} {number : Key → ℕ} (orderly : IsOrde
 
   calculation_does : (s : State) (d : Config) (g : Calculation Key) → slice_get (calculations_in source.sections s.part) s.next ≡ Some g → Agrees s d → Open d.cells s.part s.back → Did_so d (cards_step source s)
   unfolding cards_step
-  calculation_does s d g e a opened = by_inside (stays_in_part g.deed) refl
+  calculation_does s d g e a opened = by_inside (stays_in_part g.statement) refl
     where
       goal : MeantOutcome → Type 0
       goal x = Did_so d x
 
-      inside : stays_in_part g.deed ≡ true → Did_so d (cards_step source s)
+      inside : stays_in_part g.statement ≡ true → Did_so d (cards_step source s)
       inside h =
-          let kept : Stays s (cards_step source s) = subst (λ x. Stays s (calculation_done source s x)) (sym e) (either_stays s (is_done s.world.data.on g) _ (deed_stays s g.deed h)) in
+          let kept : Stays s (cards_step source s) = subst (λ x. Stays s (calculation_done source s x)) (sym e) (either_stays s (is_done s.world.data.on g) _ (statement_stays s g.statement h)) in
           combine s d _ opened kept (calculation_follows orderly is s d g e h a)
 
-      leaves : has_instruction g.deed ≡ true → ((op : ℕ) → Reaches p orderly d d.place op → HasAt p orderly d op (step_code number (own_label orderly is s) (callee_of orderly is) (own orderly is s) g.deed)
-          → op + 1 ≡ place_at (first_place p (part_section source.sections s.part)) (calculations_in source.sections s.part) (s.next + 1) → Did_so d (deed_done source s g.deed)) → Did_so d (cards_step source s)
+      leaves : has_instruction g.statement ≡ true → ((op : ℕ) → Reaches p orderly d d.place op → HasAt p orderly d op (step_code number (own_label orderly is s) (callee_of orderly is) (own orderly is s) g.statement)
+          → op + 1 ≡ place_at (first_place p (part_section source.sections s.part)) (calculations_in source.sections s.part) (s.next + 1) → Did_so d (statement_done source s g.statement)) → Did_so d (cards_step source s)
       leaves m does =
           let x = reached orderly is s d g a e m in
           subst (λ o. Did_so d (calculation_done source s o)) (sym e) (by_done x (is_done s.world.data.on g) refl)
         where
-          by_done : IsReached orderly is s d g → (b : Bool) → is_done s.world.data.on g ≡ b → Did_so d (cond b (deed_done source s g.deed) (On (at_next s (s.next + 1)) no_output))
+          by_done : IsReached orderly is s d g → (b : Bool) → is_done s.world.data.on g ≡ b → Did_so d (cond b (statement_done source s g.statement) (On (at_next s (s.next + 1)) no_output))
           by_done x true h = does x.op (subst (λ b. Reaches p orderly d d.place (cond b x.op (x.op + 1))) (ap (λ on. is_done on g) a.world.data.on ∙ h) x.reaches) x.code x.next
           by_done x false h = passed_open s d (x.op + 1) a opened (subst (λ b. Reaches p orderly d d.place (cond b x.op (x.op + 1))) (ap (λ on. is_done on g) a.world.data.on ∙ h) x.reaches) x.next
 
-      by_deed : (x : Deed Key) → g.deed ≡ x → stays_in_part x ≡ false → Did_so d (cards_step source s)
-      by_deed (Marks l) f h = absurd cc
-      by_deed (Begins l) f h = absurd cc
-      by_deed Nothing f h = absurd cc
-      by_deed (Acts y) f h = absurd cc
-      by_deed PutsOut f h = absurd cc
-      by_deed (GoesTo l) f h = absurd cc
-      by_deed (Executes n) f h = leaves (ap has_instruction f) (λ op r code next. subst (λ x. Did_so d (deed_done source s x)) (sym f)
+      by_statement : (x : Statement Key) → g.statement ≡ x → stays_in_part x ≡ false → Did_so d (cards_step source s)
+      by_statement (Marks l) f h = absurd cc
+      by_statement (Begins l) f h = absurd cc
+      by_statement Nothing f h = absurd cc
+      by_statement (Acts y) f h = absurd cc
+      by_statement WritesExceptions f h = absurd cc
+      by_statement (GoesTo l) f h = absurd cc
+      by_statement (Executes n) f h = leaves (ap has_instruction f) (λ op r code next. subst (λ x. Did_so d (statement_done source s x)) (sym f)
           (call_does s d n op a opened r (subst (λ x. HasAt p orderly d op (step_code number (own_label orderly is s) (callee_of orderly is) (own orderly is s) x)) f code) next))
-      by_deed (Ends l) f h = leaves (ap has_instruction f) (λ op r code next. subst (λ x. Did_so d (deed_done source s x)) (sym f)
+      by_statement (Ends l) f h = leaves (ap has_instruction f) (λ op r code next. subst (λ x. Did_so d (statement_done source s x)) (sym f)
           (return_does s d l op a opened r (subst (λ x. HasAt p orderly d op (step_code number (own_label orderly is s) (callee_of orderly is) (own orderly is s) x)) f code)))
 
-      by_inside : (b : Bool) → stays_in_part g.deed ≡ b → Did_so d (cards_step source s)
+      by_inside : (b : Bool) → stays_in_part g.statement ≡ b → Did_so d (cards_step source s)
       by_inside true h = inside h
-      by_inside false h = by_deed g.deed refl h
+      by_inside false h = by_statement g.statement refl h
 
   -- ---- where no calculation is left
 
@@ -296,11 +296,11 @@ module _ {p : Object} {source : Source} {number : Key → ℕ} (orderly : IsOrde
 
   -- ---- whole sections
 
-  told : (d e : Config) (o : Output) (x : MeantOutcome) → Comes p d e o → Did_so e x → Did_so d (told_before o x)
-  told d e o (On t more) comes (f, y, a, opened) =
+  reported : (d e : Config) (o : Output) (x : MeantOutcome) → Comes p d e o → Did_so e x → Did_so d (with_earlier_output o x)
+  reported d e o (On t more) comes (f, y, a, opened) =
       (f, record { by = λ k. let b = y.by k in let z = comes.by b.0 in (z.0, z.1 ∙ ap (put_before o) b.1 ∙ put_twice o more (run p k f)) }, a, opened)
-  told d e o (Stops k t more) comes (f, r, a) = let z = comes.by r.0 in (f, (z.0, z.1 ∙ ap (put_before o) r.1), a)
-  told d e o Over comes f = f
+  reported d e o (Stops k t more) comes (f, r, a) = let z = comes.by r.0 in (f, (z.0, z.1 ∙ ap (put_before o) r.1), a)
+  reported d e o Over comes f = f
 
   -- whatever the cards come to, the section comes to
   pub section_does : (n : ℕ) (s : State) (d : Config) → Agrees s d → Open d.cells s.part s.back → Did_so d (cards_run source n s)
@@ -308,7 +308,7 @@ module _ {p : Object} {source : Source} {number : Key → ℕ} (orderly : IsOrde
   section_does (suc n) s d a opened = by_end (is_finished source.sections s) refl (λ t e b o. section_does n t e b o)
     where
       rest : (x : MeantOutcome) → ((t : State) (e : Config) → Agrees t e → Open e.cells t.part t.back → Did_so e (cards_run source n t)) → Did_so d x → Did_so d (followed x (cards_run source n))
-      rest (On t o) go (e, comes, b, still) = told d e o (cards_run source n t) comes (go t e b still)
+      rest (On t o) go (e, comes, b, still) = reported d e o (cards_run source n t) comes (go t e b still)
       rest (Stops k t o) go h = h
       rest Over go h = h
 
@@ -319,14 +319,14 @@ module _ {p : Object} {source : Source} {number : Key → ℕ} (orderly : IsOrde
 
   -- the section ends where the cards end, and then all agree
   pub section_ends : (n : ℕ) (s t : State) (o : Output) (d : Config) → Agrees s d → Open d.cells s.part s.back → cards_run source n s ≡ On t o → is_finished source.sections t ≡ true
-      → (e : Config) × ((j : ℕ) × (run p j d ≡ Stop GoesOn e o)) × Agrees t e
+      → (e : Config) × ((j : ℕ) × (run p j d ≡ Stop Continues e o)) × Agrees t e
   section_ends n s t o d a opened ran finished =
       let x = subst (Did_so d) ran (section_does n s d a opened) in
       let r = x.1.by 1 in
       (x.0, (r.0, r.1 ∙ ap (put_before o) (ended_there x.0 x.2) ∙ nothing o), x.2)
     where
-      nothing : {e : Config} (o : Output) → put_before o (Stop GoesOn e no_output) ≡ Stop GoesOn e o
-      nothing {e} o = λ i. Stop GoesOn e (record { lines = nil o.lines i; records = nil o.records i })
+      nothing : {e : Config} (o : Output) → put_before o (Stop Continues e no_output) ≡ Stop Continues e o
+      nothing {e} o = λ i. Stop Continues e (record { lines = nil o.lines i; records = nil o.records i })
         where
           nil : {A : Type 0} (xs : List A) → xs ++ [] ≡ xs
           nil [] = refl
@@ -341,10 +341,10 @@ module _ {p : Object} {source : Source} {number : Key → ℕ} (orderly : IsOrde
       same_end InTotal h = refl
       same_end (InSubroutine m) h = absurd (false≢true h)
 
-      ended_there : (e : Config) → Agrees t e → run p 1 e ≡ Stop GoesOn e no_output
+      ended_there : (e : Config) → Agrees t e → run p 1 e ≡ Stop Continues e no_output
       ended_there e b =
           let q = parts (part_has_end t.part) _ finished in
           let low : length (calculations_in source.sections t.part) ≤ t.next = omega (arith, leb-true _ _ q.1) in
           let end = at_the_end t e b low in
           let has : places.has_end e.section ≡ true = ap places.has_end b.section ∙ same_end t.part q.0 in
-          ap (λ b. cond b (Stop GoesOn e no_output) (onward (step p e) (run p 0))) (ap (λ b. b && eqb e.place (place_after p e.section)) has ∙ eq-eqb e.place (place_after p e.section) end)
+          ap (λ b. cond b (Stop Continues e no_output) (onward (step p e) (run p 0))) (ap (λ b. b && eqb e.place (place_after p e.section)) has ∙ eq-eqb e.place (place_after p e.section) end)

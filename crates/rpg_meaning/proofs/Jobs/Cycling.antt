@@ -3,7 +3,7 @@ use Rattle.std.proofs.Common.{◌≡◌, ℕ, zero, suc, ◌+◌, not, ◌||◌,
 use Rattle.std.specs.FinMap as map
 use Rattle.std.specs.FinSet as set
 use Rattle.rpg_cards.specs.Keys.{Key, key_cmp}
-use Rattle.rpg_cycle.specs.Ends.{PhaseEnd, GoesOn, EndOfJob, Halt, Wrong}
+use Rattle.rpg_cycle.specs.Ends.{PhaseEnd, Continues, EndOfJob, Halt, Wrong}
 use Rattle.rpg_cycle.specs.Indicators as indicators
 use Rattle.rpg_cycle.specs.Indicators.{halt_indicators, last_record}
 use Rattle.rpg_cycle.specs.Phases as machine
@@ -34,7 +34,7 @@ use Rattle.rpg_cycle_records.specs.Waiting.{Inputs, has_match}
 use Rattle.rpg_effect_renaming.specs.Naming.{Agree}
 use Rattle.rpg_cycle_safety.proofs.Working.{IsTaken}
 
--- nothing is asked of what is selected
+-- what is selected may be anything
 abbrev IsAny : Selection
 IsAny o = Unit {0}
 
@@ -55,7 +55,7 @@ module _ {p : Object} {job : Job} {number : Key → ℕ} (orderly : IsOrderly p)
   pub cycle_follows : (earlier : List Selected) (a b : Option (List ℕ)) → Follows p job number IsNone (machine.Cycle p earlier a b) (cards.MeantCycle job earlier a b) IsAny
   cycle_follows earlier a b =
       follows_then p job number IsNone IsNone IsAny (machine.detail_lines p) _ (cards.meant_detail_lines job) _ (details_follow orderly is IsNone)
-      (follows_then p job number IsNone IsNone IsAny machine.halt_where_asked _ (cards.meant_halt_where_asked job) _ (halting_follows orderly is IsNone)
+      (follows_then p job number IsNone IsNone IsAny machine.halt_if_indicated _ (cards.meant_halt_if_indicated job) _ (halting_follows orderly is IsNone)
       (follows_then p job number IsNone IsNone IsAny (machine.set_off p) _ (cards.meant_set_off job) _ (off_follows orderly is IsNone)
       (follows_then p job number IsNone (IsTaken p) IsAny (machine.select_record p (left_by p earlier) a b) _ (cards.meant_select_record job earlier a b) _ (selection_follows orderly is earlier a b)
       (follows_then p job number (IsTaken p) (IsTaken p) IsAny (machine.total_time p (left_by p earlier)) _ (cards.meant_total_time job earlier) _ (total_follows earlier)
@@ -116,7 +116,7 @@ module _ {p : Object} {job : Job} {number : Key → ℕ} (orderly : IsOrderly p)
           → ((rs : runs.Records) (earlier : List Selected) (v : World key_cmp) (c : Config) (i : Inputs) → Agree job.source.forms number v c.world → Holds p c.world.data → c.cells ≡ map.empty → AreWaiting p i → (course : runs.Course)
           → runs.RunsIn n p earlier rs c i course → HasCourse earlier rs v i course)
           → HasCourse earlier rs v i course
-      by GoesOn d out f (rest, ran, is) later =
+      by Continues d out f (rest, ran, is) later =
           let settled = f.settled refl in
           let k = later (runs.left_following p c i rs) (with_record d.selected earlier) f.state.world d.config d.inputs f.same.world settled.values settled.no_cell settled.waiting rest ran in
           record {

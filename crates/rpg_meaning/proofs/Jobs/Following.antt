@@ -2,7 +2,7 @@
 use Rattle.std.proofs.Common.{◌≡◌, ℕ, Bool, true, false, Option, refl, sym, ap, ◌∙◌, subst, nat_cmp}
 use Rattle.std.specs.FinMap as map
 use Rattle.rpg_cards.specs.Keys.{Key, key_cmp}
-use Rattle.rpg_cycle.specs.Ends.{PhaseEnd, GoesOn, EndOfJob, Halt, Wrong, phase_end}
+use Rattle.rpg_cycle.specs.Ends.{PhaseEnd, Continues, EndOfJob, Halt, Wrong, phase_end}
 use Rattle.rpg_cycle.specs.Phases as machine
 use Rattle.rpg_cycle.specs.Phases.{Done, UnderWay, ◌before◌}
 use Rattle.rpg_program.specs.Effect.{Effect}
@@ -20,13 +20,13 @@ use Rattle.rpg_effect_renaming.specs.Naming.{Agree, SameEffect}
 
 -- nothing is wrong
 abbrev pub IsFine : PhaseEnd → Type 0
-IsFine GoesOn = Unit {0}
+IsFine Continues = Unit {0}
 IsFine EndOfJob = Unit {0}
 IsFine (Halt k) = Unit {0}
 IsFine (Wrong f) = ⊥
 
 right_fine : (e : effects.End) → IsEffectEnd e → IsFine (phase_end e)
-right_fine effects.GoesOn h = tt
+right_fine effects.Continues h = tt
 right_fine (effects.Halt k) h = tt
 right_fine (effects.Wrong f) h = h
 
@@ -54,7 +54,7 @@ module _ (p : Object) (job : Job) (number : Key → ℕ) where
     pub meets : Q s e state out
     pub same : Same state d
     pub fine : IsFine e
-    pub settled : e ≡ GoesOn → IsSettled P d
+    pub settled : e ≡ Continues → IsSettled P d
 
   -- whatever the machine comes to, the cards come to
   abbrev pub Follows : Selection → machine.Phase → MeantPhase → Selection → Type 0
@@ -66,9 +66,9 @@ module _ (p : Object) (job : Job) (number : Key → ℕ) where
   follows_then P R T M N Q O first second c s settled same e d out (f, m, put, h, rest) = by f (first c s settled same f m put h) rest
     where
       by : (f : PhaseEnd) → Followed Q R s f m put → machine.from_there N f m put e d out → Followed (Q andthen O) T s e d out
-      by GoesOn o (more, g, is) =
+      by Continues o (more, g, is) =
           let b = second m o.state (o.settled refl) o.same e d more g in
-          record { state = b.state; meets = (GoesOn, o.state, put, o.meets, (more, b.meets, is)); same = b.same; fine = b.fine; settled = b.settled }
+          record { state = b.state; meets = (Continues, o.state, put, o.meets, (more, b.meets, is)); same = b.same; fine = b.fine; settled = b.settled }
       by EndOfJob o (g, there, is) = record {
         state = o.state;
         meets = (EndOfJob, o.state, put, o.meets, (g, refl, is));
@@ -91,7 +91,7 @@ module _ (p : Object) (job : Job) (number : Key → ℕ) where
     pub ends : m.end ≡ q.0
     pub same : Same q.1 m.leads
     pub fine : IsFine m.end
-    pub settled : m.end ≡ GoesOn → IsSettled R m.leads
+    pub settled : m.end ≡ Continues → IsSettled R m.leads
 
   pub follows_does : (P R : Selection) (f : UnderWay → Done) (g : JobState → PhaseEnd × JobState) → ((c : UnderWay) (s : JobState) → IsSettled P c → Same s c → Alike R (f c) (g s)) → Follows P (machine.without_output f) (meant_does g) R
   follows_does P R f g alike c s settled same e d out (ends, leads, put) =
@@ -105,7 +105,7 @@ module _ (p : Object) (job : Job) (number : Key → ℕ) where
       }
 
   pub follows_pass : (P : Selection) → Follows P machine.nothing_done meant_passes P
-  follows_pass P = follows_does P P (machine.done GoesOn) (λ s. (GoesOn, s)) (λ c s settled same. record { ends = refl; same = same; fine = tt; settled = λ on. settled })
+  follows_pass P = follows_does P P (machine.done Continues) (λ s. (Continues, s)) (λ c s settled same. record { ends = refl; same = same; fine = tt; settled = λ on. settled })
 
   follows_either : (P : Selection) (M : machine.Phase) (Q : MeantPhase) → Follows P M Q P → (b : Bool) → Follows P (machine.either b machine.nothing_done M) (meant_either b meant_passes Q) P
   follows_either P M Q h true = follows_pass P

@@ -13,12 +13,12 @@ use Rattle.rpg_sheet_specs.specs.declared.spec.Spec.{Spec}
 use Rattle.rpg_sheet_specs.specs.declared.spec.Spec.TheVariants as spec
 use Rattle.rpg_compile_program.specs.Types.{and_card_codes, card_type, codes_of, control_field_of, input_row, match_field_of, types_on}
 use Rattle.rpg_job.specs.Cards.{filled_values, cards_before}
-use Rattle.rpg_job.specs.RecordTypes.{asked_for, begins_type, codes_on, meant_type_file, types_after, type_with, meant_types}
+use Rattle.rpg_job.specs.RecordTypes.{tested_for, begins_type, codes_on, meant_type_file, types_after, type_with, meant_types}
 use Rattle.rpg_meaning.proofs.Calculations.MeantFiles.{read_from_is_meant}
 use Rattle.rpg_meaning.proofs.Calculations.MeantLists.{filled_is_meant, map_append}
 
-codes_three : (t : Three (Option RecordCode)) → codes_of t ≡ map asked_for (filled_values t)
-codes_three t = ap (map asked_for) (filled_is_meant t.first t.second t.third)
+codes_three : (t : Three (Option RecordCode)) → codes_of t ≡ map tested_for (filled_values t)
+codes_three t = ap (map tested_for) (filled_is_meant t.first t.second t.third)
 
 fields_are_meant : (cs : List SpecCard) → filter_map input_field_in (followers input_role cs) ≡ filter_map (λ c. input_field_on c.spec) (cards_before begins_type cs)
 fields_are_meant [] = refl
@@ -35,16 +35,16 @@ fields_are_meant (c ∷ cs) = by c.spec (fields_are_meant cs)
     by (spec.Output x) rest = rest
     by (spec.Data x) rest = rest
 
-codes_are_meant : (cs : List SpecCard) → flat_map and_card_codes (followers input_role cs) ≡ map asked_for (flat_map codes_on (cards_before begins_type cs))
+codes_are_meant : (cs : List SpecCard) → flat_map and_card_codes (followers input_role cs) ≡ map tested_for (flat_map codes_on (cards_before begins_type cs))
 codes_are_meant [] = refl
 codes_are_meant (c ∷ cs) = by c.spec (codes_are_meant cs)
   where
-    by : (s : Spec) → (flat_map and_card_codes (followers input_role cs) ≡ map asked_for (flat_map codes_on (cards_before begins_type cs))) → flat_map and_card_codes (followers_with (input_role s) (followers input_role cs)) ≡ map asked_for (flat_map codes_on (cards_before begins_type (record { number = c.number; spec = s } ∷ cs)))
+    by : (s : Spec) → (flat_map and_card_codes (followers input_role cs) ≡ map tested_for (flat_map codes_on (cards_before begins_type cs))) → flat_map and_card_codes (followers_with (input_role s) (followers input_role cs)) ≡ map tested_for (flat_map codes_on (cards_before begins_type (record { number = c.number; spec = s } ∷ cs)))
     by (spec.Header x) rest = rest
     by (spec.File x) rest = rest
     by (spec.Extension x) rest = rest
     by (spec.Input (input.Type t)) rest = refl
-    by (spec.Input (input.And t)) rest = (λ i. codes_three t i ++ rest i) ∙ sym (map_append asked_for (filled_values t) (flat_map codes_on (cards_before begins_type cs)))
+    by (spec.Input (input.And t)) rest = (λ i. codes_three t i ++ rest i) ∙ sym (map_append tested_for (filled_values t) (flat_map codes_on (cards_before begins_type cs)))
     by (spec.Input (input.Field f)) rest = rest
     by (spec.Calculation x) rest = rest
     by (spec.Output x) rest = rest
@@ -56,7 +56,7 @@ module _ (deck : List SpecCard) where
   type_same name t cs = λ i. record {
     file = read_from_is_meant deck name i;
     indicator = t.indicator;
-    codes = ((λ j. codes_three t.codes j ++ codes_are_meant cs j) ∙ sym (map_append asked_for (filled_values t.codes) (flat_map codes_on (cards_before begins_type cs)))) i;
+    codes = ((λ j. codes_three t.codes j ++ codes_are_meant cs j) ∙ sym (map_append tested_for (filled_values t.codes) (flat_map codes_on (cards_before begins_type cs)))) i;
     levels = filter_map control_field_of (fields_are_meant cs i);
     inputs = map input_row (fields_are_meant cs i);
     matches = filter_map match_field_of (fields_are_meant cs i);

@@ -5,7 +5,7 @@ use Rattle.std.specs.FinSet as set
 use Rattle.std.specs.List.{list_all, list_any}
 use Rattle.std.specs.Option.{option_map, option_map_or, option_to_list}
 use Rattle.rpg_cards.specs.Keys.{Key}
-use Rattle.rpg_cycle.specs.Ends.{PhaseEnd, GoesOn, EndOfJob, Halt, Wrong}
+use Rattle.rpg_cycle.specs.Ends.{PhaseEnd, Continues, EndOfJob, Halt, Wrong}
 use Rattle.rpg_cycle.specs.Indicators as indicators
 use Rattle.rpg_cycle.specs.Indicators.{last_record, level_indicators, matching_record, with_all, with_levels, with_one, with_type}
 use Rattle.rpg_cycle.specs.Phases as machine
@@ -27,7 +27,7 @@ use Rattle.rpg_machine.specs.Config.{Config, charged}
 use Rattle.rpg_program.specs.Object.{Object, input_length}
 use Rattle.rpg_cycle_records.specs.Earlier as records
 use Rattle.rpg_cycle_records.specs.Earlier.{Selected, any_agrees, control_fields, file_of, is_any, last_of_file, last_value, left_by, levels_of, match_fields, match_value, row_match_fields, or_before, value_from, with_record}
-use Rattle.rpg_cycle_records.specs.Identifying.{IsOf, IsOfNone, Misplaced, Trial, code_holds, has_position, identified, is_good_record, padded, same_file, trial_weight}
+use Rattle.rpg_cycle_records.specs.Identifying.{IsOf, IsOfNone, Misplaced, Trial, code_holds, has_position, identified, is_valid_record, padded, same_file, trial_weight}
 use Rattle.rpg_cycle_records.specs.Levels.{differs, highest_broken, is_in_record, level_bytes}
 use Rattle.rpg_cycle_records.specs.Matching.{agrees, exceeds, match_value_in}
 use Rattle.rpg_cycle_records.specs.Waiting.{Inputs, chosen, first_of, has_match, input_at, other_file, with_file_over, takes_in, waiting_in, with_waiting}
@@ -42,7 +42,7 @@ abbrev pub IsNone : Selection
 IsNone o = o ≡ None
 
 named_fine : (e : PhaseEnd) → IsCycleEnd e → IsFine e
-named_fine GoesOn h = tt
+named_fine Continues h = tt
 named_fine EndOfJob h = tt
 named_fine (Halt k) h = tt
 named_fine (Wrong f) h = h
@@ -176,18 +176,18 @@ module _ {p : Object} {job : Job} {number : Key → ℕ} (orderly : IsOrderly p)
         → Matches (machine.match_up p (left_by p earlier) f r (with_config (charged m) (with_config (charged n) c))) (cards.meant_match_up job earlier f r s)
     matched n m r = by (list_all (is_in_record (length r.text)) (match_fields p r.type))
       where
-        taken : (b : Bool) → Matches (cond b (done (Halt 8) (with_config (charged m) (with_config (charged n) c))) (done GoesOn (with_inputs (with_waiting f (Some r)) (with_config (charged m) (with_config (charged n) c))))) (cond b (Halt 8, s) (GoesOn, record s { inputs = with_waiting f (Some r) s.inputs }))
+        taken : (b : Bool) → Matches (cond b (done (Halt 8) (with_config (charged m) (with_config (charged n) c))) (done Continues (with_inputs (with_waiting f (Some r)) (with_config (charged m) (with_config (charged n) c))))) (cond b (Halt 8, s) (Continues, record s { inputs = with_waiting f (Some r) s.inputs }))
         taken true = record { ends = refl; same = record { world = same.world; allowance = same.allowance; inputs = same.inputs; selected = same.selected } }
         taken false = record { ends = refl; same = record { world = same.world; allowance = same.allowance; inputs = ap (with_waiting f (Some r)) same.inputs; selected = same.selected } }
 
         by : (b : Bool) → IsCycleEnd (cond (not b) (done (Wrong effects.Storage) (with_config (charged m) (with_config (charged n) c)))
-            (cond (exceeds (last_of_file (left_by p earlier) f) (match_value p r)) (done (Halt 8) (with_config (charged m) (with_config (charged n) c))) (done GoesOn (with_inputs (with_waiting f (Some r)) (with_config (charged m) (with_config (charged n) c)))))).end
+            (cond (exceeds (last_of_file (left_by p earlier) f) (match_value p r)) (done (Halt 8) (with_config (charged m) (with_config (charged n) c))) (done Continues (with_inputs (with_waiting f (Some r)) (with_config (charged m) (with_config (charged n) c)))))).end
             → Matches (cond (not b) (done (Wrong effects.Storage) (with_config (charged m) (with_config (charged n) c)))
-            (cond (exceeds (last_of_file (left_by p earlier) f) (match_value p r)) (done (Halt 8) (with_config (charged m) (with_config (charged n) c))) (done GoesOn (with_inputs (with_waiting f (Some r)) (with_config (charged m) (with_config (charged n) c))))))
+            (cond (exceeds (last_of_file (left_by p earlier) f) (match_value p r)) (done (Halt 8) (with_config (charged m) (with_config (charged n) c))) (done Continues (with_inputs (with_waiting f (Some r)) (with_config (charged m) (with_config (charged n) c))))))
             (cards.meant_match_up job earlier f r s)
         by true h =
-            subst (λ b. Matches (cond (exceeds (last_of_file (left_by p earlier) f) (match_value p r)) (done (Halt 8) (with_config (charged m) (with_config (charged n) c))) (done GoesOn (with_inputs (with_waiting f (Some r)) (with_config (charged m) (with_config (charged n) c)))))
-            (cond b (Halt 8, s) (GoesOn, record s { inputs = with_waiting f (Some r) s.inputs })))
+            subst (λ b. Matches (cond (exceeds (last_of_file (left_by p earlier) f) (match_value p r)) (done (Halt 8) (with_config (charged m) (with_config (charged n) c))) (done Continues (with_inputs (with_waiting f (Some r)) (with_config (charged m) (with_config (charged n) c)))))
+            (cond b (Halt 8, s) (Continues, record s { inputs = with_waiting f (Some r) s.inputs })))
             (λ i. exceeds (last_of_same f earlier i) (value_same r i)) (taken (exceeds (last_of_file (left_by p earlier) f) (match_value p r)))
         by false h = absurd h
 
@@ -214,7 +214,7 @@ module _ {p : Object} {job : Job} {number : Key → ℕ} (orderly : IsOrderly p)
     read_same None h = record { ends = refl; same = record { world = same.world; allowance = same.allowance; inputs = ap (with_file_over f) same.inputs; selected = same.selected } }
     read_same (Some text) h =
         subst (λ b. Matches (machine.read_record p (left_by p earlier) f (Some text) c) (cond b (cards.type_taken job earlier f (cards.meant_padded job f text) (cards.type_of_text job f (cards.meant_padded job f text) 0 job.types) s) (Halt 7, s)))
-        (ap (λ n. nat_le (length text) n && list_all is_character text) (length_same f)) (by (is_good_record p f text) h)
+        (ap (λ n. nat_le (length text) n && list_all is_character text) (length_same f)) (by (is_valid_record p f text) h)
       where
         by : (b : Bool) → IsCycleEnd (cond b (machine.identify p (left_by p earlier) f (padded p f text) c) (done (Halt 7) c)).end
             → Matches (cond b (machine.identify p (left_by p earlier) f (padded p f text) c) (done (Halt 7) c))
@@ -224,16 +224,16 @@ module _ {p : Object} {job : Job} {number : Key → ℕ} (orderly : IsOrderly p)
 
     -- a file takes a record in, or doesn't
     abbrev pub taking : Option (List ℕ) → Bool → Done
-    taking next b = cond b (machine.read_record p (left_by p earlier) f next c) (done GoesOn c)
+    taking next b = cond b (machine.read_record p (left_by p earlier) f next c) (done Continues c)
 
-    taking_same : (next : Option (List ℕ)) (b : Bool) → IsCycleEnd (taking next b).end → Matches (taking next b) (cond b (cards.read job earlier f next s) (GoesOn, s))
+    taking_same : (next : Option (List ℕ)) (b : Bool) → IsCycleEnd (taking next b).end → Matches (taking next b) (cond b (cards.read job earlier f next s) (Continues, s))
     taking_same next true h = read_same next h
     taking_same next false h = record { ends = refl; same = same }
 
     pub take_in_same : (next : Option (List ℕ)) → IsCycleEnd (taking next (takes_in p c.inputs f)).end
-        → Matches (taking next (takes_in p c.inputs f)) (cond (cards.meant_takes_in job s.inputs f) (cards.read job earlier f next s) (GoesOn, s))
+        → Matches (taking next (takes_in p c.inputs f)) (cond (cards.meant_takes_in job s.inputs f) (cards.read job earlier f next s) (Continues, s))
     take_in_same next h =
-        subst (λ b. Matches (taking next (takes_in p c.inputs f)) (cond b (cards.read job earlier f next s) (GoesOn, s)))
+        subst (λ b. Matches (taking next (takes_in p c.inputs f)) (cond b (cards.read job earlier f next s) (Continues, s)))
         (takes_same c.inputs f ∙ ap (λ i. cards.meant_takes_in job i f) same.inputs) (taking_same next (takes_in p c.inputs f) h)
 
   module _ (earlier : List Selected) (c : UnderWay) (s : JobState) (same : Same p job number s c) where
@@ -255,7 +255,7 @@ module _ {p : Object} {job : Job} {number : Key → ℕ} (orderly : IsOrderly p)
       selected = same.selected;
     }
 
-    -- the type's indicator and the levels that are broken go on
+    -- the type's indicator and the levels that are broken turn on
     shown : (o : Option ℕ) (xs : List ℕ) (m : ℕ) (g : Inputs → Inputs) (r : Selected)
         → Same p job number (record (with_turned (option_to_list o ++ xs) true s) { inputs = g s.inputs; selected = Some r }) (record { config = with_all xs true (charged m (with_type o c.config)); inputs = g c.inputs; selected = Some r })
     shown None xs m g r =
@@ -266,7 +266,7 @@ module _ {p : Object} {job : Job} {number : Key → ℕ} (orderly : IsOrderly p)
         turned_to (k ∷ xs) (with_all xs true (charged m (with_one k true c.config))) g (Some r) (ap (λ (x : Config). x.world) e) (ap (λ (x : Config). x.allowance) e)
 
     compared : (f : InputFile) (r : Selected) → IsCycleEnd (machine.select_waiting p (left_by p earlier) f (Some r) c).end
-        → Matches (machine.select_waiting p (left_by p earlier) f (Some r) c) (GoesOn, cards.meant_select_waiting job earlier f (Some r) s)
+        → Matches (machine.select_waiting p (left_by p earlier) f (Some r) c) (Continues, cards.meant_select_waiting job earlier f (Some r) s)
     compared f r = by (list_all (is_in_record (length r.text)) (control_fields p r.type))
       where
         there : Same p job number (cards.meant_select_waiting job earlier f (Some r) s) (record { config = with_levels (machine.broken_level p (left_by p earlier) r) (charged (length (control_fields p r.type)) (with_type (type_indicator (slice_get p.types r.type)) c.config)); inputs = with_waiting f None c.inputs; selected = Some r })
@@ -274,27 +274,27 @@ module _ {p : Object} {job : Job} {number : Key → ℕ} (orderly : IsOrderly p)
             (subst (λ (b : ℕ). Same p job number (record (with_turned (option_to_list (type_indicator (slice_get p.types r.type)) ++ take b level_indicators) true s) { inputs = with_waiting f None s.inputs; selected = Some r }) (record { config = with_levels (machine.broken_level p (left_by p earlier) r) (charged (length (control_fields p r.type)) (with_type (type_indicator (slice_get p.types r.type)) c.config)); inputs = with_waiting f None c.inputs; selected = Some r })) (broken_same earlier r)
             (shown (type_indicator (slice_get p.types r.type)) (take (machine.broken_level p (left_by p earlier) r) level_indicators) (length (control_fields p r.type)) (with_waiting f None) r))
 
-        by : (b : Bool) → IsCycleEnd (cond b (done GoesOn (record { config = with_levels (machine.broken_level p (left_by p earlier) r) (charged (length (control_fields p r.type)) (with_type (type_indicator (slice_get p.types r.type)) c.config)); inputs = with_waiting f None c.inputs; selected = Some r })) (done (Wrong effects.Storage) (record { config = charged (length (control_fields p r.type)) (with_type (type_indicator (slice_get p.types r.type)) c.config); inputs = with_waiting f None c.inputs; selected = c.selected }))).end
-            → Matches (cond b (done GoesOn (record { config = with_levels (machine.broken_level p (left_by p earlier) r) (charged (length (control_fields p r.type)) (with_type (type_indicator (slice_get p.types r.type)) c.config)); inputs = with_waiting f None c.inputs; selected = Some r })) (done (Wrong effects.Storage) (record { config = charged (length (control_fields p r.type)) (with_type (type_indicator (slice_get p.types r.type)) c.config); inputs = with_waiting f None c.inputs; selected = c.selected }))) (GoesOn, cards.meant_select_waiting job earlier f (Some r) s)
+        by : (b : Bool) → IsCycleEnd (cond b (done Continues (record { config = with_levels (machine.broken_level p (left_by p earlier) r) (charged (length (control_fields p r.type)) (with_type (type_indicator (slice_get p.types r.type)) c.config)); inputs = with_waiting f None c.inputs; selected = Some r })) (done (Wrong effects.Storage) (record { config = charged (length (control_fields p r.type)) (with_type (type_indicator (slice_get p.types r.type)) c.config); inputs = with_waiting f None c.inputs; selected = c.selected }))).end
+            → Matches (cond b (done Continues (record { config = with_levels (machine.broken_level p (left_by p earlier) r) (charged (length (control_fields p r.type)) (with_type (type_indicator (slice_get p.types r.type)) c.config)); inputs = with_waiting f None c.inputs; selected = Some r })) (done (Wrong effects.Storage) (record { config = charged (length (control_fields p r.type)) (with_type (type_indicator (slice_get p.types r.type)) c.config); inputs = with_waiting f None c.inputs; selected = c.selected }))) (Continues, cards.meant_select_waiting job earlier f (Some r) s)
         by true h = record { ends = refl; same = there }
         by false h = absurd h
 
     waiting_same : (f : InputFile) (o : Option Selected) → IsCycleEnd (machine.select_waiting p (left_by p earlier) f o c).end
-        → Matches (machine.select_waiting p (left_by p earlier) f o c) (GoesOn, cards.meant_select_waiting job earlier f o s)
+        → Matches (machine.select_waiting p (left_by p earlier) f o c) (Continues, cards.meant_select_waiting job earlier f o s)
     waiting_same f None h = record { ends = refl; same = same }
     waiting_same f (Some r) h = compared f r h
 
-    picked_same : (o : Option InputFile) → IsCycleEnd (machine.select_from p (left_by p earlier) o c).end → Matches (machine.select_from p (left_by p earlier) o c) (GoesOn, cards.meant_select_from job earlier o s)
+    picked_same : (o : Option InputFile) → IsCycleEnd (machine.select_from p (left_by p earlier) o c).end → Matches (machine.select_from p (left_by p earlier) o c) (Continues, cards.meant_select_from job earlier o s)
     picked_same None h = record { ends = refl; same = turned_only (last_record ∷ level_indicators) }
     picked_same (Some f) h =
-        subst (λ o. Matches (machine.select_waiting p (left_by p earlier) f (waiting_in c.inputs f) c) (GoesOn, cards.meant_select_waiting job earlier f o s)) (ap (λ i. waiting_in i f) same.inputs)
+        subst (λ o. Matches (machine.select_waiting p (left_by p earlier) f (waiting_in c.inputs f) c) (Continues, cards.meant_select_waiting job earlier f o s)) (ap (λ i. waiting_in i f) same.inputs)
         (waiting_same f (waiting_in c.inputs f) h)
 
     pub select_one_same : IsCycleEnd (machine.select_from p (left_by p earlier) (chosen p (waiting_in c.inputs Primary) (waiting_in c.inputs Secondary)) c).end
         → Matches (machine.select_from p (left_by p earlier) (chosen p (waiting_in c.inputs Primary) (waiting_in c.inputs Secondary)) c)
-        (GoesOn, cards.meant_select_from job earlier (cards.meant_chosen job (waiting_in s.inputs Primary) (waiting_in s.inputs Secondary)) s)
+        (Continues, cards.meant_select_from job earlier (cards.meant_chosen job (waiting_in s.inputs Primary) (waiting_in s.inputs Secondary)) s)
     select_one_same h =
-        subst (λ o. Matches (machine.select_from p (left_by p earlier) (chosen p (waiting_in c.inputs Primary) (waiting_in c.inputs Secondary)) c) (GoesOn, cards.meant_select_from job earlier o s))
+        subst (λ o. Matches (machine.select_from p (left_by p earlier) (chosen p (waiting_in c.inputs Primary) (waiting_in c.inputs Secondary)) c) (Continues, cards.meant_select_from job earlier o s))
         (chosen_same (waiting_in c.inputs Primary) (waiting_in c.inputs Secondary) ∙ ap (λ i. cards.meant_chosen job (waiting_in i Primary) (waiting_in i Secondary)) same.inputs)
         (picked_same (chosen p (waiting_in c.inputs Primary) (waiting_in c.inputs Secondary)) h)
 
@@ -310,7 +310,7 @@ module _ {p : Object} {job : Job} {number : Key → ℕ} (orderly : IsOrderly p)
 
   pub match_follows : (P : Selection) (earlier : List Selected) → Follows p job number P (machine.show_match (has_match p earlier)) (cards.meant_show_match job earlier) P
   match_follows P earlier =
-      follows_does p job number P P _ (λ s. (GoesOn, with_turned (matching_record ∷ []) (machine.if_selected (cards.meant_has_match job earlier s.inputs) s.selected) s))
+      follows_does p job number P P _ (λ s. (Continues, with_turned (matching_record ∷ []) (machine.if_selected (cards.meant_has_match job earlier s.inputs) s.selected) s))
       (λ c s settled same. record {
         ends = refl;
         same = subst (λ b. Same p job number (with_turned (matching_record ∷ []) b s) (with_config (with_one matching_record (machine.if_selected (has_match p earlier c.inputs) c.selected)) c)) (shown_same earlier c s same)
@@ -346,12 +346,12 @@ module _ {p : Object} {job : Job} {number : Key → ℕ} (orderly : IsOrderly p)
   none_taken c settled = subst (IsTaken p) (sym settled.selected) tt
 
   -- taking in selects nothing
-  kept : (earlier : List Selected) (f : InputFile) (next : Option (List ℕ)) (s : JobState) (b : Bool) → (cond b (cards.read job earlier f next s) (GoesOn, s)).1.selected ≡ s.selected
+  kept : (earlier : List Selected) (f : InputFile) (next : Option (List ℕ)) (s : JobState) (b : Bool) → (cond b (cards.read job earlier f next s) (Continues, s)).1.selected ≡ s.selected
   kept earlier f next s false = refl
   kept earlier f None s true = refl
-  kept earlier f (Some text) s true = by (cards.is_good_text job f text) (cards.type_of_text job f (cards.meant_padded job f text) 0 job.types)
+  kept earlier f (Some text) s true = by (cards.is_valid_text job f text) (cards.type_of_text job f (cards.meant_padded job f text) 0 job.types)
     where
-      low : (r : Selected) (b : Bool) → (let q : PhaseEnd × JobState = cond b (Halt 8, s) (GoesOn, record s { inputs = with_waiting f (Some r) s.inputs }) in q.1.selected) ≡ s.selected
+      low : (r : Selected) (b : Bool) → (let q : PhaseEnd × JobState = cond b (Halt 8, s) (Continues, record s { inputs = with_waiting f (Some r) s.inputs }) in q.1.selected) ≡ s.selected
       low r true = refl
       low r false = refl
 
@@ -361,10 +361,10 @@ module _ {p : Object} {job : Job} {number : Key → ℕ} (orderly : IsOrderly p)
       by true (Some t) = low (record { type = t; text = cards.meant_padded job f text }) (exceeds (cards.meant_last_value job f earlier) (cards.meant_match_value job (record { type = t; text = cards.meant_padded job f text })))
 
   taking_follows : (earlier : List Selected) (f : InputFile) (next : Option (List ℕ)) → Follows p job number IsNone (machine.take_in p (left_by p earlier) f next) (cards.meant_take_in job earlier f next) IsNone
-  taking_follows earlier f next = follows_does p job number IsNone IsNone _ (λ s. cond (cards.meant_takes_in job s.inputs f) (cards.read job earlier f next s) (GoesOn, s)) alike
+  taking_follows earlier f next = follows_does p job number IsNone IsNone _ (λ s. cond (cards.meant_takes_in job s.inputs f) (cards.read job earlier f next s) (Continues, s)) alike
     where
       alike : (c : UnderWay) (s : JobState) → IsSettled p job number IsNone c → Same p job number s c
-          → Alike p job number IsNone (cond (takes_in p c.inputs f) (machine.read_record p (left_by p earlier) f next c) (done GoesOn c)) (cond (cards.meant_takes_in job s.inputs f) (cards.read job earlier f next s) (GoesOn, s))
+          → Alike p job number IsNone (cond (takes_in p c.inputs f) (machine.read_record p (left_by p earlier) f next c) (done Continues c)) (cond (cards.meant_takes_in job s.inputs f) (cards.read job earlier f next s) (Continues, s))
       alike c s settled same =
           let picks = takes p orderly (left_by p earlier) f c settled.waiting (none_taken c settled) next in
           let m = take_in_same earlier f c s same next picks.named in
@@ -372,16 +372,16 @@ module _ {p : Object} {job : Job} {number : Key → ℕ} (orderly : IsOrderly p)
 
   selecting_follows : (earlier : List Selected) → Follows p job number IsNone (machine.select_one p (left_by p earlier)) (cards.meant_select_one job earlier) (IsTaken p)
   selecting_follows earlier =
-      follows_does p job number IsNone (IsTaken p) _ (λ s. (GoesOn, cards.meant_select_from job earlier (cards.meant_chosen job (waiting_in s.inputs Primary) (waiting_in s.inputs Secondary)) s)) alike
+      follows_does p job number IsNone (IsTaken p) _ (λ s. (Continues, cards.meant_select_from job earlier (cards.meant_chosen job (waiting_in s.inputs Primary) (waiting_in s.inputs Secondary)) s)) alike
     where
       alike : (c : UnderWay) (s : JobState) → IsSettled p job number IsNone c → Same p job number s c
           → Alike p job number (IsTaken p) (machine.select_from p (left_by p earlier) (chosen p (waiting_in c.inputs Primary) (waiting_in c.inputs Secondary)) c)
-          (GoesOn, cards.meant_select_from job earlier (cards.meant_chosen job (waiting_in s.inputs Primary) (waiting_in s.inputs Secondary)) s)
+          (Continues, cards.meant_select_from job earlier (cards.meant_chosen job (waiting_in s.inputs Primary) (waiting_in s.inputs Secondary)) s)
       alike c s settled same =
           let picks = selects p orderly (left_by p earlier) c settled.waiting (none_taken c settled) (chosen p (waiting_in c.inputs Primary) (waiting_in c.inputs Secondary)) in
           from_picks _ (IsTaken p) c _ _ settled picks (select_one_same earlier c s same picks.named) picks.taken
 
-  last_follows : (earlier : List Selected) → Follows p job number IsNone (machine.without_output (λ c. done GoesOn (with_config (with_all level_indicators true) c))) (meant_does (λ s. (GoesOn, with_turned level_indicators true s))) (IsTaken p)
+  last_follows : (earlier : List Selected) → Follows p job number IsNone (machine.without_output (λ c. done Continues (with_config (with_all level_indicators true) c))) (meant_does (λ s. (Continues, with_turned level_indicators true s))) (IsTaken p)
   last_follows earlier = follows_does p job number IsNone (IsTaken p) _ _ (λ c s settled same.
       let picks = levels_alone p 0 c settled.waiting (none_taken c settled) in
       from_picks 0 (IsTaken p) c _ _ settled picks (record { ends = refl; same = turned_only earlier c s same level_indicators }) picks.taken)
@@ -389,8 +389,8 @@ module _ {p : Object} {job : Job} {number : Key → ℕ} (orderly : IsOrderly p)
   pub selection_follows : (earlier : List Selected) (a b : Option (List ℕ)) → Follows p job number IsNone (machine.select_record p (left_by p earlier) a b) (cards.meant_select_record job earlier a b) (IsTaken p)
   selection_follows earlier a b c s settled same e d out met =
       let left = left_by p earlier in
-      let one = follows_both p job number IsNone (IsTaken p) (machine.without_output (λ c. done GoesOn (with_config (with_all level_indicators true) c)))
-      (machine.take_in p left Primary a before machine.take_in p left Secondary b before machine.select_one p left) (meant_does (λ s. (GoesOn, with_turned level_indicators true s)))
+      let one = follows_both p job number IsNone (IsTaken p) (machine.without_output (λ c. done Continues (with_config (with_all level_indicators true) c)))
+      (machine.take_in p left Primary a before machine.take_in p left Secondary b before machine.select_one p left) (meant_does (λ s. (Continues, with_turned level_indicators true s)))
       (cards.meant_take_in job earlier Primary a andthen cards.meant_take_in job earlier Secondary b andthen cards.meant_select_one job earlier) (last_follows earlier)
       (follows_then p job number IsNone IsNone (IsTaken p) (machine.take_in p left Primary a) _ (cards.meant_take_in job earlier Primary a) _ (taking_follows earlier Primary a)
       (follows_then p job number IsNone IsNone (IsTaken p) (machine.take_in p left Secondary b) (machine.select_one p left) (cards.meant_take_in job earlier Secondary b) (cards.meant_select_one job earlier)
@@ -398,7 +398,7 @@ module _ {p : Object} {job : Job} {number : Key → ℕ} (orderly : IsOrderly p)
       (indicators.is_on c.config last_record) c s settled same e d out met in
       record {
         state = one.state;
-        meets = subst (λ x. meant_either x (meant_does (λ s. (GoesOn, with_turned level_indicators true s)))
+        meets = subst (λ x. meant_either x (meant_does (λ s. (Continues, with_turned level_indicators true s)))
             (cards.meant_take_in job earlier Primary a andthen cards.meant_take_in job earlier Secondary b andthen cards.meant_select_one job earlier) s e one.state out)
             (ap (λ on. set.contains on last_record) same.world.data.on) one.meets;
         same = one.same;

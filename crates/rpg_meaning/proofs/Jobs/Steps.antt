@@ -6,7 +6,7 @@ use Rattle.std.specs.List.{cons_option, filter, filter_map, list_any}
 use Rattle.std.specs.Option.{option_map, option_map_or}
 use Rattle.std.specs.Prelude.{All, is_none, length}
 use Rattle.rpg_cards.specs.Keys.{Key, key_cmp}
-use Rattle.rpg_cycle.specs.Ends.{PhaseEnd, GoesOn, EndOfJob, Halt, phase_end}
+use Rattle.rpg_cycle.specs.Ends.{PhaseEnd, Continues, EndOfJob, Halt, phase_end}
 use Rattle.rpg_cycle.specs.Indicators as indicators
 use Rattle.rpg_cycle.specs.Indicators.{first_page, halt_indicators, indicators_turned, last_record, level_indicators, with_all, with_one, without_type, without_types}
 use Rattle.rpg_cycle.specs.Phases as machine
@@ -137,7 +137,7 @@ module _ {p : Object} {job : Job} {number : Key → ℕ} (orderly : IsOrderly p)
   same_end (InSubroutine name) h = absurd (let never : false ≡ true = h in cc)
 
   named_fine : (e : effects.End) → leading.IsNamedEnd e → IsFine (phase_end e)
-  named_fine effects.GoesOn h = tt
+  named_fine effects.Continues h = tt
   named_fine (effects.Halt k) h = tt
   named_fine (effects.Wrong f) h = h
 
@@ -152,12 +152,12 @@ module _ {p : Object} {job : Job} {number : Key → ℕ} (orderly : IsOrderly p)
       well : leading.EndsWell p (part_section job.source.sections part) c.config last d.config
       well = ends_well p orderly (part_section job.source.sections part) c.config last d.config out (same_end part ended) settled.no_cell settled.values run
 
-      back : (l : effects.End) → phase_end l ≡ GoesOn → l ≡ effects.GoesOn
-      back effects.GoesOn h = refl
-      back (effects.Halt k) h = absurd (let never : Halt k ≡ GoesOn = h in cc)
+      back : (l : effects.End) → phase_end l ≡ Continues → l ≡ effects.Continues
+      back effects.Continues h = refl
+      back (effects.Halt k) h = absurd (let never : Halt k ≡ Continues = h in cc)
       back (effects.Wrong f) h = absurd (let never = h in cc)
 
-      settles : e ≡ GoesOn → IsSettled p job number P d
+      settles : e ≡ Continues → IsSettled p job number P d
       settles on = record { values = well.values; no_cell = well.no_cell (back last (sym ends ∙ on)); waiting = subst (AreWaiting p) (sym files) settled.waiting; selected = subst P (sym kept) settled.selected }
 
       by : (x : MeantOutcome) → CardsCome job.source (part_begun part s.world s.allowance) x → EndsAs p job.source number x last d.config out → Followed p job number (calculated job.source part) P s e d out
@@ -183,18 +183,18 @@ module _ {p : Object} {job : Job} {number : Key → ℕ} (orderly : IsOrderly p)
 
   -- ---- what puts nothing out
 
-  pub halting_follows : (P : Selection) → Follows p job number P machine.halt_where_asked (cards.meant_halt_where_asked job) P
+  pub halting_follows : (P : Selection) → Follows p job number P machine.halt_if_indicated (cards.meant_halt_if_indicated job) P
   halting_follows P =
-      follows_does p job number P P _ (λ s. (cond (any_on_in halt_indicators s) (Halt 6) GoesOn, s))
-      (λ c s settled same. let asked = any_same halt_indicators c.config s.world.data.on same.world.data.on in
+      follows_does p job number P P _ (λ s. (cond (any_on_in halt_indicators s) (Halt 6) Continues, s))
+      (λ c s settled same. let tested = any_same halt_indicators c.config s.world.data.on same.world.data.on in
       record {
-        ends = ap (λ b. cond b (Halt 6) GoesOn) asked;
+        ends = ap (λ b. cond b (Halt 6) Continues) tested;
         same = same;
         fine = either_fine (indicators.any_on c.config halt_indicators);
         settled = λ on. settled;
       })
     where
-      either_fine : (b : Bool) → IsFine (cond b (Halt 6) GoesOn)
+      either_fine : (b : Bool) → IsFine (cond b (Halt 6) Continues)
       either_fine true = tt
       either_fine false = tt
 
@@ -230,7 +230,7 @@ module _ {p : Object} {job : Job} {number : Key → ℕ} (orderly : IsOrderly p)
   pub off_follows : (P : Selection) → Follows p job number P (machine.set_off p) (cards.meant_set_off job) P
   unfolding off_list
   off_follows P =
-      follows_does p job number P P (λ c. machine.done GoesOn (machine.with_config (machine.all_off p) c)) (λ s. (GoesOn, with_turned off_list false s))
+      follows_does p job number P P (λ c. machine.done Continues (machine.with_config (machine.all_off p) c)) (λ s. (Continues, with_turned off_list false s))
       (λ c s settled same.
       let d = machine.with_config (machine.all_off p) c in
       record {
@@ -242,15 +242,15 @@ module _ {p : Object} {job : Job} {number : Key → ℕ} (orderly : IsOrderly p)
 
   pub ending_follows : (P : Selection) → Follows p job number P machine.end_where_last (cards.meant_end_where_last job) P
   ending_follows P =
-      follows_does p job number P P _ (λ s. (cond (set.contains s.world.data.on last_record || is_none s.selected) EndOfJob GoesOn, s))
+      follows_does p job number P P _ (λ s. (cond (set.contains s.world.data.on last_record || is_none s.selected) EndOfJob Continues, s))
       (λ c s settled same. record {
-        ends = λ i. cond (set.contains (same.world.data.on i) last_record || is_none (same.selected i)) EndOfJob GoesOn;
+        ends = λ i. cond (set.contains (same.world.data.on i) last_record || is_none (same.selected i)) EndOfJob Continues;
         same = same;
         fine = either_end (indicators.is_on c.config last_record || is_none c.selected);
         settled = λ on. settled;
       })
     where
-      either_end : (b : Bool) → IsFine (cond b EndOfJob GoesOn)
+      either_end : (b : Bool) → IsFine (cond b EndOfJob Continues)
       either_end true = tt
       either_end false = tt
 

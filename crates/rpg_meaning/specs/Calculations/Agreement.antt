@@ -1,6 +1,6 @@
 -- When a state of the cards and a configuration of the machine agree.
 use Rattle.std.specs.Prelude.{◌≡◌, ℕ, ◌+◌, zero, suc, List, [], ◌∷◌}
-use Rattle.rpg_cards.specs.Deeds.{Calculation}
+use Rattle.rpg_cards.specs.Statements.{Calculation}
 use Rattle.rpg_cards.specs.Keys.{Key}
 use Rattle.rpg_cards.specs.Sections.{Sections, callee}
 use Rattle.rpg_compile_program.specs.Code.{size}

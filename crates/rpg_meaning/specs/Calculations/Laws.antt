@@ -1,9 +1,11 @@
 -- What it means that a program does what calculation cards mean.
-use Rattle.std.specs.Prelude.{◌≡◌, ℕ, Bool, true, false, [], Some, slice_get}
+use Rattle.std.specs.Prelude.{◌≡◌, ℕ, Bool, true, false, List, [], Some, slice_get}
 use Rattle.std.specs.FinMap as map
-use Rattle.rpg_cards.specs.Deeds.{Acts, Begins, Calculation, Deed, Ends, Executes, GoesTo, Marks, Nothing, PutsOut}
+use Rattle.rpg_cards.specs.Statements.{Acts, Begins, Calculation, Statement, Ends, Executes, GoesTo, Marks, Nothing, WritesExceptions}
 use Rattle.rpg_cards.specs.Keys.{Key, key_cmp}
-use Rattle.rpg_program.specs.Ends.{End, GoesOn, Halt}
+use Rattle.rpg_cards.specs.declared.spec_card.SpecCard.{SpecCard}
+use Rattle.rpg_compile_program.specs.Program.{key_numbers, program_of}
+use Rattle.rpg_program.specs.Ends.{End, Continues, Halt}
 use Rattle.rpg_program.specs.World.{World}
 use Rattle.rpg_machine.specs.Config.{Config, Output}
 use Rattle.rpg_machine.specs.Laws.{FitsIn}
@@ -12,16 +14,17 @@ use Rattle.rpg_meaning.specs.Calculations.Agreement.{AgreeAt, AgreeEnded, Machin
 use Rattle.rpg_meaning.specs.Calculations.Meaning.{CardsCome, MeantOutcome, On, Over, Source, State, Stops, cards_step, part_has_end}
 use Rattle.rpg_meaning.specs.Calculations.Parts.{Part, calculations_in}
 use Rattle.rpg_meaning.specs.Calculations.Sections.{AreOpen, Meets}
+use Rattle.rpg_meaning.specs.Calculations.Sources.{source_of}
 use Rattle.rpg_program.specs.Object.{Object}
 use Rattle.rpg_effect_renaming.specs.Naming.{Agree}
 
--- every deed but EXSR and ENDSR
-abbrev pub stays_in_part : Deed Key → Bool
+-- every statement but EXSR and ENDSR
+abbrev pub stays_in_part : Statement Key → Bool
 stays_in_part (Marks l) = true
 stays_in_part (Begins n) = true
 stays_in_part Nothing = true
 stays_in_part (Acts a) = true
-stays_in_part PutsOut = true
+stays_in_part WritesExceptions = true
 stays_in_part (GoesTo l) = true
 stays_in_part (Executes n) = false
 stays_in_part (Ends l) = false
@@ -29,7 +32,7 @@ stays_in_part (Ends l) = false
 -- One calculation: from where they agree its code leads to where the cards lead, or halts where they halt, and then they agree.
 abbrev pub KeepsCalculations : Object → Source → (Key → ℕ) → Type 0
 KeepsCalculations p source number =
-    (s : State) (d : Config) (g : Calculation Key) → slice_get (calculations_in source.sections s.part) s.next ≡ Some g → stays_in_part g.deed ≡ true
+    (s : State) (d : Config) (g : Calculation Key) → slice_get (calculations_in source.sections s.part) s.next ≡ Some g → stays_in_part g.statement ≡ true
     → AgreeAt p source number s d → MachineFollows p source number d (cards_step source s)
 
 -- Whole sections, from anywhere in them: if the cards reach an end, the section reaches the same.
@@ -40,7 +43,7 @@ KeepsSections p source number =
 
 -- the cards reach the same end as the section
 abbrev pub EndsAs : Object → Source → (Key → ℕ) → MeantOutcome → End → Config → Output → Type 0
-EndsAs p source number (On t o) e d out = (e ≡ GoesOn) × (out ≡ o) × AgreeEnded p source number t d
+EndsAs p source number (On t o) e d out = (e ≡ Continues) × (out ≡ o) × AgreeEnded p source number t d
 EndsAs p source number (Stops k t o) e d out = (e ≡ Halt k) × (out ≡ o) × AgreeEnded p source number t d
 EndsAs p source number Over e d out = ⊥
 
@@ -61,3 +64,7 @@ pub record KeepsMeaning (p : Object) (source : Source) (number : Key → ℕ) : 
   pub calculations : KeepsCalculations p source number
   pub sections : KeepsSections p source number
   pub runs : KeepsRuns p source number
+
+-- the program of a source, with that allowance, does what its calculation cards mean
+abbrev pub KeepsMeaningOfCards : List SpecCard → ℕ → Type 0
+KeepsMeaningOfCards cards allowance = KeepsMeaning (program_of cards allowance) (source_of cards) (key_numbers cards)

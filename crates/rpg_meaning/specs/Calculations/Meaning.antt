@@ -3,12 +3,12 @@ use Rattle.std.specs.Prelude.{◌≡◌, ℕ, ◌+◌, ◌-◌, Bool, true, fals
 use Rattle.std.specs.FinSet as set
 use Rattle.std.specs.List.{list_any}
 use Rattle.std.specs.Ordering.{nat_cmp}
-use Rattle.rpg_cards.specs.Deeds.{Acts, Begins, Calculation, Deed, Ends, Executes, GoesTo, Marks, Nothing, PutsOut}
+use Rattle.rpg_cards.specs.Statements.{Acts, Begins, Calculation, Statement, Ends, Executes, GoesTo, Marks, Nothing, WritesExceptions}
 use Rattle.rpg_cards.specs.Keys.{Key, key_cmp}
 use Rattle.rpg_cards.specs.Sections.{Sections}
 use Rattle.rpg_program.specs.Effect.{Effect}
 use Rattle.rpg_program.specs.Ended.{on_data}
-use Rattle.rpg_program.specs.Ends.{End, GoesOn, Halt}
+use Rattle.rpg_program.specs.Ends.{End, Continues, Halt}
 use Rattle.rpg_program.specs.Lines.{Line, exception_output}
 use Rattle.rpg_program.specs.Operate.{operate}
 use Rattle.rpg_program.specs.World.{World, three_hold}
@@ -52,7 +52,7 @@ pub record State : Type 0 where
   pub back : List (Part × ℕ)
   pub allowance : ℕ
 
--- they go on, halt, or have nothing to go on with; with what was output
+-- they continue, halt, or have nothing to continue with; with what was output
 pub data MeantOutcome : Type 0 where
   On : State → Output → MeantOutcome
   Stops : ℕ → State → Output → MeantOutcome
@@ -64,7 +64,7 @@ at_next s n = record s { next = n }
 
 -- the state after an effect
 abbrev pub after_effect : End → State → World key_cmp → Output → MeantOutcome
-after_effect GoesOn s w o = On (record s { world = w; next = s.next + 1 }) o
+after_effect Continues s w o = On (record s { world = w; next = s.next + 1 }) o
 after_effect (Halt k) s w o = Stops k (record s { world = w }) o
 after_effect other s w o = Over
 
@@ -87,20 +87,20 @@ come_back s (b ∷ bs) = On (record s { part = b.0; next = b.1; back = bs }) no_
 
 module _ (source : Source) where
   -- what a calculation does, by its operation
-  abbrev pub deed_done : State → Deed Key → MeantOutcome
-  deed_done s (Marks l) = On (at_next s (s.next + 1)) no_output
-  deed_done s (Begins l) = On (at_next s (s.next + 1)) no_output
-  deed_done s Nothing = On (at_next s (s.next + 1)) no_output
-  deed_done s (Acts a) = affected s (on_data (operate source.forms a) s.world)
-  deed_done s PutsOut = affected s (exception_output source.forms source.words source.overflow source.lines s.world)
-  deed_done s (GoesTo label) = gone_to s (label_position label (calculations_in source.sections s.part))
-  deed_done s (Executes name) = spending s (record s { part = InSubroutine name; next = 0; back = (s.part, s.next + 1) ∷ s.back })
-  deed_done s (Ends l) = come_back s s.back
+  abbrev pub statement_done : State → Statement Key → MeantOutcome
+  statement_done s (Marks l) = On (at_next s (s.next + 1)) no_output
+  statement_done s (Begins l) = On (at_next s (s.next + 1)) no_output
+  statement_done s Nothing = On (at_next s (s.next + 1)) no_output
+  statement_done s (Acts a) = affected s (on_data (operate source.forms a) s.world)
+  statement_done s WritesExceptions = affected s (exception_output source.forms source.words source.overflow source.lines s.world)
+  statement_done s (GoesTo label) = gone_to s (label_position label (calculations_in source.sections s.part))
+  statement_done s (Executes name) = spending s (record s { part = InSubroutine name; next = 0; back = (s.part, s.next + 1) ∷ s.back })
+  statement_done s (Ends l) = come_back s s.back
 
   -- one calculation: what it does if its conditions hold, and then the next one
   abbrev pub calculation_done : State → Option (Calculation Key) → MeantOutcome
   calculation_done s None = Over
-  calculation_done s (Some g) = if is_done s.world.data.on g then deed_done s g.deed else On (at_next s (s.next + 1)) no_output
+  calculation_done s (Some g) = if is_done s.world.data.on g then statement_done s g.statement else On (at_next s (s.next + 1)) no_output
 
   -- one calculation
   unfoldable pub cards_step : State → MeantOutcome
@@ -119,10 +119,10 @@ abbrev pub is_finished : Sections Key → State → Bool
 is_finished c s = part_has_end s.part && nat_le (length (calculations_in c s.part)) s.next
 
 -- the outcome with earlier output before it
-abbrev pub told_before : Output → MeantOutcome → MeantOutcome
-told_before o (On t more) = On t (with_more o more)
-told_before o (Stops k t more) = Stops k t (with_more o more)
-told_before o Over = Over
+abbrev pub with_earlier_output : Output → MeantOutcome → MeantOutcome
+with_earlier_output o (On t more) = On t (with_more o more)
+with_earlier_output o (Stops k t more) = Stops k t (with_more o more)
+with_earlier_output o Over = Over
 
 -- Where the cards lead, one calculation after another.
 pub data CardsCome (source : Source) : State → MeantOutcome → Type 0 where
@@ -131,4 +131,4 @@ pub data CardsCome (source : Source) : State → MeantOutcome → Type 0 where
   -- one calculation halts
   AtHalt : (s t : State) (o : Output) (k : ℕ) → is_finished source.sections s ≡ false → cards_step source s ≡ Stops k t o → CardsCome source s (Stops k t o)
   -- one calculation continues, and the rest follows
-  Then : (s t : State) (o : Output) (rest : MeantOutcome) → is_finished source.sections s ≡ false → cards_step source s ≡ On t o → CardsCome source t rest → CardsCome source s (told_before o rest)
+  Then : (s t : State) (o : Output) (rest : MeantOutcome) → is_finished source.sections s ≡ false → cards_step source s ≡ On t o → CardsCome source t rest → CardsCome source s (with_earlier_output o rest)

@@ -2,8 +2,8 @@
 use Rattle.std.specs.Prelude.{◌≡◌, ℕ, ◌<◌, false, ◌&&◌, List, [], ◌∷◌, ◌++◌, Option, None, Some, is_some, slice_get, if◌then◌else◌}
 use Rattle.std.specs.List.{filter}
 use Rattle.std.specs.Option.{option_map, option_map_or, option_to_list}
-use Rattle.rpg_cards.specs.Calculations.{CalculationGroup, alone, calculation_of, completed, goes_on, joined_group, open_calculation_group}
-use Rattle.rpg_cards.specs.Deeds.{Calculation}
+use Rattle.rpg_cards.specs.Calculations.{CalculationGroup, alone, calculation_of, completed, continues, joined_group, open_calculation_group}
+use Rattle.rpg_cards.specs.Statements.{Calculation}
 use Rattle.rpg_cards.specs.Keys.{Key, Name}
 use Rattle.rpg_cards.specs.Sections.{begun_by, is_detail, is_same_name, is_subroutine, is_total}
 use Rattle.rpg_cards.specs.Cards.{calculation_on}
@@ -32,19 +32,19 @@ numbered_calculation e = (e.0, calculation_of e.1)
 -- the calculations on these cards, each with the number of its first card
 abbrev pub numbered_from : Option (ℕ × CalculationGroup) → List SpecCard → List (ℕ × Calculation Key)
 numbered_from o [] = []
-numbered_from o (c ∷ cs) = option_to_list (option_map numbered_calculation (if goes_on cs then None else open_at o c)) ++ numbered_from (open_at o c) cs
+numbered_from o (c ∷ cs) = option_to_list (option_map numbered_calculation (if continues cs then None else open_at o c)) ++ numbered_from (open_at o c) cs
 
 -- ---- those of a part
 
 -- the calculations before the next BEGSR
 abbrev pub up_to_next : List (ℕ × Calculation Key) → List (ℕ × Calculation Key)
 up_to_next [] = []
-up_to_next (e ∷ es) = if is_some (begun_by e.1.deed) then [] else e ∷ up_to_next es
+up_to_next (e ∷ es) = if is_some (begun_by e.1.statement) then [] else e ∷ up_to_next es
 
 -- after the BEGSR of a name
 abbrev pub after_begsr : Option Name → List (ℕ × Calculation Key) → List (ℕ × Calculation Key)
 after_begsr name [] = []
-after_begsr name (e ∷ es) = if option_map_or (is_same_name name) (begun_by e.1.deed) false then up_to_next es else after_begsr name es
+after_begsr name (e ∷ es) = if option_map_or (is_same_name name) (begun_by e.1.statement) false then up_to_next es else after_begsr name es
 
 -- the calculations of a section
 abbrev pub those_in : Part → List (ℕ × Calculation Key) → List (ℕ × Calculation Key)
@@ -74,7 +74,7 @@ pub record BeginsOn (cards : List SpecCard) (g : Calculation Key) (number : Opti
   pub is : calculation_on card.spec ≡ Some first
   pub begins : (joins first.control_level && is_some (open_calculation_group before)) ≡ false
   pub whole : calculation_of (completed (alone first) after) ≡ g
-  pub told : number ≡ Some card.number
+  pub reported : number ≡ Some card.number
 
 -- the number is that of the calculation's first card
 abbrev pub NumbersAreTheirs : List SpecCard → Type 0

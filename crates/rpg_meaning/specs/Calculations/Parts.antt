@@ -1,6 +1,6 @@
 -- The parts of calculations: control leaves one only by EXSR and ENDSR.
 use Rattle.std.specs.Prelude.{ℕ, suc, Bool, List, [], ◌∷◌, Option, if◌then◌else◌}
-use Rattle.rpg_cards.specs.Deeds.{Calculation}
+use Rattle.rpg_cards.specs.Statements.{Calculation}
 use Rattle.rpg_cards.specs.Keys.{Key, Name}
 use Rattle.rpg_cards.specs.Sections.{Sections, Subroutine, is_same_name, label_on}
 
@@ -23,7 +23,7 @@ calculations_in c (InSubroutine name) = body_named name c.subroutines
 
 -- it has that label
 abbrev pub bears : Option Name → Calculation Key → Bool
-bears name g = is_same_name name (label_on g.deed)
+bears name g = is_same_name name (label_on g.statement)
 
 -- the place of the first one with a label among these, counted from 0; after them all if there is none
 abbrev pub label_position : Option Name → List (Calculation Key) → ℕ

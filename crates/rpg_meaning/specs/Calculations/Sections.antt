@@ -4,7 +4,7 @@ use Rattle.std.specs.FinMap as map
 use Rattle.std.specs.Ordering.{nat_cmp}
 use Rattle.rpg_cards.specs.Keys.{Key}
 use Rattle.rpg_cards.specs.Sections.{Sections}
-use Rattle.rpg_program.specs.Ends.{GoesOn, Halt}
+use Rattle.rpg_program.specs.Ends.{Continues, Halt}
 use Rattle.rpg_machine.specs.Config.{Config}
 use Rattle.rpg_machine.specs.Run.{run}
 use Rattle.rpg_machine.specs.Step.{Stop}
@@ -30,6 +30,6 @@ AreOpen p c cells part (b ∷ bs) =
 
 -- the section ends where the cards end, halts where they halt, and then all agree
 abbrev pub Meets : Object → Source → (Key → ℕ) → Config → MeantOutcome → Type 0
-Meets p source number d (On t o) = (is_finished source.sections t ≡ true) × (e : Config) × ((j : ℕ) × (run p j d ≡ Stop GoesOn e o)) × AgreeAt p source number t e
+Meets p source number d (On t o) = (is_finished source.sections t ≡ true) × (e : Config) × ((j : ℕ) × (run p j d ≡ Stop Continues e o)) × AgreeAt p source number t e
 Meets p source number d (Stops k t o) = (e : Config) × ((j : ℕ) × (run p j d ≡ Stop (Halt k) e o)) × AgreeEnded p source number t e
 Meets p source number d Over = ⊥

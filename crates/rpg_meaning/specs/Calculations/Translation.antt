@@ -1,7 +1,7 @@
 -- Whether a program is the translation of the cards, as far as calculations go.
 use Rattle.std.specs.Prelude.{◌≡◌, All, ℕ, ◌<◌, List, [], ◌∷◌, length, map}
 use Rattle.std.specs.Ordering.{nat_cmp}
-use Rattle.rpg_cards.specs.Deeds.{Calculation}
+use Rattle.rpg_cards.specs.Statements.{Calculation}
 use Rattle.rpg_cards.specs.Keys.{Key, key_cmp}
 use Rattle.rpg_compile_program.specs.Whole.{IsCodeOf}
 use Rattle.rpg_program.specs.Forms.{form_at}

@@ -3,7 +3,7 @@ use Rattle.std.specs.Prelude.{ℕ, ◌+◌, ◌-◌, ◌==◌, Bool, true, false
 use Rattle.std.specs.List.{filter, filter_map, list_all, list_any}
 use Rattle.std.specs.Option.{option_map_or, option_to_list}
 use Rattle.rpg_cards.specs.Keys.{Key}
-use Rattle.rpg_cycle.specs.Ends.{PhaseEnd, GoesOn, EndOfJob, Halt}
+use Rattle.rpg_cycle.specs.Ends.{PhaseEnd, Continues, EndOfJob, Halt}
 use Rattle.rpg_cycle.specs.Indicators.{first_page, halt_indicators, last_record, level_indicators, matching_record}
 use Rattle.rpg_cycle.specs.Phases.{if_selected}
 use Rattle.rpg_program.specs.Ended.{on_data}
@@ -87,8 +87,8 @@ module _ (job : Job) where
   -- ---- 2 halt 6 where a halt indicator is on
 
   -- halt 6 if a halt indicator is on
-  abbrev pub meant_halt_where_asked : MeantPhase
-  meant_halt_where_asked = meant_does (λ s. (if any_on_in halt_indicators s then Halt 6 else GoesOn, s))
+  abbrev pub meant_halt_if_indicated : MeantPhase
+  meant_halt_if_indicated = meant_does (λ s. (if any_on_in halt_indicators s then Halt 6 else Continues, s))
 
   -- ---- 3 the indicators of record types but LR, L1 to L9 and 1P turn off
 
@@ -98,7 +98,7 @@ module _ (job : Job) where
 
   -- indicators of record types and control levels turn off, and 1P with them
   abbrev pub meant_set_off : MeantPhase
-  meant_set_off = meant_does (λ s. (GoesOn, with_turned (type_indicators job.types ++ (level_indicators ++ first_page ∷ [])) false s))
+  meant_set_off = meant_does (λ s. (Continues, with_turned (type_indicators job.types ++ (level_indicators ++ first_page ∷ [])) false s))
 
   -- ---- 4 records are read, and one is selected
 
@@ -108,8 +108,8 @@ module _ (job : Job) where
   record_length_in Secondary = job.secondary_length
 
   -- characters, no more than the length of the file's records
-  abbrev pub is_good_text : InputFile → List ℕ → Bool
-  is_good_text f text = nat_le (length text) (record_length_in f) && list_all is_character text
+  abbrev pub is_valid_text : InputFile → List ℕ → Bool
+  is_valid_text f text = nat_le (length text) (record_length_in f) && list_all is_character text
 
   -- a record's text, padded with blanks to the length of its file
   abbrev pub meant_padded : InputFile → List ℕ → List ℕ
@@ -124,7 +124,7 @@ module _ (job : Job) where
   abbrev pub meant_match_up : List Selected → InputFile → Selected → JobState → PhaseEnd × JobState
   meant_match_up earlier f r s =
       if exceeds (meant_last_value f earlier) (meant_match_value r) then (Halt 8, s)
-      else (GoesOn, record s { inputs = with_waiting f (Some r) s.inputs })
+      else (Continues, record s { inputs = with_waiting f (Some r) s.inputs })
 
   -- a record of no type is halt 3
   abbrev pub type_taken : List Selected → InputFile → List ℕ → Option ℕ → JobState → PhaseEnd × JobState
@@ -133,9 +133,9 @@ module _ (job : Job) where
 
   -- a bad record is halt 7; if there is none the file is at its end
   abbrev pub read : List Selected → InputFile → Option (List ℕ) → JobState → PhaseEnd × JobState
-  read earlier f None s = (GoesOn, record s { inputs = with_file_over f s.inputs })
+  read earlier f None s = (Continues, record s { inputs = with_file_over f s.inputs })
   read earlier f (Some text) s =
-      if is_good_text f text then type_taken earlier f (meant_padded f text) (type_of_text f (meant_padded f text) 0 job.types) s else (Halt 7, s)
+      if is_valid_text f text then type_taken earlier f (meant_padded f text) (type_of_text f (meant_padded f text) 0 job.types) s else (Halt 7, s)
 
   -- a file that exists, isn't at its end and has no waiting record reads one
   abbrev pub meant_takes_in : Inputs → InputFile → Bool
@@ -143,7 +143,7 @@ module _ (job : Job) where
 
   -- the next record of a file, if one is to be read
   abbrev pub meant_take_in : List Selected → InputFile → Option (List ℕ) → MeantPhase
-  meant_take_in earlier f next = meant_does (λ s. if meant_takes_in s.inputs f then read earlier f next s else (GoesOn, s))
+  meant_take_in earlier f next = meant_does (λ s. if meant_takes_in s.inputs f then read earlier f next s else (Continues, s))
 
   -- its indicator turns on, and so do L1 to the highest level that it breaks
   abbrev pub with_selected : List Selected → Selected → JobState → JobState
@@ -168,12 +168,12 @@ module _ (job : Job) where
 
   -- the record that the cycle is for
   abbrev pub meant_select_one : List Selected → MeantPhase
-  meant_select_one earlier = meant_does (λ s. (GoesOn, meant_select_from earlier (meant_chosen (waiting_in s.inputs Primary) (waiting_in s.inputs Secondary)) s))
+  meant_select_one earlier = meant_does (λ s. (Continues, meant_select_from earlier (meant_chosen (waiting_in s.inputs Primary) (waiting_in s.inputs Secondary)) s))
 
   -- if LR is on no record is read, and L1 to L9 turn on
   abbrev pub meant_select_record : List Selected → Option (List ℕ) → Option (List ℕ) → MeantPhase
   meant_select_record earlier primary secondary s =
-      meant_either (is_on_in last_record s) (meant_does (λ s. (GoesOn, with_turned level_indicators true s)))
+      meant_either (is_on_in last_record s) (meant_does (λ s. (Continues, with_turned level_indicators true s)))
       (meant_take_in earlier Primary primary andthen meant_take_in earlier Secondary secondary andthen meant_select_one earlier) s
 
   -- ---- 5 total calculations and total lines, but not in the first cycle, nor, if types have control fields, before a record had some
@@ -192,7 +192,7 @@ module _ (job : Job) where
 
   -- the job ends if LR is on, or no record is left
   abbrev pub meant_end_where_last : MeantPhase
-  meant_end_where_last = meant_does (λ s. (if is_on_in last_record s || is_none s.selected then EndOfJob else GoesOn, s))
+  meant_end_where_last = meant_does (λ s. (if is_on_in last_record s || is_none s.selected then EndOfJob else Continues, s))
 
   -- ---- 7 all lines of a new page, if the overflow indicator is on
 
@@ -211,7 +211,7 @@ module _ (job : Job) where
 
   -- MR is on if the record has a match, otherwise off
   abbrev pub meant_show_match : List Selected → MeantPhase
-  meant_show_match earlier = meant_does (λ s. (GoesOn, with_turned (matching_record ∷ []) (if_selected (meant_has_match earlier s.inputs) s.selected) s))
+  meant_show_match earlier = meant_does (λ s. (Continues, with_turned (matching_record ∷ []) (if_selected (meant_has_match earlier s.inputs) s.selected) s))
 
   -- the fields of the selected record
   abbrev pub meant_fill_from : Option Selected → MeantPhase
@@ -229,7 +229,7 @@ module _ (job : Job) where
   abbrev pub MeantCycle : List Selected → Option (List ℕ) → Option (List ℕ) → MeantPhase
   MeantCycle earlier primary secondary =
       meant_detail_lines
-      andthen meant_halt_where_asked
+      andthen meant_halt_if_indicated
       andthen meant_set_off
       andthen meant_select_record earlier primary secondary
       andthen meant_total_time earlier

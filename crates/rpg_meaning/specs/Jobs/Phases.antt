@@ -4,7 +4,7 @@ use Rattle.std.specs.FinSet as set
 use Rattle.std.specs.List.{list_any}
 use Rattle.std.specs.Ordering.{nat_cmp}
 use Rattle.rpg_cards.specs.Keys.{key_cmp}
-use Rattle.rpg_cycle.specs.Ends.{PhaseEnd, GoesOn, EndOfJob, Halt, phase_end}
+use Rattle.rpg_cycle.specs.Ends.{PhaseEnd, Continues, EndOfJob, Halt, phase_end}
 use Rattle.rpg_cycle.specs.Indicators.{indicators_turned}
 use Rattle.rpg_program.specs.Effect.{Effect}
 use Rattle.rpg_program.specs.World.{World, with_data}
@@ -20,7 +20,7 @@ MeantPhase = JobState → PhaseEnd → JobState → Output → Type 0
 
 -- a phase from where the previous one led, unless that ended the job
 abbrev pub meant_from_there : MeantPhase → PhaseEnd → JobState → Output → PhaseEnd → JobState → Output → Type 0
-meant_from_there Q GoesOn m put e t out = (more : Output) × Q m e t more × (out ≡ with_more put more)
+meant_from_there Q Continues m put e t out = (more : Output) × Q m e t more × (out ≡ with_more put more)
 meant_from_there Q EndOfJob m put e t out = (e ≡ EndOfJob) × (t ≡ m) × (out ≡ put)
 meant_from_there Q (Halt k) m put e t out = (e ≡ Halt k) × (t ≡ m) × (out ≡ put)
 meant_from_there Q other m put e t out = ⊥
@@ -39,7 +39,7 @@ meant_does f s e t out = (e ≡ (f s).0) × (t ≡ (f s).1) × (out ≡ no_outpu
 
 -- nothing is done
 abbrev pub meant_passes : MeantPhase
-meant_passes = meant_does (λ s. (GoesOn, s))
+meant_passes = meant_does (λ s. (Continues, s))
 
 -- one of two phases, by a test
 abbrev pub meant_either : Bool → MeantPhase → MeantPhase → MeantPhase
@@ -56,7 +56,7 @@ by_effect f s e t out = (e ≡ phase_end (f s.world).ending) × (t ≡ record s 
 
 -- calculations have reached an end or a halt
 abbrev pub Came : MeantOutcome → MeantPhase
-Came (On u o) s e t out = (e ≡ GoesOn) × (t ≡ record s { world = u.world; allowance = u.allowance }) × (out ≡ o)
+Came (On u o) s e t out = (e ≡ Continues) × (t ≡ record s { world = u.world; allowance = u.allowance }) × (out ≡ o)
 Came (Stops k u o) s e t out = (e ≡ Halt k) × (t ≡ record s { world = u.world; allowance = u.allowance }) × (out ≡ o)
 Came Over s e t out = ⊥
 

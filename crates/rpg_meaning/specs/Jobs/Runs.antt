@@ -1,7 +1,7 @@
 -- Whole runs by cards: cycles, each with the next records of the files that read one, until one ends the job.
 use Rattle.std.specs.Prelude.{◌≡◌, ℕ, ◌+◌, Bool, not, ◌&&◌, ◌||◌, List, [], Option, None}
 use Rattle.rpg_cards.specs.Keys.{key_cmp}
-use Rattle.rpg_cycle.specs.Ends.{PhaseEnd, GoesOn, EndOfJob, Halt}
+use Rattle.rpg_cycle.specs.Ends.{PhaseEnd, Continues, EndOfJob, Halt}
 use Rattle.rpg_cycle.specs.Indicators.{halt_indicators, last_record}
 use Rattle.rpg_cycle.specs.Runs.{Records, next_of, printed, rest_where_needed, stored}
 use Rattle.rpg_program.specs.Put.{Bytes}
@@ -60,7 +60,7 @@ pub data MeantRuns (job : Job) : List Selected → Records → World key_cmp →
       → NextCycle job earlier rs w i (Halt k) t out → MeantRuns job earlier rs w i (meant_last_cycle (Halt k) out)
   -- a cycle continues, and the rest follows
   Then : (earlier : List Selected) (rs : Records) (w : World key_cmp) (i : Inputs) (t : JobState) (out : Output) (rest : MeantCourse)
-      → NextCycle job earlier rs w i GoesOn t out → MeantRuns job (with_record t.selected earlier) (meant_left job (meant_begun job w i) rs) t.world t.inputs rest
+      → NextCycle job earlier rs w i Continues t out → MeantRuns job (with_record t.selected earlier) (meant_left job (meant_begun job w i) rs) t.world t.inputs rest
       → MeantRuns job earlier rs w i (with_meant_cycle out rest)
 
 -- the whole run over records from a world, with the bytes that are printed and stored

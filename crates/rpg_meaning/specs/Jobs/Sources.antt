@@ -1,9 +1,10 @@
 -- The job of a source and an allowance, and what it means that a program does it.
-use Rattle.std.specs.Prelude.{◌≡◌, ℕ, ℤ, List}
+use Rattle.std.specs.Prelude.{◌≡◌, ℕ, ℤ, List, Some}
 use Rattle.rpg_cards.specs.Keys.{key_cmp}
 use Rattle.rpg_cards.specs.declared.spec_card.SpecCard.{SpecCard}
 use Rattle.rpg_cycle.specs.Job.{first_fields}
 use Rattle.rpg_cycle.specs.Runs as machine
+use Rattle.rpg_cycle.specs.Starting.{date_in}
 use Rattle.rpg_program.specs.Put.{Bytes}
 use Rattle.rpg_program.specs.World.{World}
 use Rattle.rpg_job.specs.Files.{is_primary, is_secondary, file_record_length, the_file}
@@ -37,6 +38,10 @@ RunsAreMeant cards allowance date =
     (w : World key_cmp) → IsStart cards date w
     → (records : machine.Records) (course : machine.Course) (bytes : Bytes) → machine.IsRun (program_of cards allowance) date (first_fields (program_of cards allowance)) records course bytes
     → IsMeant cards allowance w records course bytes
+
+-- a date that a text of six digits gives
+abbrev pub IsDate : ℤ → Type 0
+IsDate date = (text : List ℕ) × (date_in text ≡ Some date)
 
 -- a job has one run
 abbrev pub MeantRunsAreOne : Type 0

@@ -3,7 +3,7 @@ use Rattle.std.specs.Prelude.{◌≡◌, ℕ, ℤ, List, Option, None, Some, Res
 use Rattle.rpg_cards.specs.declared.spec_card.SpecCard.{SpecCard}
 use Rattle.rpg_cycle.specs.Starting.{date_in}
 use Rattle.rpg_engine.specs.Devices.{Lent, OfReaders, OfWriters}
-use Rattle.rpg_engine.specs.Refusing.{IsToldOfDate}
+use Rattle.rpg_engine.specs.Refusing.{IsReportOfDate}
 use Rattle.rpg_engine.specs.declared.fault.RunFault.{RunFault}
 use Rattle.rpg_engine.specs.declared.files.Readers.{Readers}
 use Rattle.rpg_engine.specs.declared.files.Writers.{Writers}
@@ -39,7 +39,7 @@ module _ {R S P D : Type 0} (remaining : R → Option (List ℕ)) (others : S �
   pub record IsSourceRun (source : CompiledSource) (date : List ℕ) (old new : Readers R S) (before after : Writers P D) (result : Result Report RunFault) : Type 0 where
     -- The source has no fault. A bad date is reported, and then nothing is read or written.
     pub faultless : IsFaultlessSource source.text.items
-    pub refused : IsToldOfDate result date
+    pub refused : IsReportOfDate result date
     pub untouched : date_in date ≡ None → (new ≡ old) × (after ≡ before)
     -- The secondary input is never read if no card names a secondary file.
     pub alone : HasNoSecondary (cards_in source.text.items) → new.secondary ≡ old.secondary

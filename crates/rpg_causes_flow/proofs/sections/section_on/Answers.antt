@@ -1,6 +1,6 @@
 use Rattle.std.proofs.Common.{◌∷◌, ◌∙◌, ap, sym}
 use Rattle.rpg_cards.specs.Calculations.{calculations_before, open_calculation_group}
-use Rattle.rpg_cards.specs.Deeds.{deed_of}
+use Rattle.rpg_cards.specs.Statements.{statement_of}
 use Rattle.rpg_cards.specs.Labels.{is_begsr, is_inside_subroutine}
 use Rattle.rpg_causes_flow.proofs.OrderLemmas.{inside_is}
 use Rattle.rpg_causes_flow.proofs.SectionLemmas.{section_rule}
@@ -24,6 +24,6 @@ returns c =
     c.section_by.ensures
     ∙ ap (λ l. section_by_state l c.begins_subroutine.result c.opens-is_inside.result c.count_begun.result) level
     ∙ ap (λ b. section_by_state (calculation_level (level_of_group (open_calculation_group front)) k) b c.opens-is_inside.result c.count_begun.result) c.begins_subroutine.ensures
-    ∙ ap (λ b. section_by_state (calculation_level (level_of_group (open_calculation_group front)) k) (is_begsr (deed_of k)) b c.count_begun.result) inside
-    ∙ ap (section_by_state (calculation_level (level_of_group (open_calculation_group front)) k) (is_begsr (deed_of k)) (is_inside_subroutine acc)) (c.count_begun.ensures rest whole)
+    ∙ ap (λ b. section_by_state (calculation_level (level_of_group (open_calculation_group front)) k) (is_begsr (statement_of k)) b c.count_begun.result) inside
+    ∙ ap (section_by_state (calculation_level (level_of_group (open_calculation_group front)) k) (is_begsr (statement_of k)) (is_inside_subroutine acc)) (c.count_begun.ensures rest whole)
     ∙ section_rule front card after k

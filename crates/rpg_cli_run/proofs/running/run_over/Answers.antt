@@ -3,7 +3,7 @@ use Rattle.rpg_files.specs.Counting.{faults_of}
 use Rattle.rpg_engine.proofs.Flushing.{run_kept}
 use Rattle.rpg_engine.specs.Faults.{Writer}
 use Rattle.rpg_engine.specs.declared.files.OutputFile.TheVariants.{Print, Disk}
-use Rattle.rpg_cli_run.proofs.Flushing.{ended, faults_told}
+use Rattle.rpg_cli_run.proofs.Flushing.{ended, faults_reported}
 use Rattle.rpg_cli_run.proofs.running.run_over.Goals as goal
 
 -- ---- a run that gave a report: its writers are flushed
@@ -30,4 +30,4 @@ returns-clause-runs g c =
 pub returns-clause-faults : goal.returns-clause-faults
 returns-clause-faults g c =
     let f = c.flushed.ensures in
-    rw f.answer (faults_told _ _ _ c.in-Ok.ensures.faults refl refl c.in-Ok.report f.printer f.file _ _ _ _ f.counts)
+    rw f.answer (faults_reported _ _ _ c.in-Ok.ensures.faults refl refl c.in-Ok.report f.printer f.file _ _ _ _ f.counts)

@@ -8,15 +8,15 @@ use Rattle.rpg_compile.specs.Numbers.{number_by}
 use Rattle.rpg_compile.specs.Walk.{subroutines_in}
 use Rattle.rpg_symbols.specs.Levels.{AreAmong, IsCallLevel, IsCyclic, call_numbered}
 
-pub level_of_subs-requires-clause-calls_few : goal.level_of_subs-requires-clause-calls_few
-level_of_subs-requires-clause-calls_few c =
+pub subroutine_levels-requires-clause-calls_few : goal.subroutine_levels-requires-clause-calls_few
+subroutine_levels-requires-clause-calls_few c =
     let few = few_calls (number_by c.args.subroutines.now) 0 (subroutines_in c.args.cards.now) in
     let same = ap length (c.deref.ensures.value ∙ c.in_ok-count.ensures.calls) in
     let bound = c.requires.few in
     omega (arith, few, same, bound)
 
-pub level_of_subs-requires-clause-among : goal.level_of_subs-requires-clause-among
-level_of_subs-requires-clause-among c =
+pub subroutine_levels-requires-clause-among : goal.subroutine_levels-requires-clause-among
+subroutine_levels-requires-clause-among c =
     let all = subroutines_in c.args.cards.now in
     let same : c.deref.result.now ≡ calls_of all = c.deref.ensures.value ∙ c.in_ok-count.ensures.calls ∙ same_calls all (number_by c.args.subroutines.now) c.requires.numbers in
     let count = c.in_ok-count.ensures.count in

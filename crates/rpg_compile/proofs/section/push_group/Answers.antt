@@ -1,7 +1,7 @@
 use Rattle.std.proofs.Common.{◌≡◌, ◌+◌, ◌++◌, ◌∷◌, ◌<◌, [], sym, ap, ◌∙◌, subst, append-nil}
 use Rattle.std.proofs.lemmas.Result.{on_ok_weaker}
 use Rattle.rpg_cards.specs.Calculations.{calculation_of, last_card}
-use Rattle.rpg_cards.specs.Deeds.{deed_of}
+use Rattle.rpg_cards.specs.Statements.{statement_of}
 use Rattle.rpg_compile_program.specs.Code.{group_code, size, step_code}
 use Rattle.rpg_compile.proofs.Groups.{size_of_instruction}
 use Rattle.rpg_compile.proofs.Steps.{group_of_nothing, group_of_one, has_one}
@@ -17,8 +17,8 @@ push_cards-requires-clause-places c =
     let g = c.args.group.now in
     let cards = c.cards.result.now in
     let steps = step_code (key_number s.table.now) (number_by s.labels.now) (number_by s.subroutines.now) s.own in
-    let one : c.in-Some.instruction ∷ [] ≡ steps (deed_of (last_card (group_of g.first cards))) = c.in-Some.ensures.value ∙ ap (λ k. steps (deed_of k)) c.last.ensures ∙ ap (λ h. steps (deed_of (last_card h))) (sym c.cards.ensures.group) in
-    let has = has_one (key_number s.table.now) (number_by s.labels.now) (number_by s.subroutines.now) s.own (deed_of (last_card (group_of g.first cards))) c.in-Some.instruction one in
+    let one : c.in-Some.instruction ∷ [] ≡ steps (statement_of (last_card (group_of g.first cards))) = c.in-Some.ensures.value ∙ ap (λ k. steps (statement_of k)) c.last.ensures ∙ ap (λ h. steps (statement_of (last_card h))) (sym c.cards.ensures.group) in
+    let has = has_one (key_number s.table.now) (number_by s.labels.now) (number_by s.subroutines.now) s.own (statement_of (last_card (group_of g.first cards))) c.in-Some.instruction one in
     let same : size (calculation_of g) ≡ size_with c.first.result.now cards = ap (λ h. size (calculation_of h)) (sym c.cards.ensures.group) ∙ size_of_instruction g.first cards c.cards.ensures.first has ∙ ap (λ k. size_with k cards) (sym c.first.ensures) in
     subst (λ n. c.args.place + n < 65536) same c.requires
 
@@ -27,7 +27,7 @@ returns-in_default c =
     let s = c.args.section.now in
     let g = c.args.group.now in
     let steps = step_code (key_number s.table.now) (number_by s.labels.now) (number_by s.subroutines.now) s.own in
-    let none : [] ≡ steps (deed_of (last_card g)) = c.in_default.ensures.value ∙ ap (λ k. steps (deed_of k)) c.last.ensures in
+    let none : [] ≡ steps (statement_of (last_card g)) = c.in_default.ensures.value ∙ ap (λ k. steps (statement_of k)) c.last.ensures in
     sym (ap (λ is. c.args.code.now ++ is) (group_of_nothing (key_number s.table.now) (number_by s.labels.now) (number_by s.subroutines.now) s.own c.args.place g none) ∙ append-nil c.args.code.now)
 
 pub returns : goal.returns
@@ -37,7 +37,7 @@ returns c =
     let cards = c.cards.result.now in
     let steps = step_code (key_number s.table.now) (number_by s.labels.now) (number_by s.subroutines.now) s.own in
     let code = group_code (key_number s.table.now) (number_by s.labels.now) (number_by s.subroutines.now) s.own c.args.place in
-    let one : c.in-Some.instruction ∷ [] ≡ steps (deed_of (last_card (group_of g.first cards))) = c.in-Some.ensures.value ∙ ap (λ k. steps (deed_of k)) c.last.ensures ∙ ap (λ h. steps (deed_of (last_card h))) (sym c.cards.ensures.group) in
+    let one : c.in-Some.instruction ∷ [] ≡ steps (statement_of (last_card (group_of g.first cards))) = c.in-Some.ensures.value ∙ ap (λ k. steps (statement_of k)) c.last.ensures ∙ ap (λ h. steps (statement_of (last_card h))) (sym c.cards.ensures.group) in
     let same : c.args.code.now ++ code_of_group c.args.place c.first.result.now cards c.in-Some.instruction ≡ c.args.code.now ++ code (calculation_of g) =
     ap (λ k. c.args.code.now ++ code_of_group c.args.place k cards c.in-Some.instruction) c.first.ensures
     ∙ ap (λ is. c.args.code.now ++ is) (sym (group_of_one (key_number s.table.now) (number_by s.labels.now) (number_by s.subroutines.now) s.own c.args.place g.first cards c.in-Some.instruction c.cards.ensures.first one)

@@ -6,7 +6,7 @@ use Rattle.rpg_cycle.proofs.Spending.{and_less, and_then, at_no_cost, of_same, s
 use Rattle.rpg_cycle.proofs.Staging.{fewer, first_three, steps_low, still_few}
 use Rattle.rpg_cycle.specs.Cycled.{KeepsWell}
 use Rattle.rpg_cycle.specs.Doing.{DoesAlone, DoesHolding, holding_kept, match_by, unselected}
-use Rattle.rpg_cycle.specs.Ends.{GoesOn}
+use Rattle.rpg_cycle.specs.Ends.{Continues}
 use Rattle.rpg_cycle.specs.Phases as spec
 use Rattle.rpg_cycle.specs.Selecting.{EndsSelecting, IsChosen}
 use Rattle.rpg_cycle.specs.Spending.{Spends, SpendsSelecting, full_page_weight, reach, record_weight, section_cost, totals_weight}
@@ -28,24 +28,24 @@ rest_weight p = types_weight p.types + (totals_weight p + (full_page_weight p + 
 pub select_record-requires-clause-few : goal.select_record-requires-clause-few
 select_record-requires-clause-few g c =
     let p = c.args.machine.now.program in
-    let q1 = same_program c.in_ok-put_out_details.ensures.goes in
-    let s3 = at_no_cost c.in_ok-put_out_details.ensures.spends (of_same (λ (o : Object). 0) q1 c.set_off.ensures.spends) in
+    let q1 = same_program c.in_ok-output_details.ensures.goes in
+    let s3 = at_no_cost c.in_ok-output_details.ensures.spends (of_same (λ (o : Object). 0) q1 c.set_off.ensures.spends) in
     steps_low p (rest_weight p) c.set_off.new.machine (still_few (rest_weight p) (2 ^ 48) s3 c.requires.few)
 
 pub select_record-requires-clause-kept : goal.select_record-requires-clause-kept
 select_record-requires-clause-kept g c =
-    let q3 = same_program c.set_off.ensures.goes ∙ same_program c.in_ok-put_out_details.ensures.goes in
+    let q3 = same_program c.set_off.ensures.goes ∙ same_program c.in_ok-output_details.ensures.goes in
     subst (λ (o : Object). KeepsWell o c.args.kept.now) (sym (c.program-program.ensures ∙ q3)) c.requires.kept
 
 pub follow_selection-requires-clause-can : goal.follow_selection-requires-clause-can
 follow_selection-requires-clause-can g c =
     let p = c.args.machine.now.program in
-    let q1 = same_program c.in_ok-put_out_details.ensures.goes in
+    let q1 = same_program c.in_ok-output_details.ensures.goes in
     let q3 = same_program c.set_off.ensures.goes ∙ q1 in
     let q4 = c.in_ok-selected.ensures.chosen.goes.program ∙ q3 in
     let t = c.in_ok-selected.selected in
     let b = c.select_record.new.machine in
-    let s3 = at_no_cost c.in_ok-put_out_details.ensures.spends (of_same (λ (o : Object). 0) q1 c.set_off.ensures.spends) in
+    let s3 = at_no_cost c.in_ok-output_details.ensures.spends (of_same (λ (o : Object). 0) q1 c.set_off.ensures.spends) in
     let s4 = subst (λ (o : Object). SpendsSelecting o t c.set_off.new.machine b) (c.program-program.ensures ∙ q3) c.in_ok-selected.ensures.chosen.spends in
     let few = selected_few (2 ^ 48) s4 (still_few (rest_weight p) (2 ^ 48) s3 c.requires.few) in
     record {
@@ -61,27 +61,27 @@ follow_selection-requires-clause-held g c =
 
 -- ---- where a phase ends the job
 
-pub returns-in_err-put_out_details : goal.returns-in_err-put_out_details
-returns-in_err-put_out_details g c =
+pub returns-in_err-output_details : goal.returns-in_err-output_details
+returns-in_err-output_details g c =
     let h = unselected (inputs_of c.args.kept.now) in
-    let x = c.in_err-put_out_details.ensures in
+    let x = c.in_err-output_details.ensures in
     let is = c.from_residual.ensures.1 in
     record {
       goes = ok_of_err c.from_residual.result _ _ is;
-      stops = passed_map (Unit {0}) _ c.from_residual.result c.in_err-put_out_details.field-0.0 _ _ (λ e d. (h, ends e (d.each h))) is x.stops;
-      spends = passed_memory (Unit {0}) _ c.from_residual.result c.in_err-put_out_details.field-0.0 _ _ (λ s. and_less (rest_weight c.args.machine.now.program) s) is x.spends;
+      stops = passed_map (Unit {0}) _ c.from_residual.result c.in_err-output_details.field-0.0 _ _ (λ e d. (h, ends e (d.each h))) is x.stops;
+      spends = passed_memory (Unit {0}) _ c.from_residual.result c.in_err-output_details.field-0.0 _ _ (λ s. and_less (rest_weight c.args.machine.now.program) s) is x.spends;
       grows = x.grows;
     }
 
-pub returns-in_err-halt_where_asked : goal.returns-in_err-halt_where_asked
-returns-in_err-halt_where_asked g c =
+pub returns-in_err-halt_if_indicated : goal.returns-in_err-halt_if_indicated
+returns-in_err-halt_if_indicated g c =
     let h = unselected (inputs_of c.args.kept.now) in
-    let r = c.from_residual-in_err-halt_where_asked.result in
-    let is = c.from_residual-in_err-halt_where_asked.ensures.1 in
-    let lines = c.in_ok-put_out_details.ensures in
+    let r = c.from_residual-in_err-halt_if_indicated.result in
+    let is = c.from_residual-in_err-halt_if_indicated.ensures.1 in
+    let lines = c.in_ok-output_details.ensures in
     record {
       goes = ok_of_err r _ _ is;
-      stops = passed_map (Unit {0}) _ r c.in_err-halt_where_asked.field-0.0 _ _ (λ e d. (h, goes (lines.goes.each h) (ends e (d.each h)))) is c.in_err-halt_where_asked.ensures.stops;
+      stops = passed_map (Unit {0}) _ r c.in_err-halt_if_indicated.field-0.0 _ _ (λ e d. (h, goes (lines.goes.each h) (ends e (d.each h)))) is c.in_err-halt_if_indicated.ensures.stops;
       spends = memory_both r _ (and_less (rest_weight c.args.machine.now.program) lines.spends);
       grows = lines.grows;
     }
@@ -93,10 +93,10 @@ returns-in_err-selected g c =
     let h = unselected (inputs_of k) in
     let d = c.set_off.new.machine in
     let b = c.select_record.new.machine in
-    let lines = c.in_ok-put_out_details.ensures in
+    let lines = c.in_ok-output_details.ensures in
     let q1 = same_program lines.goes in
     let same = c.program-program.ensures ∙ same_program c.set_off.ensures.goes ∙ q1 in
-    let off = subst (λ (o : Object). DoesAlone (spec.set_off o) c.put_out_details.new.machine GoesOn d) q1 c.set_off.ensures.goes in
+    let off = subst (λ (o : Object). DoesAlone (spec.set_off o) c.output_details.new.machine Continues d) q1 c.set_off.ensures.goes in
     let s3 = at_no_cost lines.spends (of_same (λ (o : Object). 0) q1 c.set_off.ensures.spends) in
     let r = c.from_residual-in_err-selected.result in
     let is = c.from_residual-in_err-selected.ensures.1 in
@@ -104,7 +104,7 @@ returns-in_err-selected g c =
       goes = ok_of_err r _ _ is;
       stops = passed_map (Option ℕ) _ r c.in_err-selected.field-0.0 _ _
           (λ e d. let x = subst (λ (o : Object). EndsSelecting o k c.args.primary c.args.secondary c.set_off.new.machine (job_end e) b) same d in
-          (unselected x.inputs, first_three p h lines.goes c.in_ok-halt_where_asked.ensures.goes off (ends e x.does)))
+          (unselected x.inputs, first_three p h lines.goes c.in_ok-halt_if_indicated.ensures.goes off (ends e x.does)))
           is c.in_err-selected.ensures.stops;
       spends = passed_stops (Option ℕ) _ r c.in_err-selected.field-0.0 _ _
           (λ e x. and_then s3 (and_less (totals_weight p + (full_page_weight p + section_cost p sections.Detail)) (subst (λ (o : Object). Spends o (types_weight o.types) d b) same x.spends)))
@@ -121,12 +121,12 @@ returns-in_err-follow_selection g c =
     let h = unselected (inputs_of k) in
     let d = c.set_off.new.machine in
     let b = c.select_record.new.machine in
-    let lines = c.in_ok-put_out_details.ensures in
+    let lines = c.in_ok-output_details.ensures in
     let q1 = same_program lines.goes in
     let q3 = same_program c.set_off.ensures.goes ∙ q1 in
     let same = c.program-program.ensures ∙ q3 in
     let q4 = c.in_ok-selected.ensures.chosen.goes.program ∙ q3 in
-    let off = subst (λ (o : Object). DoesAlone (spec.set_off o) c.put_out_details.new.machine GoesOn d) q1 c.set_off.ensures.goes in
+    let off = subst (λ (o : Object). DoesAlone (spec.set_off o) c.output_details.new.machine Continues d) q1 c.set_off.ensures.goes in
     let chosen = subst (λ (o : Object). IsChosen o k c.args.primary c.args.secondary d t now b) same c.in_ok-selected.ensures.chosen in
     let s3 = at_no_cost lines.spends (of_same (λ (o : Object). 0) q1 c.set_off.ensures.spends) in
     let x = c.in_err-follow_selection.ensures in
@@ -139,7 +139,7 @@ returns-in_err-follow_selection g c =
           (λ e d.
           let y = subst (λ (o : Object). DoesHolding (after_selection o (left_of now) (match_by o now)) (holding_kept o now t) b (job_end e) c.follow_selection.new.machine) q4 d in (
             holding_kept p now t,
-            first_three p h lines.goes c.in_ok-halt_where_asked.ensures.goes off
+            first_three p h lines.goes c.in_ok-halt_if_indicated.ensures.goes off
                 (goes chosen.goes (by_left p t (text_in p now t) (inputs_of now) (left_of now) (left_of k) b c.follow_selection.new.machine (job_end e) (holding_kept p now t) chosen.left y)),
           ))
           is x.stops;
@@ -147,7 +147,7 @@ returns-in_err-follow_selection g c =
       grows = and_grows (and_same (and_grows lines.grows c.set_off.ensures.grows) c.in_ok-selected.ensures.output) x.grows;
     }
 
--- ---- where all of them go on
+-- ---- where all of them continue
 
 pub returns : goal.returns
 returns g c =
@@ -158,20 +158,20 @@ returns g c =
     let h = unselected (inputs_of k) in
     let d = c.set_off.new.machine in
     let b = c.select_record.new.machine in
-    let lines = c.in_ok-put_out_details.ensures in
+    let lines = c.in_ok-output_details.ensures in
     let q1 = same_program lines.goes in
     let q3 = same_program c.set_off.ensures.goes ∙ q1 in
     let same = c.program-program.ensures ∙ q3 in
     let q4 = c.in_ok-selected.ensures.chosen.goes.program ∙ q3 in
-    let off = subst (λ (o : Object). DoesAlone (spec.set_off o) c.put_out_details.new.machine GoesOn d) q1 c.set_off.ensures.goes in
+    let off = subst (λ (o : Object). DoesAlone (spec.set_off o) c.output_details.new.machine Continues d) q1 c.set_off.ensures.goes in
     let chosen = subst (λ (o : Object). IsChosen o k c.args.primary c.args.secondary d t now b) same c.in_ok-selected.ensures.chosen in
     let s3 = at_no_cost lines.spends (of_same (λ (o : Object). 0) q1 c.set_off.ensures.spends) in
     let x = c.in_ok-follow_selection.ensures in
-    let rest = subst (λ (o : Object). DoesHolding (after_selection o (left_of now) (match_by o now)) (holding_kept o now t) b GoesOn c.follow_selection.new.machine) q4 x.goes in
+    let rest = subst (λ (o : Object). DoesHolding (after_selection o (left_of now) (match_by o now)) (holding_kept o now t) b Continues c.follow_selection.new.machine) q4 x.goes in
     record {
       goes = record {
-        goes = first_three p h lines.goes c.in_ok-halt_where_asked.ensures.goes off
-            (goes chosen.goes (by_left p t (text_in p now t) (inputs_of now) (left_of now) (left_of k) b c.follow_selection.new.machine GoesOn (holding_kept p now t) chosen.left rest));
+        goes = first_three p h lines.goes c.in_ok-halt_if_indicated.ensures.goes off
+            (goes chosen.goes (by_left p t (text_in p now t) (inputs_of now) (left_of now) (left_of k) b c.follow_selection.new.machine Continues (holding_kept p now t) chosen.left rest));
         ready = x.ready;
         there = λ n e. (chosen.held n e).there;
         left = chosen.left;

@@ -1,6 +1,6 @@
 use Rattle.std.proofs.Common.{Err, ◌+◌, ◌≤◌, ◌^◌, sym, subst}
 use Rattle.rpg_cycle.proofs.Composing.{same_program, stops_map}
-use Rattle.rpg_cycle.proofs.Staging.{can_less, ends_free, ends_here, goes_free, goes_on, of_phase, of_test, still_few, unspent}
+use Rattle.rpg_cycle.proofs.Staging.{can_less, ends_free, ends_here, goes_free, continues, of_phase, of_test, still_few, unspent}
 use Rattle.rpg_cycle.specs.Doing.{holding_kept, match_by}
 use Rattle.rpg_cycle.specs.Spending.{detail_time_weight, reach, record_weight}
 use Rattle.rpg_cycle.specs.Staging.{DoesStage, KeepsSelected, detail_time}
@@ -40,7 +40,7 @@ returns-in_err-end_where_last g c =
     let h = holding_kept p k t in
     let totals = c.in_ok-take_total_time.ensures in
     let s = c.in_err-end_where_last.field-0.0 in
-    goes_on (detail_time_weight p t) (totals.goes.each h) totals.spends totals.grows
+    continues (detail_time_weight p t) (totals.goes.each h) totals.spends totals.grows
     (ends_free (detail_time_weight p t) s c.from_residual-in_err-end_where_last.result c.from_residual-in_err-end_where_last.ensures.1
     (of_test h s (stops_map {A = Unit {0}} (Err s) _ _ (λ e d. d (text_in p k t) (inputs_of k)) c.in_err-end_where_last.ensures.stops)))
 
@@ -54,5 +54,5 @@ returns g c =
     let totals = c.in_ok-take_total_time.ensures in
     let rest = subst (λ (o : Object). DoesStage o (detail_time o (match_by o k)) (detail_time_weight o t) (holding_kept o k t) b c.take_detail_time.result c.take_detail_time.new.machine)
     (same_program totals.goes) c.take_detail_time.ensures in
-    goes_on (detail_time_weight p t) (totals.goes.each h) totals.spends totals.grows
+    continues (detail_time_weight p t) (totals.goes.each h) totals.spends totals.grows
     (goes_free (detail_time_weight p t) (c.in_ok-end_where_last.ensures.goes (text_in p k t) (inputs_of k)) (unspent p b) (grows_not b.output) rest)

@@ -12,8 +12,8 @@ use Rattle.rpg_cycle.proofs.phases.do_totals.Goals as goal
 pub calculate-requires-clause-can : goal.calculate-requires-clause-can
 calculate-requires-clause-can g c = can_do c.requires
 
-pub put_out-requires : goal.put_out-requires
-put_out-requires g c = record {
+pub output_lines-requires : goal.output_lines-requires
+output_lines-requires g c = record {
   ready = c.in_ok-calculate.ensures.ready;
   few = lines_few c.args.machine.now.program c.requires.few c.in_ok-calculate.ensures.spends
       (subst (λ (o : Object). cycle_weight o ≤ bound o) c.program.ensures c.is_bounded.ensures.sum)
@@ -26,4 +26,4 @@ returns-in_err-calculate g c =
     phase_ends (output p times.Total) (output_weight p times.Total) c.in_err-calculate.field-0.0 c.from_residual.result c.from_residual.ensures.1 c.in_err-calculate.ensures
 
 pub returns : goal.returns
-returns g c = phase_then (λ (o : Object). output o times.Total) (λ (o : Object). output_weight o times.Total) c.in_ok-calculate.ensures c.put_out.ensures
+returns g c = phase_then (λ (o : Object). output o times.Total) (λ (o : Object). output_weight o times.Total) c.in_ok-calculate.ensures c.output_lines.ensures

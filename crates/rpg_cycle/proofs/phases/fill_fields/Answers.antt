@@ -6,7 +6,7 @@ use Rattle.rpg_cycle.proofs.Growing.{did_grow}
 use Rattle.rpg_cycle.proofs.Machining.{filled, nothing_filled}
 use Rattle.rpg_cycle.proofs.Spending.{costs_none, fields_spend}
 use Rattle.rpg_cycle_records.specs.Holding.{text_in}
-use Rattle.rpg_cycle.specs.Ends.{GoesOn, phase_end}
+use Rattle.rpg_cycle.specs.Ends.{Continues, phase_end}
 use Rattle.rpg_cycle.specs.Spending.{Spends, fields_weight}
 use Rattle.rpg_cycle.specs.Stages.{job_end}
 use Rattle.rpg_program.proofs.Fronts.{grows_not}
@@ -43,7 +43,7 @@ returns-in-Some g c =
     let did = subst (λ (z : List ℕ). Did (FillsFields p t z) a (effects.end_of last) b) same c.fill_fields-end.ensures.done in
     λ i. record {
       goes = ok_map c.go_on.result _ _
-          (λ x h. filled i c.args.selected t full a b _ GoesOn c.in-Some.is (ap (λ (x : answers.End). phase_end (effects.end_of x)) h) did) c.go_on.ensures.goes;
+          (λ x h. filled i c.args.selected t full a b _ Continues c.in-Some.is (ap (λ (x : answers.End). phase_end (effects.end_of x)) h) did) c.go_on.ensures.goes;
       stops = stops_map c.go_on.result _ _ (λ e h. filled i c.args.selected t full a b _ (job_end e) c.in-Some.is h did) c.go_on.ensures.stops;
       ready = ok_map c.go_on.result _ _ (λ x h. c.fill_fields-end.ensures.ready h) c.go_on.ensures.goes;
       spends = memory_both c.go_on.result _

@@ -3,7 +3,7 @@ use Rattle.rpg_cycle.proofs.Composing.{ends, goes, of_none, passed_with}
 use Rattle.rpg_cycle.proofs.Selecting.{at_last, not_last}
 use Rattle.rpg_cycle.proofs.Spending.{both_paid, both_taken, taken_paid, turned_paid}
 use Rattle.rpg_cycle.specs.Doing.{holding, next_text, unselected}
-use Rattle.rpg_cycle.specs.Ends.{GoesOn}
+use Rattle.rpg_cycle.specs.Ends.{Continues}
 use Rattle.rpg_cycle.specs.Stages.{job_end}
 use Rattle.rpg_cycle_records.specs.Holding.{input_state_of, inputs_of, text_in}
 use Rattle.rpg_cycle_records.specs.Keeping.{left_of}
@@ -62,7 +62,7 @@ returns-clause-chosen g c =
     let picked = c.in_ok-row.ensures.picked in
     record {
       goes = not_last p left (next_text c.args.primary) (next_text c.args.secondary) c.args.machine.now c.select_one.new.machine (unselected i)
-          (holding (inputs_of c.select_one.new.kept) c.in_ok-row.row (text_in p c.select_one.new.kept c.in_ok-row.row)) GoesOn (sym c.indicator.ensures ∙ c.if-indicator.false)
+          (holding (inputs_of c.select_one.new.kept) c.in_ok-row.row (text_in p c.select_one.new.kept c.in_ok-row.row)) Continues (sym c.indicator.ensures ∙ c.if-indicator.false)
           (goes (c.in_ok-take_in.ensures.goes left i refl refl) (goes (c.in_ok-take_in-2.ensures.goes left j refl refl) picked.goes));
       ready = picked.ready (second.taken.ready (first.taken.ready c.requires.ready));
       spends = both_paid p c.in_ok-row.row c.args.machine.now c.take_in.new.machine c.take_in-2.new.machine c.select_one.new.machine first.takes second.takes picked.spends;

@@ -2,7 +2,7 @@ use Rattle.std.proofs.Common.{◌∙◌, Some, sym, ap}
 use Rattle.rpg_cycle.proofs.Composing.{ok_map, stops_map}
 use Rattle.rpg_cycle.proofs.Selecting.{asked, leaves_none, over_kept}
 use Rattle.rpg_cycle.specs.Doing.{next_text}
-use Rattle.rpg_cycle.specs.Ends.{GoesOn}
+use Rattle.rpg_cycle.specs.Ends.{Continues}
 use Rattle.rpg_cycle.specs.Stages.{job_end}
 use Rattle.rpg_cycle_records.specs.Holding.{input_state_of, takes_from}
 use Rattle.rpg_cycle_records.specs.Waiting.{with_input}
@@ -13,7 +13,7 @@ returns-clause-goes g c =
     let p = c.args.program.now in
     let f = c.args.file in
     ok_map c.read.result _ _
-    (λ x h left i last at. asked p left f (next_text c.args.next) (Some c.in-Some.text.now) i (with_input f (input_state_of c.read.new.kept) i) c.args.machine.now c.read.new.machine GoesOn
+    (λ x h left i last at. asked p left f (next_text c.args.next) (Some c.in-Some.text.now) i (with_input f (input_state_of c.read.new.kept) i) c.args.machine.now c.read.new.machine Continues
     (ap (takes_from p f) at ∙ sym c.takes_in.ensures ∙ c.if-not-takes_in.false) (ap next_text c.in-Some.is) (h left i last at))
     c.read.ensures.goes
 

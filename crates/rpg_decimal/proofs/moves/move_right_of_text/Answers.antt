@@ -9,7 +9,7 @@ inside c =
     let text = c.args.text.now in
     let old = c.write_zoned.new.text in
     let long : length old ≡ c.args.before.len = omega (arith, c.write_zoned.auto.text, length-take {A = ℕ}, c.from.ensures, c.args.before.len_high) in
-    omega (arith, long, bad_in_source text old c.in-Err.bad.spot c.write_zoned.ensures.spells.good (subst (λ t. IsFirstBad t c.in-Err.bad.spot) c.overlay_right.ensures c.in-Err.ensures.bad))
+    omega (arith, long, bad_in_source text old c.in-Err.bad.spot c.write_zoned.ensures.spells.valid (subst (λ t. IsFirstBad t c.in-Err.bad.spot) c.overlay_right.ensures c.in-Err.ensures.bad))
 
 pub overflow_sub-result : goal.overflow_sub-result
 overflow_sub-result c = omega (arith, inside c, c.from-in-Err.ensures)

@@ -1,6 +1,6 @@
 use Rattle.std.proofs.Common.{◌+◌, ◌*◌, ap₂, sym, ◌∙◌, arith, below_more}
 use Rattle.std.proofs.lemmas.Nat.{pow-add}
-use Rattle.rpg_decimal_words.specs.Zoned.{digit_of, IsGoodAt}
+use Rattle.rpg_decimal_words.specs.Zoned.{digit_of, IsValidAt}
 use Rattle.rpg_decimal.proofs.WholeLemmas.{ten_le}
 use Rattle.rpg_decimal.proofs.PlaceLemmas.{place_value_more}
 use Rattle.rpg_decimal.proofs.zoned.read_digits.Goals as goal
@@ -16,7 +16,7 @@ loop-spot-preserved c =
     let i = c.loop-spot.spot in
     let s = c.args.text.now in
     record {
-      good = below_more (IsGoodAt s) i c.loop-spot.invariant.good (sym c.if-not-may_stand.ensures);
+      valid = below_more (IsValidAt s) i c.loop-spot.invariant.valid (sym c.if-not-may_stand.ensures);
       size_is =
           ap₂ (λ n d. n * 10 + d) c.loop-spot.invariant.size_is (c.from.ensures ∙ c.digit_of.ensures.value)
           ∙ sym (place_value_more digit_of s i (omega arith));

@@ -1,7 +1,7 @@
 use Rattle.std.proofs.Common.{Some, length, ap, sym, ◌∙◌, arith}
 use Rattle.std.proofs.lemmas.Int.{ints}
 use Rattle.rpg_decimal.proofs.WholeLemmas.{ten_le}
-use Rattle.rpg_decimal.proofs.ZonedLemmas.{number_none, number_some, numeric_from_good, spelled-minus, spelled-plus, minus_back, plus_back, none_from_err}
+use Rattle.rpg_decimal.proofs.ZonedLemmas.{number_none, number_some, numeric_from_valid, spelled-minus, spelled-plus, minus_back, plus_back, none_from_err}
 use Rattle.rpg_decimal.proofs.zoned.read_zoned.Goals as goal
 
 pub overflow_cast-result : goal.overflow_cast-result
@@ -31,7 +31,7 @@ returns-then-is_minus-clause-ok c =
     let ten = ten_le (length c.args.text.now) 15 c.requires.high in
     let below = c.in_ok-size.ensures.fits in
     record {
-      good = numeric_from_good c.args.text.now c.in_ok-size.ensures.good;
+      valid = numeric_from_valid c.args.text.now c.in_ok-size.ensures.valid;
       value = minus_back c.in_ok-size.size (omega arith) ∙ spelled-minus c.args.text.now c.in_ok-size.size (sym c.if-is_minus.ensures) c.in_ok-size.ensures.value;
     }
 
@@ -40,14 +40,14 @@ returns-then-is_minus-clause-number c =
     let ten = ten_le (length c.args.text.now) 15 c.requires.high in
     let below = c.in_ok-size.ensures.fits in
     ap Some (minus_back c.in_ok-size.size (omega arith) ∙ spelled-minus c.args.text.now c.in_ok-size.size (sym c.if-is_minus.ensures) c.in_ok-size.ensures.value)
-    ∙ sym (number_some c.args.text.now (numeric_from_good c.args.text.now c.in_ok-size.ensures.good))
+    ∙ sym (number_some c.args.text.now (numeric_from_valid c.args.text.now c.in_ok-size.ensures.valid))
 
 pub returns-clause-ok : goal.returns-clause-ok
 returns-clause-ok c =
     let ten = ten_le (length c.args.text.now) 15 c.requires.high in
     let below = c.in_ok-size.ensures.fits in
     record {
-      good = numeric_from_good c.args.text.now c.in_ok-size.ensures.good;
+      valid = numeric_from_valid c.args.text.now c.in_ok-size.ensures.valid;
       value = plus_back c.in_ok-size.size (omega arith) ∙ spelled-plus c.args.text.now c.in_ok-size.size (sym c.if-is_minus.ensures) c.in_ok-size.ensures.value;
     }
 
@@ -56,4 +56,4 @@ returns-clause-number c =
     let ten = ten_le (length c.args.text.now) 15 c.requires.high in
     let below = c.in_ok-size.ensures.fits in
     ap Some (plus_back c.in_ok-size.size (omega arith) ∙ spelled-plus c.args.text.now c.in_ok-size.size (sym c.if-is_minus.ensures) c.in_ok-size.ensures.value)
-    ∙ sym (number_some c.args.text.now (numeric_from_good c.args.text.now c.in_ok-size.ensures.good))
+    ∙ sym (number_some c.args.text.now (numeric_from_valid c.args.text.now c.in_ok-size.ensures.valid))

@@ -4,7 +4,7 @@ use Rattle.rpg_cycle.specs.Job.{AtWork}
 use Rattle.rpg_files.specs.Counting.{device_of}
 use Rattle.rpg_files.specs.Reading.{reader_of}
 use Rattle.rpg_engine.proofs.Headline.{runs_on_day, with_run}
-use Rattle.rpg_engine.proofs.Refusing.{no_room, not_started, on_err, on_ok, parts_same, reports_same, start_told, told_of_run}
+use Rattle.rpg_engine.proofs.Refusing.{no_room, not_started, on_err, on_ok, parts_same, reports_same, start_reported, reported_of_run}
 use Rattle.rpg_engine.proofs.Whose.{same_fault, start_faults}
 use Rattle.rpg_engine.specs.declared.report.Report.{Report}
 use Rattle.rpg_engine.proofs.engine.run_through_files.Goals as goal
@@ -15,7 +15,7 @@ pub returns-in_err-job-clause-runs : goal.returns-in_err-job-clause-runs
 returns-in_err-job-clause-runs g c =
     let e = err_from_is_err_and c.from_residual.result c.from_residual.ensures.1 in
     rw (e.1, e.2) (record {
-      refused = start_told _ _ (λ is. c.in_err-job.ensures.date (ap Err is));
+      refused = start_reported _ _ (λ is. c.in_err-job.ensures.date (ap Err is));
       untouched = λ none. (refl, refl);
       alone = λ none. refl;
       run = λ day dated. record {
@@ -80,7 +80,7 @@ returns-clause-runs g c =
     let same : reader_of ran.new.primary ≡ c.primary-1.given.0 = search rules in
     let same_too : reader_of ran.new.secondary ≡ c.secondary-1.given.0 = search rules in
     record {
-      refused = told_of_run ran.result c.args.date.now (start.number, start.spelled) ran.ensures.only;
+      refused = reported_of_run ran.result c.args.date.now (start.number, start.spelled) ran.ensures.only;
       untouched = λ none. absurd (let dated = start.spelled in cc);
       alone = λ none. sym same_too ∙ ap (λ r. reader_of r) (ran.ensures.alone (ap (λ (j : AtWork). j.program.secondary_length) start.job ∙ none)) ∙ c.new-others.ensures.untouched;
       run = λ day dated. runs_on_day _ _ _ _ c.args.program.now day _ _ _ _ _

@@ -9,7 +9,7 @@ use Rattle.rpg_engine.specs.Outputs.{bytes_for}
 use Rattle.rpg_engine.specs.Streaming.{ended_stage}
 use Rattle.rpg_engine.specs.declared.files.OutputFile.{OutputFile}
 use Rattle.rpg_engine.specs.declared.report.Report.{Report}
-use Rattle.rpg_engine.proofs.Flows.{cycled, flow_begins, flow_goes_on, flow_sends}
+use Rattle.rpg_engine.proofs.Flows.{cycled, flow_begins, flow_continues, flow_sends}
 use Rattle.rpg_engine.proofs.Outputs.{can_fail, none_for, unsent}
 use Rattle.rpg_engine.proofs.Sent.{all_sent, front_is, goes_out}
 use Rattle.rpg_engine.proofs.Stopping.{moved_by, none_waits, some_have, some_of_run, some_parts, stays_there, stop_counts, stop_has, stop_needs, stop_of_run, stop_parts, stopped_after, stopped_between, stream_reports, writers_count, writers_of, writers_read}
@@ -179,7 +179,7 @@ returns-in_err-send_where_enough-clause-faults g c =
     let out = c.in_ok-send_before_reading.ensures.sends.out in
     let takes = c.in-Ok.ensures.cycle in
     rw (e.1, e.2) (some_faults _ _ _ _ _ _ _ _ _ _ Report c.in_err-send_where_enough.ensures.sends
-    (faults_stay g.R1.Read.remaining _ _ _ _ takes.asks_primary ∙ i.primary) (faults_stay g.R2.Read.remaining _ _ _ _ takes.asks_secondary ∙ i.secondary)
+    (faults_stay g.R1.Read.remaining _ _ _ _ takes.reads_primary ∙ i.primary) (faults_stay g.R2.Read.remaining _ _ _ _ takes.reads_secondary ∙ i.secondary)
     (λ file. (out file).faults ∙ (i.flows.sent file).faults) (λ file. refl))
 
 pub returns-in-Some-clause-report : goal.returns-in-Some-clause-report
@@ -212,7 +212,7 @@ returns-in-Some-clause-faults g c =
     let takes = c.in-Ok.ensures.cycle in
     let out = c.in_ok-send_before_reading.ensures.sends.out in
     let last = c.in_ok-send_where_enough.ensures.sends.out in
-    none_rises _ _ (faults_stay g.R1.Read.remaining _ _ _ _ takes.asks_primary ∙ i.primary) (faults_stay g.R2.Read.remaining _ _ _ _ takes.asks_secondary ∙ i.secondary)
+    none_rises _ _ (faults_stay g.R1.Read.remaining _ _ _ _ takes.reads_primary ∙ i.primary) (faults_stay g.R2.Read.remaining _ _ _ _ takes.reads_secondary ∙ i.secondary)
     (λ file. (last file).faults ∙ (out file).faults ∙ (i.flows.sent file).faults)
 
 pub cycles-preserved : goal.cycles-preserved
@@ -239,7 +239,7 @@ cycles-preserved g c =
     ready takes s.earlier s.left s.orderly (last_position s.out.lines) s.last stage in
     let all = c.in_ok-send_where_enough.ensures.sends in
     let next = c.send_where_enough.new.job in
-    let on = flow_goes_on c.args.job.now job _ _ a b c.cycles.cycles c.cycles.most _ _ f mid a' b' k c.max-most.result (went k.ending (sym k.takes.does.stage ∙ stage)) most in
+    let on = flow_continues c.args.job.now job _ _ a b c.cycles.cycles c.cycles.most _ _ f mid a' b' k c.max-most.result (went k.ending (sym k.takes.does.stage ∙ stage)) most in
     let later = flow_sends c.args.job.now mid _ _ a' b' _ _ _ _ on next _ all in
     record {
       flows = later;
@@ -250,6 +250,6 @@ cycles-preserved g c =
       few = let one = few_given c.next_cycle.new.primary in let two = few_given c.next_cycle.new.secondary in let few = later.streams.few in omega (arith, one, two, few);
       few_sent = λ file. omega (arith, (sends.out file).count, (sends.out file).few, (all.out file).count, (all.out file).few, i.few_sent file);
       bounded = omega (arith, few, most);
-      primary = faults_stay g.R1.Read.remaining _ _ _ _ takes.asks_primary ∙ i.primary;
-      secondary = faults_stay g.R2.Read.remaining _ _ _ _ takes.asks_secondary ∙ i.secondary;
+      primary = faults_stay g.R1.Read.remaining _ _ _ _ takes.reads_primary ∙ i.primary;
+      secondary = faults_stay g.R2.Read.remaining _ _ _ _ takes.reads_secondary ∙ i.secondary;
     }

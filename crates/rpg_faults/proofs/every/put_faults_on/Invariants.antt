@@ -1,10 +1,10 @@
 use Rattle.std.proofs.Common.{◌≡◌, ◌++◌, drop, map}
 use Rattle.std.specs.Prelude.{filter}
 use Rattle.rpg_faults.specs.Rules.{rule}
-use Rattle.rpg_faults.specs.Told.{told_by, told_on}
+use Rattle.rpg_faults.specs.Reported.{reported_by, reported_on}
 use Rattle.rpg_faults.proofs.every.put_faults_on.Given as goal
 
 abbrev pub invariant-loop-code : goal.invariant-loop-code
 invariant-loop-code l =
-    l.faults.items ++ map (told_by l.seen.before.now l.card l.after) (filter (λ code. rule code l.seen.before.now l.card l.after) (drop l.code-index l.code-items))
-    ≡ l.initial.faults.items ++ told_on l.seen.before.now l.card l.after
+    l.faults.items ++ map (reported_by l.seen.before.now l.card l.after) (filter (λ code. rule code l.seen.before.now l.card l.after) (drop l.code-index l.code-items))
+    ≡ l.initial.faults.items ++ reported_on l.seen.before.now l.card l.after

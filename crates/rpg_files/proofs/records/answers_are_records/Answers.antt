@@ -1,5 +1,5 @@
-use Rattle.rpg_files.proofs.Calls.{all_told}
+use Rattle.rpg_files.proofs.Calls.{all_reported}
 use Rattle.rpg_files.proofs.records.answers_are_records.Goals as goal
 
 pub returns : goal.returns
-returns c = all_told
+returns c = all_reported

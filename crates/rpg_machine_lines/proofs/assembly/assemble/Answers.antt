@@ -50,7 +50,7 @@ fields-preserved g c =
           c.fields.invariant.len c.with_planned_field.auto.text c.with_planned_field.ensures.drafted
           ∙ c.fields.invariant.following;
       onward = field_next m len c.fields.memory left following f _ _ c.with_planned_field.result _
-          same is c.in-GoesOn.is c.fields.invariant.len c.with_planned_field.ensures.drafted
+          same is c.in-Continues.is c.fields.invariant.len c.with_planned_field.ensures.drafted
           ∙ c.fields.invariant.onward;
     }
 

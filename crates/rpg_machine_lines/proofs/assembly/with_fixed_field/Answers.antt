@@ -14,7 +14,7 @@ pub lay_fixed_value-requires-clause-entry : goal.lay_fixed_value-requires-clause
 lay_fixed_value-requires-clause-entry g c =
     let m = c.args.memory.now in
     let ok = right _ _ _ _ c.requires.right in
-    fixed_there m.program.fields c.args.field.now c.args.fixed.now c.requires.fixed m.world.data.fields c.is_kept.ensures.good c.is_kept.ensures.fits ok.there ok.index
+    fixed_there m.program.fields c.args.field.now c.args.fixed.now c.requires.fixed m.world.data.fields c.is_kept.ensures.valid c.is_kept.ensures.fits ok.there ok.index
 
 pub lay_fixed_value-requires-clause-place : goal.lay_fixed_value-requires-clause-place
 lay_fixed_value-requires-clause-place g c =
@@ -25,7 +25,7 @@ pub remember-requires-clause-entry : goal.remember-requires-clause-entry
 remember-requires-clause-entry g c =
     let m = c.args.memory.now in
     let ok = right _ _ _ _ c.requires.right in
-    fixed_there m.program.fields c.args.field.now c.args.fixed.now c.requires.fixed m.world.data.fields c.is_kept.ensures.good c.is_kept.ensures.fits ok.there ok.index
+    fixed_there m.program.fields c.args.field.now c.args.fixed.now c.requires.fixed m.world.data.fields c.is_kept.ensures.valid c.is_kept.ensures.fits ok.there ok.index
 
 pub returns-clause-drafted : goal.returns-clause-drafted
 returns-clause-drafted g c =

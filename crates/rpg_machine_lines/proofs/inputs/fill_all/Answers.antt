@@ -27,6 +27,6 @@ fields-preserved g c =
       rest = c.fill_one.ensures.rest ∙ ap (data_put new.world.data) same;
       right = All-rest (λ x. input_fault (forms_in m) (length c.args.text.now) x ≡ None) f following left is c.fields.invariant.right;
       found = inputs_after_first m.program.fields left following f c.fields.found.now is c.fields.invariant.found;
-      onward = field_next m c.fields.memory c.args.text.now left following f c.fill_one.result new.world.data same is c.in-GoesOn.is c.fill_one.ensures.leaves
+      onward = field_next m c.fields.memory c.args.text.now left following f c.fill_one.result new.world.data same is c.in-Continues.is c.fill_one.ensures.leaves
           ∙ c.fields.invariant.onward;
     }

@@ -13,7 +13,7 @@ fill_number-requires g c =
     let forms = c.args.memory.now.program.fields in
     let fits = fits_field forms (length c.args.text.now) c.args.input.now c.requires.right in
     record {
-      field = value_there forms (length c.args.text.now) c.args.input.now kinds.Number c.is_kept.ensures.good fits (sym c.in-Number.is ∙ c.requires.fixed.kind);
+      field = value_there forms (length c.args.text.now) c.args.input.now kinds.Number c.is_kept.ensures.valid fits (sym c.in-Number.is ∙ c.requires.fixed.kind);
       fixed = c.requires.fixed;
       long = long_there forms (length c.args.text.now) _ c.args.input.now fits c.columns_of-part.ensures.length;
     }
@@ -23,7 +23,7 @@ fill_text-requires-clause-fill g c =
     let forms = c.args.memory.now.program.fields in
     let fits = fits_field forms (length c.args.text.now) c.args.input.now c.requires.right in
     record {
-      field = value_there forms (length c.args.text.now) c.args.input.now kinds.Text c.is_kept.ensures.good fits (sym c.in-Text.is ∙ c.requires.fixed.kind);
+      field = value_there forms (length c.args.text.now) c.args.input.now kinds.Text c.is_kept.ensures.valid fits (sym c.in-Text.is ∙ c.requires.fixed.kind);
       fixed = c.requires.fixed;
       long = long_there forms (length c.args.text.now) _ c.args.input.now fits c.columns_of-part.ensures.length;
     }

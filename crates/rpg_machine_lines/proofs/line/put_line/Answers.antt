@@ -1,6 +1,6 @@
 use Rattle.std.proofs.Common.{ℕ, List, ap, ◌∙◌, replicate, subst, sym}
 use Rattle.rpg_program.proofs.Fronts.{grows_not}
-use Rattle.rpg_program.specs.Ends.{GoesOn, Halt, end_of}
+use Rattle.rpg_program.specs.Ends.{Continues, Halt, end_of}
 use Rattle.rpg_program.specs.Forms.{form_at}
 use Rattle.rpg_program.specs.Halts.{halt_number}
 use Rattle.rpg_program.specs.Lines.{blanked_all, put_on}
@@ -51,11 +51,11 @@ returns-clause-done g c =
     let long = c.fill_blanks.auto.text ∙ c.requires.len in
     let blank = c.fill_blanks.ensures ∙ ap (λ (n : ℕ). replicate n 32) c.requires.len in
     let a = assembled_from (form_at p.fields) (word_at p) m.world.data.on m.world.data.fields c.assemble.result
-    GoesOn d _ l.len c.deref.result.now l.fields _ _
-    (ap end_of c.in-GoesOn.is) long c.deref.ensures.value blank c.clear.ensures c.assemble.ensures.drafted in
+    Continues d _ l.len c.deref.result.now l.fields _ _
+    (ap end_of c.in-Continues.is) long c.deref.ensures.value blank c.clear.ensures c.assemble.ensures.drafted in
     let placed = c.put_on.new.memory in
     let drafted = c.assemble.ensures.changes.rest in
-    let put = subst (λ (x : Working). IsDone (put_on x.program.overflow l.file l.spacing d.text) (held_of x) (output_of c.args.output.now) GoesOn (held_of placed) (output_of c.put_on.new.output)) drafted
+    let put = subst (λ (x : Working). IsDone (put_on x.program.overflow l.file l.spacing d.text) (held_of x) (output_of c.args.output.now) Continues (held_of placed) (output_of c.put_on.new.output)) drafted
     c.in_ok-put_on.ensures.done in
     let blanked = c.blank_all.ensures ∙ ap (λ (es : List (ℕ × ℕ)). fields_replaced (blanked_all es placed.world.data.fields) placed) c.as_slice.ensures.value in
     line_placed (form_at p.fields) (word_at p) p.overflow l (held_of m) (output_of c.args.output.now) d (held_of placed)

@@ -1,7 +1,7 @@
 use Rattle.std.proofs.Common.{ap, ◌∙◌}
 use Rattle.rpg_program.proofs.Putting.{quiet_done}
 use Rattle.rpg_program.specs.Effect.{Leaves}
-use Rattle.rpg_program.specs.Ends.{GoesOn}
+use Rattle.rpg_program.specs.Ends.{Continues}
 use Rattle.rpg_program.specs.Lines.{settled}
 use Rattle.rpg_program.specs.Put.{on_paper}
 use Rattle.rpg_program.specs.declared.line.Pass.TheVariants as passes
@@ -19,8 +19,8 @@ returns-clause-done g c =
     let q = output_of c.args.output.now in
     let o = output_of c.put_lines.new.output in
     let u = held_of c.settle.new.self in
-    went_on (passage_effect p passes.Detail) (λ x. Leaves (settled p.overflow x)) w v q o _ c.in_ok-put_lines.ensures.done u o GoesOn c.in-GoesOn.is
-    (quiet_done (settled p.overflow) GoesOn v u o (ap (λ (m : Working). m.last) c.settle.ensures)
+    went_on (passage_effect p passes.Detail) (λ x. Leaves (settled p.overflow x)) w v q o _ c.in_ok-put_lines.ensures.done u o Continues c.in-Continues.is
+    (quiet_done (settled p.overflow) Continues v u o (ap (λ (m : Working). m.last) c.settle.ensures)
     (λ x. ap (λ (m : Working). on_paper x m.world) c.settle.ensures ∙ ap (λ (p : Object). on_paper x (settled p.overflow v.world)) c.put_lines.ensures.kept.program))
 
 pub returns-in-Halt-clause-done : goal.returns-in-Halt-clause-done

@@ -20,7 +20,7 @@ returns-clause-done g c =
     let t = output_of c.put_overflow_details.new.output in
     let total = passage_effect p passes.OverflowTotal in
     ok_each c.put_overflow_details.result _ _
-    (λ e h. went_on total (overflow_detail_effect p) w v q o _ c.in_ok-put_lines.ensures.done u t (end_of e) c.in-GoesOn.is
+    (λ e h. went_on total (overflow_detail_effect p) w v q o _ c.in_ok-put_lines.ensures.done u t (end_of e) c.in-Continues.is
     (subst (λ (x : Object). IsDone (overflow_detail_effect x) v o (end_of e) u t) c.put_lines.ensures.kept.program h))
     c.put_overflow_details.ensures.done
 

@@ -1,7 +1,7 @@
 use Rattle.std.proofs.Common.{ap}
 use Rattle.rpg_program.proofs.Putting.{quiet_done}
 use Rattle.rpg_program.specs.Effect.{Leaves}
-use Rattle.rpg_program.specs.Ends.{GoesOn}
+use Rattle.rpg_program.specs.Ends.{Continues}
 use Rattle.rpg_program.specs.Lines.{movements_watched}
 use Rattle.rpg_program.specs.Put.{on_paper}
 use Rattle.rpg_program.specs.declared.line.Pass.TheVariants as passes
@@ -18,8 +18,8 @@ returns-clause-done g c =
     let q = output_of c.args.output.now in
     let o = output_of c.put_lines.new.output in
     let u = held_of c.watch_movements.new.self in
-    went_on (passage_effect p passes.OverflowDetail) (λ x. Leaves (movements_watched x)) w v q o _ c.in_ok-put_lines.ensures.done u o GoesOn c.in-GoesOn.is
-    (quiet_done (movements_watched) GoesOn v u o (ap (λ (m : Working). m.last) c.watch_movements.ensures) (λ x. ap (λ (m : Working). on_paper x m.world) c.watch_movements.ensures))
+    went_on (passage_effect p passes.OverflowDetail) (λ x. Leaves (movements_watched x)) w v q o _ c.in_ok-put_lines.ensures.done u o Continues c.in-Continues.is
+    (quiet_done (movements_watched) Continues v u o (ap (λ (m : Working). m.last) c.watch_movements.ensures) (λ x. ap (λ (m : Working). on_paper x m.world) c.watch_movements.ensures))
 
 pub returns-in-Halt-clause-done : goal.returns-in-Halt-clause-done
 returns-in-Halt-clause-done g c =

@@ -1,7 +1,7 @@
 use Rattle.std.proofs.Common.{arith}
 use Rattle.std.proofs.lemmas.Result.{err_from_is_err_and}
 use Rattle.rpg_object_format.specs.Format.{times_with}
-use Rattle.rpg_object_format.proofs.Loop.{goes_on, ends, is_done}
+use Rattle.rpg_object_format.proofs.Loop.{continues, ends, is_done}
 use Rattle.rpg_object.specs.Fields.{field, fields, storage_after}
 use Rattle.rpg_object.proofs.FieldLaws.{fields_lengths, fields_law}
 use Rattle.rpg_object.proofs.field.fields_at.Goals as goal
@@ -14,7 +14,7 @@ returns-in_err-field-clause-read c =
 
 pub loop-preserved : goal.loop-preserved
 loop-preserved c =
-    rw (c.in_ok-push.ensures.items, c.saturating_sub-storage.ensures) (goes_on (λ s b. (field s).reading b) storage_after c.loop.fields.items c.args.count c.loop.counter c.loop.storage c.loop.rest.now c.in_ok-field.field c.in_ok-field.after.now _ c.loop-test.true c.in_ok-field.ensures c.loop.invariant)
+    rw (c.in_ok-push.ensures.items, c.saturating_sub-storage.ensures) (continues (λ s b. (field s).reading b) storage_after c.loop.fields.items c.args.count c.loop.counter c.loop.storage c.loop.rest.now c.in_ok-field.field c.in_ok-field.after.now _ c.loop-test.true c.in_ok-field.ensures c.loop.invariant)
 
 pub returns-clause-read : goal.returns-clause-read
 unfolding fields times_with

@@ -3,7 +3,7 @@ use Rattle.std.proofs.lemmas.List.{map-append}
 use Rattle.std.proofs.lemmas.Result.{err_from_is_err_and}
 use Rattle.rpg_program.specs.Values.{held}
 use Rattle.rpg_object_format.specs.Format.{keep, times_with}
-use Rattle.rpg_object_format.proofs.Loop.{goes_on, ends, is_done}
+use Rattle.rpg_object_format.proofs.Loop.{continues, ends, is_done}
 use Rattle.rpg_object.specs.FirstValues.{entries_format, value}
 use Rattle.rpg_object.proofs.first_value.entries_at.Goals as goal
 
@@ -15,7 +15,7 @@ returns-in_err-value c =
 
 pub loop-preserved : goal.loop-preserved
 loop-preserved c =
-    rw (c.in_ok-push.ensures.items, map-append held c.loop.entries.items (c.in_ok-value.value ∷ [])) (goes_on (λ s b. (value c.args.form.kind c.args.form.length).reading b) keep (map held c.loop.entries.items) c.args.form.entries c.loop.counter tt c.loop.rest.now (held c.in_ok-value.value) c.in_ok-value.after.now _ c.loop-test.true c.in_ok-value.ensures c.loop.invariant)
+    rw (c.in_ok-push.ensures.items, map-append held c.loop.entries.items (c.in_ok-value.value ∷ [])) (continues (λ s b. (value c.args.form.kind c.args.form.length).reading b) keep (map held c.loop.entries.items) c.args.form.entries c.loop.counter tt c.loop.rest.now (held c.in_ok-value.value) c.in_ok-value.after.now _ c.loop-test.true c.in_ok-value.ensures c.loop.invariant)
 
 pub returns : goal.returns
 unfolding entries_format times_with

@@ -4,7 +4,7 @@ use Rattle.std.proofs.lemmas.Result.{err_from_is_err_and}
 use Rattle.rpg_program.specs.Values.{held}
 use Rattle.rpg_object_format.specs.Format.{times_with}
 use Rattle.rpg_object_format.specs.Reading.{Fails}
-use Rattle.rpg_object_format.proofs.Loop.{goes_on, ends, is_done}
+use Rattle.rpg_object_format.proofs.Loop.{continues, ends, is_done}
 use Rattle.rpg_object.specs.FirstValues.{values_format, next_entries, later_fields}
 use Rattle.rpg_object.proofs.FieldsLeft.{next_entries-drop, later_fields-drop}
 use Rattle.rpg_object.proofs.first_value.values_at.Goals as goal
@@ -20,7 +20,7 @@ pub loop-field-preserved : goal.loop-field-preserved
 loop-field-preserved c =
     let same = ap (λ f. f.reading c.loop-field.rest.now) (next_entries-drop c.args.fields.now c.loop-field.field-index _ c.loop-field-test.true) in
     let later = later_fields-drop c.args.fields.now c.loop-field.field-index (map held c.in_ok-entries.entries.items) in
-    rw (c.in_ok-push.ensures.items, map-append (λ vs. map held vs.items) c.loop-field.values.items (c.in_ok-entries.entries ∷ []), ← later) (goes_on (λ s b. (next_entries s).reading b) later_fields (map (λ vs. map held vs.items) c.loop-field.values.items) (length c.args.fields.now) c.loop-field.field-index (drop c.loop-field.field-index c.args.fields.now) c.loop-field.rest.now (map held c.in_ok-entries.entries.items) c.in_ok-entries.after.now _ c.loop-field-test.true (same ∙ c.in_ok-entries.ensures) c.loop-field.invariant)
+    rw (c.in_ok-push.ensures.items, map-append (λ vs. map held vs.items) c.loop-field.values.items (c.in_ok-entries.entries ∷ []), ← later) (continues (λ s b. (next_entries s).reading b) later_fields (map (λ vs. map held vs.items) c.loop-field.values.items) (length c.args.fields.now) c.loop-field.field-index (drop c.loop-field.field-index c.args.fields.now) c.loop-field.rest.now (map held c.in_ok-entries.entries.items) c.in_ok-entries.after.now _ c.loop-field-test.true (same ∙ c.in_ok-entries.ensures) c.loop-field.invariant)
 
 pub returns : goal.returns
 unfolding values_format times_with

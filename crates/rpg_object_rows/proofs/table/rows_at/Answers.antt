@@ -2,7 +2,7 @@ use Rattle.std.proofs.Common.{[], ◌∷◌, map}
 use Rattle.std.proofs.lemmas.List.{map-append}
 use Rattle.std.proofs.lemmas.Result.{err_from_is_err_and}
 use Rattle.rpg_object_format.specs.Format.{keep}
-use Rattle.rpg_object_format.proofs.Loop.{goes_on, ends, is_done}
+use Rattle.rpg_object_format.proofs.Loop.{continues, ends, is_done}
 use Rattle.rpg_object_rows.proofs.table.rows_at.Goals as goal
 
 pub returns-in_err-row : goal.returns-in_err-row
@@ -12,7 +12,7 @@ returns-in_err-row g c =
 
 pub loop-preserved : goal.loop-preserved
 loop-preserved g c =
-    rw (c.in_ok-push.ensures.items, map-append g.T.Row.seen c.loop.rows.items (c.in_ok-row.row ∷ [])) (goes_on (λ s b. g.T.Row.read b) keep (map g.T.Row.seen c.loop.rows.items) c.args.count c.loop.counter tt c.loop.rest.now (g.T.Row.seen c.in_ok-row.row) c.in_ok-row.after.now _ c.loop-test.true c.in_ok-row.ensures c.loop.invariant)
+    rw (c.in_ok-push.ensures.items, map-append g.T.Row.seen c.loop.rows.items (c.in_ok-row.row ∷ [])) (continues (λ s b. g.T.Row.read b) keep (map g.T.Row.seen c.loop.rows.items) c.args.count c.loop.counter tt c.loop.rest.now (g.T.Row.seen c.in_ok-row.row) c.in_ok-row.after.now _ c.loop-test.true c.in_ok-row.ensures c.loop.invariant)
 
 pub returns : goal.returns
 returns g c = is_done (λ s b. g.T.Row.read b) keep (map g.T.Row.seen c.loop.rows.items) c.args.count c.loop.counter tt c.loop.rest.now _ c.loop-test.false c.loop.invariant

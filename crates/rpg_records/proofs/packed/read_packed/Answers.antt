@@ -1,6 +1,6 @@
 use Rattle.std.proofs.Common.{◌≡◌, ◌+◌, ◌-◌, ◌*◌, ◌/◌, ◌%◌, ◌≤◌, length, take, get_or, ap, ap₂, sym, ◌∙◌, arith, Some, unsigned_abs, neg_ℤ, pos, if◌then◌else◌}
 use Rattle.rpg_records.specs.Packed.{is_packed, packed_number}
-use Rattle.rpg_records.proofs.Halves.{bytes_split, is_packed-bad_front, is_packed-bad_digit, is_packed-bad_sign, is_packed-good, in_none, in_some, number_split, wrapped, abs_signed, size_below, size_small, front_long}
+use Rattle.rpg_records.proofs.Halves.{bytes_split, is_packed-bad_front, is_packed-bad_digit, is_packed-bad_sign, is_packed-valid, in_none, in_some, number_split, wrapped, abs_signed, size_below, size_small, front_long}
 use Rattle.rpg_records.proofs.packed.read_packed.Goals as goal
 use Rattle.rpg_records.proofs.packed.read_packed.Goals.{then-digit-gt9-via-then-digit-gt9, then-digit-gt9-via-else-digit-gt9+then-sign-lt10}
 
@@ -38,7 +38,7 @@ returns-clause-number c =
     ap Some (wrapped c.is_minus_sign.result (c.in-Some.front * 10 + c.from.result) c.signed.result small c.signed.ensures
     ∙ ap₂ (λ m v. if m then neg_ℤ (pos v) else pos v) c.is_minus_sign.ensures (ap₂ (λ p q. p * 10 + q) c.in-Some.ensures.value.0 f)
     ∙ sym (ap packed_number (bytes_split bytes c.requires.low) ∙ number_split front b))
-    ∙ sym (in_some bytes (ap is_packed (bytes_split bytes c.requires.low) ∙ is_packed-good front b c.in-Some.ensures.value.1 (omega (arith, d)) s))
+    ∙ sym (in_some bytes (ap is_packed (bytes_split bytes c.requires.low) ∙ is_packed-valid front b c.in-Some.ensures.value.1 (omega (arith, d)) s))
 
 pub returns-clause-fits : goal.returns-clause-fits
 returns-clause-fits c =

@@ -51,9 +51,9 @@ loop-byte-preserved c =
       size_is =
           ap₂ (λ s d. s * 100 + d) c.loop-byte.invariant.size_is f
           ∙ sym (ap place_value (halves_more bytes i inside) ∙ value_two (halves (take i bytes)) (b / 16) (b % 16));
-      good =
+      valid =
           ap (list_all is_figure) (halves_more bytes i inside)
-          ∙ figures_two (halves (take i bytes)) (b / 16) (b % 16) c.loop-byte.invariant.good (omega (arith, t)) (omega (arith, o));
+          ∙ figures_two (halves (take i bytes)) (b / 16) (b % 16) c.loop-byte.invariant.valid (omega (arith, t)) (omega (arith, o));
       below = let e = pow-add 100 i 1 in let l = c.loop-byte.invariant.below in omega (arith, e, l, t, o, f);
     }
 

@@ -7,6 +7,6 @@ use Rattle.rpg_records.proofs.packed.value_of_pairs.Given as goal
 abbrev pub invariant-loop-byte : goal.invariant-loop-byte
 invariant-loop-byte l = record {
   size_is : l.size ≡ place_value (halves (take l.byte-index l.bytes));
-  good : list_all is_figure (halves (take l.byte-index l.bytes)) ≡ true;
+  valid : list_all is_figure (halves (take l.byte-index l.bytes)) ≡ true;
   below : l.size < 100 ^ l.byte-index;
 }

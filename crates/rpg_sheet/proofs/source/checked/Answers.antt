@@ -17,8 +17,8 @@ returns-then-earlier-ge-CARDS-clause-code c =
     code_past e.count e.latest e.data_begun c.args.line.now c.args.columns.now _ (omega arith) c.requires (sym c.has_only_characters.ensures ∙ c.if-not-has_only_characters.false) (omega arith)
     (rw c.of-card.ensures at c.past_last.ensures.code)
 
-pub returns-clause-good : goal.returns-clause-good
-returns-clause-good c =
+pub returns-clause-valid : goal.returns-clause-valid
+returns-clause-valid c =
     let e = c.args.earlier in
     code_if_read e.count e.latest e.data_begun c.args.line.now c.args.columns.now (λ spec. spec ≡ spec_of e.data_begun c.args.columns.now) c.read.result (omega arith) c.requires
     (sym c.has_only_characters.ensures ∙ c.if-not-has_only_characters.false) (omega arith) (rw c.of-card.ensures at c.read.ensures.ok)

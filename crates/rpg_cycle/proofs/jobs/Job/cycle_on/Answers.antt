@@ -1,10 +1,10 @@
 use Rattle.std.proofs.Common.{◌<◌, ◌≤◌, length, sym, ap, ◌∙◌, subst}
 use Rattle.std.proofs.lemmas.List.{length-map}
 use Rattle.std.specs.Option.{ForSome}
-use Rattle.rpg_cycle.proofs.JobCycles.{job, goes_on, ends, one_more}
+use Rattle.rpg_cycle.proofs.JobCycles.{job, continues, ends, one_more}
 use Rattle.rpg_cycle.proofs.Spending.{some_before}
-use Rattle.rpg_cycle.specs.Doing.{CycleEnds, CycleGoesOn, next_text}
-use Rattle.rpg_cycle.specs.Ends.{GoesOn}
+use Rattle.rpg_cycle.specs.Doing.{CycleEnds, CycleContinues, next_text}
+use Rattle.rpg_cycle.specs.Ends.{Continues}
 use Rattle.rpg_cycle.specs.Job as of
 use Rattle.rpg_cycle_records.specs.Holding.{AreFilesKept, inputs_of, text_in}
 use Rattle.rpg_cycle_records.specs.Earlier.{Left}
@@ -30,16 +30,16 @@ returns-in-Ok-clause-done g c =
     let same = c.self.invariant.program going in
     let t = c.in-Ok.selected in
     let kept = c.run_cycle.new.kept in
-    let went = subst (λ (o : Object). CycleGoesOn o i.kept c.args.primary c.args.secondary (refilled i.machine) t kept c.run_cycle.new.machine) same c.in-Ok.ensures.goes.goes in
+    let went = subst (λ (o : Object). CycleContinues o i.kept c.args.primary c.args.secondary (refilled i.machine) t kept c.run_cycle.new.machine) same c.in-Ok.ensures.goes.goes in
     let renewed = subst (λ (o : Object). RenewsLeft o t i.kept kept) same c.in-Ok.ensures.goes.left in
     let was = job p i.machine (left_of i.kept) (inputs_of i.kept) (stage_of i.progress) in
     let new = job p c.run_cycle.new.machine (left_of c.note.new.self) (inputs_of c.note.new.self) Going in
     subst (λ (old : of.AtWork). of.Cycles old x y new) c.self.view_is (record {
       following = following;
       does = λ earlier leave orderly previous l. (
-        GoesOn,
-        subst (λ (j : Inputs). of.DoesCycle was earlier previous x y GoesOn (job p c.run_cycle.new.machine (left_of c.note.new.self) j Going)) (sym c.note.ensures.inputs)
-            (goes_on p earlier previous x y i.machine c.run_cycle.new.machine (left_of i.kept) (left_of c.note.new.self) (inputs_of i.kept) (inputs_of kept) (stage_of i.progress) t (text_in p kept t)
+        Continues,
+        subst (λ (j : Inputs). of.DoesCycle was earlier previous x y Continues (job p c.run_cycle.new.machine (left_of c.note.new.self) j Going)) (sym c.note.ensures.inputs)
+            (continues p earlier previous x y i.machine c.run_cycle.new.machine (left_of i.kept) (left_of c.note.new.self) (inputs_of i.kept) (inputs_of kept) (stage_of i.progress) t (text_in p kept t)
             same leave orderly l (c.note.ensures.left ∙ ap (noted p t) renewed) went),
       );
     })
@@ -77,11 +77,11 @@ invariant_of-self g c =
     let same = c.self.invariant.program going in
     let t = c.in-Ok.selected in
     let kept = c.run_cycle.new.kept in
-    let went = subst (λ (o : Object). CycleGoesOn o i.kept c.args.primary c.args.secondary (refilled i.machine) t kept c.run_cycle.new.machine) same c.in-Ok.ensures.goes.goes in
+    let went = subst (λ (o : Object). CycleContinues o i.kept c.args.primary c.args.secondary (refilled i.machine) t kept c.run_cycle.new.machine) same c.in-Ok.ensures.goes.goes in
     let renewed = subst (λ (o : Object). RenewsLeft o t i.kept kept) same c.in-Ok.ensures.goes.left in
     let o = some_before i.machine.last in
     let old = job p i.machine (left_of i.kept) (inputs_of i.kept) (stage_of i.progress) in
-    let done = goes_on p following.earlier o.0 x y i.machine c.run_cycle.new.machine (left_of i.kept) (left_of c.note.new.self) (inputs_of i.kept) (inputs_of kept) (stage_of i.progress) t (text_in p kept t)
+    let done = continues p following.earlier o.0 x y i.machine c.run_cycle.new.machine (left_of i.kept) (left_of c.note.new.self) (inputs_of i.kept) (inputs_of kept) (stage_of i.progress) t (text_in p kept t)
     same following.leave following.orderly o.1 (c.note.ensures.left ∙ ap (noted p t) renewed) went in
     record {
       program = λ on. c.in-Ok.ensures.goes.goes.program ∙ same;

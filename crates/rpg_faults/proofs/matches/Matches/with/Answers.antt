@@ -17,7 +17,7 @@ returns-in-Some-Type c = λ before was.
     let t : RecordType = c.in-Some-Type.field-0-0 in
     let on : input_on c.args.card.now.spec ≡ Some (input.Type t) = cc in
     all_with_type before c.args.card.now c.args.after.now c.args.self was t c.or-first.result (ap (λ (o : Option InputSpec). role_on input_card_role o) on)
-    (c.or-first.ensures ∙ ap (option_or c.args.self.first) c.good_matches-own.ensures)
+    (c.or-first.ensures ∙ ap (option_or c.args.self.first) c.valid_matches-own.ensures)
 
 pub returns-in-Some-Field : goal.returns-in-Some-Field
 returns-in-Some-Field c = λ before was.

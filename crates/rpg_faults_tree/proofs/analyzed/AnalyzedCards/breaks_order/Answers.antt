@@ -1,7 +1,7 @@
 use Rattle.std.proofs.Common.{◌∙◌}
 use Rattle.rpg_deck.specs.Tree.{tree}
 use Rattle.rpg_faults_tree.proofs.Broken.{order-broken}
-use Rattle.rpg_faults_tree.proofs.Here.{told}
+use Rattle.rpg_faults_tree.proofs.Here.{reported}
 use Rattle.rpg_faults_tree.specs.Marked.{breaks_any_order}
 use Rattle.rpg_faults_tree.specs.Rules.{misplaced_cards}
 use Rattle.rpg_faults_tree.proofs.analyzed.AnalyzedCards.breaks_order.Goals as goal
@@ -10,4 +10,4 @@ pub returns : goal.returns
 returns c = λ before after split.
     let source = c.args.self.now in
     let cards = source.cards.now in
-    c.has.ensures ∙ told breaks_any_order cards before c.args.card.now after source.found.misplaced (misplaced_cards (tree cards)) source.exact.numbered (order-broken cards source.exact.ordered) source.exact.found.misplaced split
+    c.has.ensures ∙ reported breaks_any_order cards before c.args.card.now after source.found.misplaced (misplaced_cards (tree cards)) source.exact.numbered (order-broken cards source.exact.ordered) source.exact.found.misplaced split

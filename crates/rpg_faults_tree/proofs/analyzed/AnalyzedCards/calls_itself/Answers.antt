@@ -1,7 +1,7 @@
 use Rattle.std.proofs.Common.{◌∙◌}
 use Rattle.rpg_deck.specs.Tree.{tree}
 use Rattle.rpg_faults_tree.proofs.Broken.{recursion-broken}
-use Rattle.rpg_faults_tree.proofs.Here.{told}
+use Rattle.rpg_faults_tree.proofs.Here.{reported}
 use Rattle.rpg_faults_tree.specs.Marked.{calls_itself_in_source}
 use Rattle.rpg_faults_tree.specs.Rules.{recursive_cards}
 use Rattle.rpg_faults_tree.proofs.analyzed.AnalyzedCards.calls_itself.Goals as goal
@@ -10,4 +10,4 @@ pub returns : goal.returns
 returns c = λ before after split.
     let source = c.args.self.now in
     let cards = source.cards.now in
-    c.has.ensures ∙ told calls_itself_in_source cards before c.args.card.now after source.found.recursive (recursive_cards (tree cards)) source.exact.numbered (recursion-broken cards source.exact.ordered) source.exact.found.recursive split
+    c.has.ensures ∙ reported calls_itself_in_source cards before c.args.card.now after source.found.recursive (recursive_cards (tree cards)) source.exact.numbered (recursion-broken cards source.exact.ordered) source.exact.found.recursive split

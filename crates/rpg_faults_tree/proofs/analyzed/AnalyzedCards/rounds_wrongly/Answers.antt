@@ -2,7 +2,7 @@ use Rattle.std.proofs.Common.{◌∙◌}
 use Rattle.rpg_deck.specs.Tree.{tree}
 use Rattle.rpg_faults_flow.specs.Rounding.{bad_rounding}
 use Rattle.rpg_faults_tree.proofs.Broken.{rounding-broken}
-use Rattle.rpg_faults_tree.proofs.Here.{told}
+use Rattle.rpg_faults_tree.proofs.Here.{reported}
 use Rattle.rpg_faults_tree.specs.Rules.{wrongly_rounding_cards}
 use Rattle.rpg_faults_tree.proofs.analyzed.AnalyzedCards.rounds_wrongly.Goals as goal
 
@@ -10,4 +10,4 @@ pub returns : goal.returns
 returns c = λ before after split.
     let source = c.args.self.now in
     let cards = source.cards.now in
-    c.has.ensures ∙ told bad_rounding cards before c.args.card.now after source.found.wrongly_rounding (wrongly_rounding_cards (tree cards)) source.exact.numbered (rounding-broken cards source.exact.ordered) source.exact.found.wrongly_rounding split
+    c.has.ensures ∙ reported bad_rounding cards before c.args.card.now after source.found.wrongly_rounding (wrongly_rounding_cards (tree cards)) source.exact.numbered (rounding-broken cards source.exact.ordered) source.exact.found.wrongly_rounding split

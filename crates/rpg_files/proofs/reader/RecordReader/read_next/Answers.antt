@@ -31,4 +31,4 @@ returns-in-Record-clause-next g c =
     let most : c.args.self.now.count ≤ 10000000 = c.args.self.now.few in
     let few : c.args.self.now.count < 10000000 = omega arith in
     let found = rw c.in-Record.is at c.in_ok-len.ensures.ok in
-    record { limit = refl; count = refl; faults = c.in_ok-len.ensures.faults; input = advances _ _ _ _ _ _ _ _ _ c.consume.ensures.bytes c.read_line.ensures.read (λ more can. (few, found.good, found.first more can)); waits = λ is. absurd cc }
+    record { limit = refl; count = refl; faults = c.in_ok-len.ensures.faults; input = advances _ _ _ _ _ _ _ _ _ c.consume.ensures.bytes c.read_line.ensures.read (λ more can. (few, found.valid, found.first more can)); waits = λ is. absurd cc }

@@ -6,11 +6,11 @@ use Rattle.rpg_machine.specs.Running.{Running}
 use Rattle.rpg_program.specs.Object.{Object}
 use Rattle.rpg_machine.proofs.machine.Machine.output.Goals as goal
 
-pub put_out-requires-clause-lines : goal.put_out-requires-clause-lines
-put_out-requires-clause-lines g c = subst (λ (o : Object). AreRightLines o) (sym c.self.invariant.own) c.is_orderly.ensures.lines
+pub write_line_out-requires-clause-lines : goal.write_line_out-requires-clause-lines
+write_line_out-requires-clause-lines g c = subst (λ (o : Object). AreRightLines o) (sym c.self.invariant.own) c.is_orderly.ensures.lines
 
-pub put_out-requires-clause-can : goal.put_out-requires-clause-can
-put_out-requires-clause-can g c = record {
+pub write_line_out-requires-clause-can : goal.write_line_out-requires-clause-can
+write_line_out-requires-clause-can g c = record {
   near = subst (λ (r : Running). IsNear r.config.world.paper.here) (sym c.self.view_is) c.requires.ready.few_pages;
   room = subst (λ (o : Object). HasLineRoom o c.self.inside.state.writer.text.items) (sym c.self.invariant.own) c.self.invariant.room;
   plan = subst (λ (o : Object). IsPlanOf o c.plan-plan.result.now) (sym c.self.invariant.own) c.plan-plan.ensures;

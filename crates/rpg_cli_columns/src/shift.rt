@@ -1,0 +1,258 @@
+//! Texts that are shifted by a column or two from the columns they belong in.
+
+use crate::card::CardKind;
+use crate::pattern::{character_at, write_columns};
+use crate::range::{WantedRange, range_of};
+use rpg_cli_text::TextWriter;
+use rpg_sheet::{Card, ColumnFault};
+use rpg_text::has_only_characters;
+
+/// The columns of a card.
+const COLUMNS: usize = 80;
+
+/// The column of the form type.
+const FORM_TYPE: usize = 6;
+
+/// The first and the last column that sheets use.
+const FIRST: usize = 7;
+
+const LAST: usize = 74;
+
+/// Columns of a card, counted from 1, whose text is shifted as a whole.
+#[derive(Clone, Copy)]
+struct Run {
+    first: usize,
+    last: usize,
+}
+
+/// How far a text is shifted to the right, or to the left.
+#[derive(Clone, Copy)]
+struct Move {
+    right: usize,
+    left: usize,
+}
+
+impl Run {
+    fn has(self, column: usize) -> bool {
+        self.first <= column && column <= self.last
+    }
+}
+
+impl Move {
+    fn right(by: usize) -> Self {
+        Move { right: by, left: 0 }
+    }
+
+    fn left(by: usize) -> Self {
+        Move { right: 0, left: by }
+    }
+
+    /// Returns the column that a column is shifted to.
+    fn applied_to(self, column: usize) -> usize {
+        column.saturating_add(self.right).saturating_sub(self.left)
+    }
+
+    /// Returns the column that is shifted to this one.
+    fn source_of(self, column: usize) -> usize {
+        column.saturating_add(self.left).saturating_sub(self.right)
+    }
+
+    /// Returns how far a text is shifted, and which way.
+    fn words(self) -> &'static str {
+        match (self.right, self.left) {
+            (1, _) => "one column to the right",
+            (_, 1) => "one column to the left",
+            (_, 0) => "two columns to the right",
+            _ => "two columns to the left",
+        }
+    }
+}
+
+/// Whether the columns that a text is shifted to are on the card, and blank except for the text's own.
+fn has_room(line: &[u8], run: Run, by: Move) -> bool {
+    let first = by.applied_to(run.first);
+    let last = by.applied_to(run.last);
+    for column in first..=last {
+        if !run.has(column) && character_at(line, column) != b' ' {
+            return false;
+        }
+    }
+    first > 0 && last <= COLUMNS
+}
+
+/// Returns the character in a column after a text is shifted.
+fn moved_at(line: &[u8], run: Run, by: Move, column: usize) -> u8 {
+    let source = by.source_of(column);
+    if run.has(source) {
+        character_at(line, source)
+    } else if run.has(column) {
+        b' '
+    } else {
+        character_at(line, column)
+    }
+}
+
+/// Whether a card can be read, as one of the sheet that its column 6 names, after a text is shifted.
+fn helps(line: &[u8], run: Run, by: Move) -> bool {
+    if !has_room(line, run, by) {
+        return false;
+    }
+    let mut moved = [b' '; 80];
+    for (place, byte) in moved.iter_mut().enumerate() {
+        *byte = moved_at(line, run, by, place.saturating_add(1));
+    }
+    is_readable(&moved)
+}
+
+fn is_readable(line: &[u8; 80]) -> bool {
+    if !has_only_characters(line) {
+        return false;
+    }
+    let card = Card::new(line);
+    match card.form_type() {
+        Some(sheet) => !card.is_skipped() && card.read(sheet).is_ok(),
+        None => false,
+    }
+}
+
+/// Whether a column is in a range of its card.
+fn is_in_range(line: &[u8], column: usize) -> bool {
+    range_of(CardKind::of(line), WantedRange::Around(column)).is_some()
+}
+
+/// Whether shifting a text helps and brings it to columns that sheets use, since unused ones allow any text. If the whole card is shifted,
+/// only its first text has to.
+fn helps_run(line: &[u8], run: Run, by: Move, is_card: bool) -> bool {
+    is_in_range(line, by.applied_to(run.first))
+        && (is_card || is_in_range(line, by.applied_to(run.last)))
+        && helps(line, run, by)
+}
+
+/// Returns the text without blanks that a column is part of.
+fn word_at(line: &[u8], column: usize) -> Run {
+    let mut first = FIRST;
+    for at in FIRST..column {
+        if character_at(line, at) == b' ' {
+            first = at.saturating_add(1);
+        }
+    }
+    Run {
+        first,
+        last: word_end(line, column),
+    }
+}
+
+fn word_end(line: &[u8], column: usize) -> usize {
+    for at in column..LAST {
+        if character_at(line, at.saturating_add(1)) == b' ' {
+            return at;
+        }
+    }
+    LAST
+}
+
+/// Returns the first column that isn't blank.
+fn first_filled(line: &[u8]) -> Option<usize> {
+    for column in FIRST..=LAST {
+        if character_at(line, column) != b' ' {
+            return Some(column);
+        }
+    }
+    None
+}
+
+/// Returns the whole text of a card from a column on.
+fn rest_from(line: &[u8], first: usize) -> Run {
+    let mut last = first;
+    for column in first..=LAST {
+        if character_at(line, column) != b' ' {
+            last = column;
+        }
+    }
+    Run { first, last }
+}
+
+/// Writes the shift of a text, or of the whole card, that makes the card readable, if exactly one does.
+fn write_run_shift(out: &mut TextWriter, line: &[u8], run: Run, by: usize, is_card: bool) -> bool {
+    let right = helps_run(line, run, Move::right(by), is_card);
+    let left = helps_run(line, run, Move::left(by), is_card);
+    if right == left {
+        return false;
+    }
+    let only = if right {
+        Move::right(by)
+    } else {
+        Move::left(by)
+    };
+    if is_card {
+        out.fill(
+            "; moved {} the whole card can be read",
+            &[only.words().into()],
+        );
+    } else {
+        out.write_str("; \"");
+        write_columns(out, line, run.first, run.last);
+        out.fill("\" moved {} can be read", &[only.words().into()]);
+    }
+    true
+}
+
+/// Whether a text begins in a column, or in the first of some.
+fn begins_word(line: &[u8], first: usize, column: usize) -> bool {
+    character_at(line, column) != b' '
+        && (column == first || character_at(line, column.saturating_sub(1)) == b' ')
+}
+
+/// Like `write_run_shift`, for each text that the rejected columns have a part of.
+fn write_words_shift(out: &mut TextWriter, line: &[u8], refused: ColumnFault, by: usize) -> bool {
+    let first = usize::from(refused.column);
+    for column in first..=usize::from(refused.last) {
+        if begins_word(line, first, column)
+            && write_run_shift(out, line, word_at(line, column), by, false)
+        {
+            return true;
+        }
+    }
+    false
+}
+
+/// Writes which text, or whether the whole card, can be read after a shift by a column or, at most, a few. Writes nothing if no shift
+/// helps, or both ways do.
+pub(crate) fn write_shift(out: &mut TextWriter, line: &[u8], refused: ColumnFault, most: usize) {
+    for by in 1..=most {
+        if write_words_shift(out, line, refused, by) {
+            return;
+        }
+        if let Some(first) = first_filled(line) {
+            if write_run_shift(out, line, rest_from(line, first), by, true) {
+                return;
+            }
+        }
+    }
+}
+
+/// Writes where the form type is, if a shift brings it into its column and makes the card readable.
+fn write_form_type_from(out: &mut TextWriter, line: &[u8], by: Move) -> bool {
+    let column = by.source_of(FORM_TYPE);
+    let is_in_word = character_at(line, column.saturating_sub(1)).is_ascii_alphabetic();
+    if is_in_word || !helps(line, rest_from(line, column), by) {
+        return false;
+    }
+    let form = char::from(character_at(line, column));
+    out.fill(
+        "; {} stands in column {}: moved {} the card can be read",
+        &[form.into(), column.into(), by.words().into()],
+    );
+    true
+}
+
+/// Writes where the form type of a card is, if the card can be read after a shift.
+pub(crate) fn write_form_type_shift(out: &mut TextWriter, line: &[u8]) {
+    for by in 1..=2 {
+        if write_form_type_from(out, line, Move::right(by))
+            || write_form_type_from(out, line, Move::left(by))
+        {
+            return;
+        }
+    }
+}
