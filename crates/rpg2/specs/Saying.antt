@@ -14,10 +14,14 @@ abbrev pub answer_text : Format → Answer → List ℕ
 answer_text Text answer = line_text answer
 answer_text Json answer = json_text answer
 
--- a line and the answer's status; if not all of the line could be written, a first part of it and status 1
+-- a line was written, with the status for that; or, if not all of it could be written, a first part of it, with status 1
+abbrev pub WritesLine : Option (List ℕ) → Option (List ℕ) → List ℕ → ℕ → ℕ → Type 0
+WritesLine old new text written status =
+    (Appends old new (with_line_feed text) × (status ≡ written)) ⊎ (AppendsPrefix old new (with_line_feed text) × (status ≡ 1))
+
+-- a line with the answer's status
 abbrev pub SaysLine : Option (List ℕ) → Option (List ℕ) → ℕ → Answer → List ℕ → Type 0
-SaysLine old new status answer text =
-    (Appends old new (with_line_feed text) × (status ≡ exit_status answer)) ⊎ (AppendsPrefix old new (with_line_feed text) × (status ≡ 1))
+SaysLine old new status answer text = WritesLine old new text (exit_status answer) status
 
 -- the answer's line and its status
 abbrev pub Says : Format → Option (List ℕ) → Option (List ℕ) → ℕ → Answer → Type 0

@@ -1,10 +1,7 @@
 //! Carries out the command of the arguments, or explains why they are rejected.
 
-ghost use Rattle.std.specs.Prelude.{◌≡◌, ◌⊎◌};
-ghost use Rattle.std.specs.Io.KnownBytes.{Appends};
-ghost use Rattle.rpg_files.specs.Sending.{AppendsPrefix};
-ghost use Rattle.rpg_text.specs.Lines.{with_line_feed};
-ghost use Rattle.rpg2.specs.Saying.{PrintsALine, Says, SaysOrIsQuiet};
+ghost use Rattle.std.specs.Prelude.{◌≡◌};
+ghost use Rattle.rpg2.specs.Saying.{PrintsALine, Says, SaysOrIsQuiet, WritesLine};
 
 use crate::checking::check_files;
 use crate::dates::{JobDate, warn_of_date};
@@ -95,7 +92,7 @@ fn send<W: Write, L: Listener>(
     status: u8,
     listener: &mut L,
 ) -> u8
-    ensures { (Appends (W.contents out.old) (W.contents out.new) (with_line_feed text.now) × (result ≡ status)) ⊎ (AppendsPrefix (W.contents out.old) (W.contents out.new) (with_line_feed text.now) × (result ≡ 1)) }
+    ensures { WritesLine (W.contents out.old) (W.contents out.new) text.now status result }
 {
     match send_line(out, text) {
         Ok(()) => status,

@@ -66,8 +66,8 @@ pub record ReadsIfNeeded {R : Type 0} (remaining : R → Option (List ℕ)) (is_
   pub unneeded : is_needed ≡ false → (answer ≡ Ok next.End) × (new ≡ old)
 
 -- a file can't fail if a record is needed from it, since the next record is certain
-abbrev pub CannotFailWhereNeeded : {R : Type 0} → Bool → RecordReader R → Type 0
-CannotFailWhereNeeded is_needed reader = is_needed ≡ true → cannot_fail reader ≡ true
+abbrev pub CannotFailIfNeeded : {R : Type 0} → Bool → RecordReader R → Type 0
+CannotFailIfNeeded is_needed reader = is_needed ≡ true → cannot_fail reader ≡ true
 
 -- a job did a cycle with these records, in no more steps than its program's bound, and continues or ended so
 pub record CyclesTo (job : AtWork) (primary secondary : Option (List ℕ)) (ended : Option JobEnd) (job' : AtWork) : Type 0 where

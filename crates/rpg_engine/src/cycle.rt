@@ -9,7 +9,7 @@ ghost use Rattle.rpg_program.specs.declared.input.InputFile.TheVariants as files
 ghost use Rattle.rpg_files.specs.Counting.{faults_of};
 ghost use Rattle.rpg_files.specs.Reading.{answer_of, is_record, reader_of};
 ghost use Rattle.rpg_engine.specs.Devices.{AreLentOn};
-ghost use Rattle.rpg_engine.specs.Streaming.{ReadsIfNeeded, CanReadNext, CyclesTo, IsNeedOf, CannotFailWhereNeeded, TakesCycle, TakesNone, record_with};
+ghost use Rattle.rpg_engine.specs.Streaming.{ReadsIfNeeded, CanReadNext, CyclesTo, IsNeedOf, CannotFailIfNeeded, TakesCycle, TakesNone, record_with};
 ghost use Rattle.rpg_engine.specs.declared.fault.CycleFault.TheVariants as stops;
 
 use crate::fault::CycleFault;
@@ -53,7 +53,7 @@ fn read_if_needed<R: Read>(
     requires stands_after_record { is_needed ≡ true → is_record (answer_of records.old) ≡ true }
     ensures same_reader { records.new.reader.ghost_name ≡ records.old.reader.ghost_name }
     ensures asks { ReadsIfNeeded R.remaining is_needed records.old result records.new }
-    ensures sure { CannotFailWhereNeeded is_needed records.old → IsOk result }
+    ensures sure { CannotFailIfNeeded is_needed records.old → IsOk result }
 {
     if is_needed {
         records.next()
@@ -96,7 +96,7 @@ pub(crate) fn next_cycle<S: Store + Drop, R1: Read, R2: Read>(
     ensures alone { job.old.program.secondary_length ≡ 0 → secondary.new ≡ secondary.old }
     ensures cycle { IfOk result (λ e. TakesCycle R1.remaining R2.remaining job.old primary.old secondary.old e job.new primary.new secondary.new) }
     ensures none { IfErr result (λ e. TakesNone R1.remaining R2.remaining job.old primary.old secondary.old e primary.new secondary.new) }
-    ensures sure { CannotFailWhereNeeded need.primary primary.old → CannotFailWhereNeeded need.secondary secondary.old → IfErr result (λ e. e ≡ stops.NoMemory) }
+    ensures sure { CannotFailIfNeeded need.primary primary.old → CannotFailIfNeeded need.secondary secondary.old → IfErr result (λ e. e ≡ stops.NoMemory) }
     ensures grows { OnlyGrows job.old.output job.new.output }
 {
     let first = match read_if_needed(primary, need.primary) {

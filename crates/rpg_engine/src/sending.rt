@@ -5,7 +5,7 @@ ghost use Rattle.rpg_machine.specs.Running.{no_bytes};
 ghost use Rattle.rpg_files.specs.Counting.{faults_of};
 ghost use Rattle.rpg_engine.specs.Outputs.{bytes_with};
 ghost use Rattle.rpg_engine.specs.Sending.{CanSend, SendsTo, SendsToFile, SendsUnlessTo, SendsWaitingTo, StopsWithTo, state_of, waiting_bytes};
-ghost use Rattle.rpg_engine.specs.Streaming.{CannotFailWhereNeeded};
+ghost use Rattle.rpg_engine.specs.Streaming.{CannotFailIfNeeded};
 
 use crate::fault::{CycleFault, RunFault};
 use crate::files::{OutputFile, Writers};
@@ -104,7 +104,7 @@ fn send_waiting<S: Store + Drop, W1: Write, W2: Write>(
 /// Whether reading a file can't fail in the next cycle: no record of it is needed, or its reader's buffer suffices.
 #[inline(always)]
 fn cannot_fail<R: Read>(records: &RecordReader<'_, R>, is_needed: bool) -> bool
-    ensures { result ≡ true → CannotFailWhereNeeded is_needed records.now }
+    ensures { result ≡ true → CannotFailIfNeeded is_needed records.now }
 {
     !is_needed || records.cannot_fail()
 }
@@ -122,7 +122,7 @@ pub(crate) fn send_before_reading<S: Store + Drop, R1: Read, R2: Read, W1: Write
 ) -> Result<(), RunFault>
     requires ready { CanSend writers.old sent.old }
     ensures sends { SendsWaitingTo W1.contents W2.contents result job.old job.new writers sent }
-    ensures ready { OnOk result ((job.new.output ≡ no_bytes) ⊎ (CannotFailWhereNeeded need.primary primary.now × CannotFailWhereNeeded need.secondary secondary.now)) }
+    ensures ready { OnOk result ((job.new.output ≡ no_bytes) ⊎ (CannotFailIfNeeded need.primary primary.now × CannotFailIfNeeded need.secondary secondary.now)) }
 {
     if cannot_fail(primary, need.primary) && cannot_fail(secondary, need.secondary) {
         return Ok(());

@@ -2,7 +2,7 @@
 ghost use Rattle.std.specs.Prelude.{◌≡◌, ◌≤◌, ◌+◌, ◌++◌, ◌∷◌, [], take, vec_len, OnErr, OnOk};
 ghost use Rattle.rpg_program.specs.Ends.{Continues};
 ghost use Rattle.rpg_program.specs.Fronts.{OnlyGrows};
-ghost use Rattle.rpg_program.specs.Lines as lines;
+ghost use Rattle.rpg_program.specs.Lines.{put_on};
 ghost use Rattle.rpg_machine_lines.specs.Outputs.{Puts, form_moved, output_of};
 ghost use Rattle.rpg_machine_lines.specs.Putting.{CanPlace, PlacesNear};
 ghost use Rattle.rpg_machine_lines.specs.Ready.{IsNear};
@@ -36,7 +36,7 @@ fn print_line<S: Store + Drop>(
     reach: u16,
 ) -> Result<(), AllocError>
     requires { CanPlace memory.old spacing text.now reach }
-    ensures done { OnOk result (Puts (lines.put_on memory.old.program.overflow File.Printer spacing text.now) memory.old output.old Continues memory.new output.new) }
+    ensures done { OnOk result (Puts (put_on memory.old.program.overflow File.Printer spacing text.now) memory.old output.old Continues memory.new output.new) }
     ensures kept { PlacesNear result memory.old memory.new (output_of output.old) (output_of output.new) }
 {
     move_form(memory, spacing.skip_before, spacing.space_before);
@@ -62,7 +62,7 @@ fn write_record<S: Store + Drop>(
     spacing: Spacing,
     text: &[u8],
 ) -> Result<(), AllocError>
-    ensures done { OnOk result (Puts (lines.put_on memory.now.program.overflow File.Disk spacing text.now) memory.now output.old Continues memory.now output.new) }
+    ensures done { OnOk result (Puts (put_on memory.now.program.overflow File.Disk spacing text.now) memory.now output.old Continues memory.now output.new) }
     ensures grows { OnlyGrows (output_of output.old) (output_of output.new) }
 {
     append_record(&mut output.disk, text)?;
@@ -79,7 +79,7 @@ pub fn put_on<S: Store + Drop>(
     reach: u16,
 ) -> Result<(), AllocError>
     requires { CanPlace memory.old spacing text.now reach }
-    ensures done { OnOk result (Puts (lines.put_on memory.old.program.overflow file spacing text.now) memory.old output.old Continues memory.new output.new) }
+    ensures done { OnOk result (Puts (put_on memory.old.program.overflow file spacing text.now) memory.old output.old Continues memory.new output.new) }
     ensures kept { PlacesNear result memory.old memory.new (output_of output.old) (output_of output.new) }
 {
     match file {
