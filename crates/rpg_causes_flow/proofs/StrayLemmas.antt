@@ -1,5 +1,5 @@
 -- F12 of I and O cards: there is a cause exactly if the rule is broken.
-use Rattle.std.proofs.Common.{◌≡◌, false, cond, ◌||◌, List, Option, None, Some, refl, ap, ◌∙◌}
+use Rattle.std.proofs.Common.{◌≡◌, false, ◌||◌, List, Option, None, Some, refl, ap, ◌∙◌}
 use Rattle.std.specs.Option.{option_and_then, option_map_or}
 use Rattle.std.specs.Prelude.{is_some}
 use Rattle.rpg_cards.specs.Cards.{input_on, output_on}

@@ -174,7 +174,7 @@ fetch overflow isn't supported: blank column 16; the overflow lines then come af
  O 16-16 F
 deleting records isn't supported: write a new file without them (docs/OLD_PROGRAMS.md)
  O 16-16 DEL
-a line has no name: EXCPT puts out all lines of type E, so tell them apart by indicators; fields stand on cards of their own
+a line has no name: EXCPT prints all lines of type E, so distinguish them by indicators; fields stand on cards of their own
  O 32-37
 fetch overflow isn't supported: blank column 16; the overflow lines then come after the total lines
  A 16-16 F
@@ -190,6 +190,6 @@ end positions count from the start of the line, without a sign: a number that en
  D 40-43 +
  D 40-43 .+
  D 40-43 ..+
-packed and binary fields aren't written: blank column 44, and the field is put out as digits
+packed and binary fields aren't written: blank column 44, and the field is written as digits
  D 44-44 P
  D 44-44 B";

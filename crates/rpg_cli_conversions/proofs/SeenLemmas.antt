@@ -1,5 +1,5 @@
 -- A conversion depends on nothing of a layout but what is seen of it.
-use Rattle.std.proofs.Common.{◌≡◌, ℕ, ◌+◌, ◌-◌, ◌++◌, ◌==◌, ◌&&◌, Bool, true, false, cond, if◌then◌else◌, List, [], ◌∷◌, length, map, take, drop, nat_le, nat_lt, refl, sym, ap, ap₂, ◌∙◌, Option, Some, None, Result, Ok, Err}
+use Rattle.std.proofs.Common.{◌≡◌, ℕ, ◌+◌, ◌-◌, ◌++◌, ◌==◌, ◌&&◌, Bool, true, false, if◌then◌else◌, List, [], ◌∷◌, length, map, take, drop, nat_le, nat_lt, refl, sym, ap, ap₂, ◌∙◌, Option, Some, None, Result, Ok, Err}
 use Rattle.std.proofs.Math.Path.{fun_ext}
 use Rattle.std.specs.List.{list_all}
 use Rattle.std.specs.Option.{option_map}
@@ -9,7 +9,7 @@ use Rattle.rpg_records.specs.declared.digits.NumberFault.{NumberFault}
 use Rattle.rpg_records.specs.declared.translation.Page.{Page}
 use Rattle.rpg_records.specs.declared.translation.Page.TheVariants as pages
 use Rattle.rpg_records.specs.Seen.{LayoutSeen, NumberSeen, TypeSeen, columns_seen, digits_seen, layout_seen, number_seen, type_seen}
-use Rattle.rpg_records.specs.Sizes.{longest_line, counted, field_digits, field_size}
+use Rattle.rpg_records.specs.Sizes.{counted, field_digits, field_size}
 use Rattle.rpg_records.specs.declared.layout.Layout.{Layout}
 use Rattle.rpg_records.specs.declared.layout.NumberField.{NumberField}
 use Rattle.rpg_records.specs.declared.layout.RecordType.{RecordType}
@@ -19,7 +19,7 @@ use Rattle.rpg_record_lines.specs.Lines.{record_characters, line_after, line_of_
 use Rattle.rpg_record_lines.specs.Numbers.{bytes_of_field, digits_at, digits_in, digits_of_fields, field_bytes, field_outcome, field_text, filled, bytes_of_digits, with_bytes, with_number, with_numbers}
 use Rattle.rpg_record_lines.specs.Outcomes.{TextOrFault, text_and_then, joined_texts}
 use Rattle.rpg_record_lines.specs.Records.{bytes_of_characters, checked_record, other_record, record_of_line, typed_record, widened}
-use Rattle.rpg_record_lines.specs.Types.{card_of_type, code_fits_record, first_type, is_card, fits_type}
+use Rattle.rpg_record_lines.specs.Types.{code_fits_record, first_type, is_card, fits_type}
 use Rattle.rpg_record_lines.specs.Frames.{frame}
 use Rattle.rpg_record_lines.specs.Ways.{is_dropped, made_text, padded_to, to_lines, to_records}
 use Rattle.rpg_text.specs.Lines.{with_line_feed}

@@ -9,7 +9,7 @@ pub(crate) const HALTS: &str = "\
     @halt 2%an index is outside its table or array%\
     %- AR,X where X is 0 or more than the entries of AR, in a calculation or on an output line\
     %- an X from 1 to the entries\
-    %see where X is set; rpg2 run with --source SRC shows the card that has AR,X. On a\nline it is looked up when the line is put out, which for a detail line is in the cycle after\nits record\
+    %see where X is set; rpg2 run with --source SRC shows the card that has AR,X. On a\nline it is looked up when the line is output, which for a detail line is in the cycle after\nits record\
     @halt 3%the record fits no record type%\
     %- where all record types have codes, a record that no type's codes fit, such as a blank line\
     %- a last record type without codes takes every record\

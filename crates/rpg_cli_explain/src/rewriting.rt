@@ -17,7 +17,7 @@ pub(crate) const REWRITINGS: &str = "\
     @A4%an L card is taken out%\
     %     FPRINT   O   F     132     OF    LPRINTER\n     LPRINT   066FL060OL\
     %     FPRINT   O   F     132     OF     PRINTER\
-    %if no form gets more lines than its L card has, say so with --forms. A form of other lines\nis rejected if a card asks for overflow or no line skips: count its lines in calculations, and skip\
+    %if no form gets more lines than its L card has, say so with --forms. A form of other lines\nis rejected if a card tests overflow or no line skips: count its lines in calculations, and skip\
     @A5%the records of a table file become data%\
     %     FRATES   IT  F      20           EDISK\n     E    RATES           TABK    2   4  2   TABV    3 1\
     %     E                    TABK    2   4  2   TABV    3 1\n**\nAA010AB020\nBA030\
@@ -37,7 +37,7 @@ pub(crate) const REWRITINGS: &str = "\
     @A9%a line whose alternatives space in several ways becomes several%\
     %     OOUT     D  1     01 30\n     O       OR  3     L1\n     O                         DIV       10\n     O                         AMT   J   30\
     %     OOUT     D  1     01 30\n     O                         DIV       10\n     O                         AMT   J   30\n     OOUT     D  3     L1N01\n     O       OR        L1 01N30\n     O                         DIV       10\n     O                         AMT   J   30\
-    %if an earlier alternative asks for overflow, write the lines yourself\
+    %if an earlier alternative tests overflow, write the lines yourself\
     @A10%figurative constants become constants%\
     %     C   L1                MOVE *BLANKS   NAM\n     C           NAM       COMP *BLANK                   20\n     C           AMT       COMP *ZERO                21\
     %     C   L1                MOVE '      '  NAM\n     C           NAM       COMP ' '                      20\n     C           AMT       COMP 0                    21\
@@ -69,19 +69,19 @@ pub(crate) const REWRITINGS: &str = "\
     @A17%a number under an edit word with more places gets as many digits%\
     %     O                         AMT       30 ' ,   ,  0.  -'\
     %     C                     Z-ADDAMT       W#      92\n     O                         W#        30 ' ,   ,  0.  -'\
-    %if the line may be put out before any calculation, or blanks the field, give the field the\nplaces of its word\
+    %if the line may be printed before any calculation, or blanks the field, give the field the\nplaces of its word\
     @A18%a $ that floats in an edit word becomes that of an edit code%\
     %     O                         AMT       30 ' ,  $0.  -'\
     %     O                         AMT   J   30 '$'\
     %choose another word, if no edit code has its commas\
-    @A19%lines that fetch overflow are put out by EXCPT%\
+    @A19%lines that fetch overflow are printed by EXCPT%\
     %     O        TF31     L0\n     O                                   20 'FIRST'\
     %     CL0                   SETOF                     99\n     CL0 L0 OF             SETON                     99\n     CL0 99                EXCPT\n     CL0 99                SETOF                     OF99\n     CL0                   SETON                     98\n     CL0                   EXCPT\n     CL0                   SETOF                     98\n     OOUT     E 31     98 L0\n     O                                   20 'FIRST'\
     %ask for the overflow indicator on overflow lines alone, and write no other lines of time E\
     @A20%UDAY, UMONTH and UYEAR are moved out of UDATE%\
     %     O                         UYEAR     20\
     %     C                     MOVE UDATE     UYEAR   20\n     O                         UYEAR     20\
-    %give --date as month, day, year. Lines that may be put out before any calculation are\nrejected\
+    %give --date as month, day, year. Lines that may be printed before any calculation are\nrejected\
     @A21%several disk files become one%\
     %     FONE     O   F      20            DISK\n     FTWO     O   F      30            DISK\n     OTWO     D        01\n     O                         AMT       30\
     %     FONE     O   F      31            DISK\n     OONE     D        01\n     O                                    1 'B'\n     O                         AMT       31\

@@ -29,9 +29,9 @@ pub(crate) const RULES: &str = "\
     @V9%an alternative is conditioned by MR%rows\
     %- in a program of version 1, an alternative that asks MR\
     %- an alternative that asks H9; in version 2, one that asks MR\
-    @V10%what a line puts out isn't there or has a bad index, or PAGE isn't a plain number of 4 digits without decimals%rows\
+    @V10%what a line outputs isn't there or has a bad index, or PAGE isn't a plain number of 4 digits without decimals%rows\
     %- field 3, an array, without an index; field 9, which is not there; PAGE of field 1\
-    %- entry 5 of field 3; field 4, whose current entry is put out\
+    %- entry 5 of field 3; field 4, whose current entry is output\
     @V11%what is edited isn't a number that the code fits, or a fill isn't allowed there%rows\
     %- field 2, a text, by code 1; field 5 by code Y; a fill beside code X\
     %- field 1 by code 1, or by code Y\
@@ -45,8 +45,8 @@ pub(crate) const RULES: &str = "\
     %- field 8, the date, with blank after\
     %- field 1 with blank after\
     @V15%a field is conditioned by MR%rows\
-    %- in a program of version 1, a field that is put out where MR is on\
-    %- a field that is put out where H9 is on; in version 2, one where MR is on\
+    %- in a program of version 1, a field that is output where MR is on\
+    %- a field that is output where H9 is on; in version 2, one where MR is on\
     @V16%an operand isn't there, or has a bad index or none that it needs%rows\
     %- ADD with field 9, which is not there; ADD with field 3, an array, without an index; entry 6 of\n  field 3\
     %- ADD with entry 5 of field 3\

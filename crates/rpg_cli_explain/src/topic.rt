@@ -108,9 +108,7 @@ impl Topic {
             Topic::Warning(_) => {
                 "reported on standard error for a source without a fault. The object program is written, and the\nline is as without it; status 0. With --deny nothing is written, and the line has the code; status 3"
             }
-            Topic::Halt(_) => {
-                "the job ends at once, and what was put out before stays; status 5"
-            }
+            Topic::Halt(_) => { "the job ends at once, and its output so far stays; status 5" }
             Topic::Rule(_) => {
                 "nothing is run. The lowest rule that a row breaks is reported, with the first row that breaks\nit, counted from 0; status 4"
             }

@@ -3,11 +3,11 @@
 /// The pages, in the order of their codes, each as [`crate::page::Page`] reads it.
 pub(crate) const WARNINGS: &str = "\
     W1%an indicator is tested, and nothing turns it on%cards\
-    %- where no card turns on 02, a line that is never put out:\n\n     OPRINT   D        02\
+    %- where no card turns on 02, a line that is never output:\n\n     OPRINT   D        02\
     %- an indicator that a record type, an input field, a result, SETON or a full page turns on:\n\n     IINPUT   AA  01\n     OPRINT   D        01\n\n- L0 to L9, LR and 1P, which the machine turns on\
     %look for the card that should turn it on: a record type (19-20), an input field\n(65-70), a result (54-59), or the F card of the printer (33-34). SETOF turns none on\
     @W2%an indicator is turned on, and no card tests it%cards\
-    %- where no card asks for 30:\n\n     C           AMT       COMP 100                  30\
+    %- where no card tests 30:\n\n     C           AMT       COMP 100                  30\
     %- record types, control levels, a full page, LR and H1 to H9, and the indicator of LOKUP, which\n  has to have one: no card need test these\
     %take it away, or look for the condition that should test it\
     @W3%a field overlaps another of the same line%cards\
@@ -29,4 +29,4 @@ pub(crate) const WARNINGS: &str = "\
     @W7%SETON turns on a halt indicator, which ends the job%cards\
     %- a halt to call the operator:\n\n     C   30                SETON                     H1\
     %- other indicators, and halt indicators that a record type or a result turns on:\n\n     IINPUT   AA  H1\n     C           AMT       COMP 100                  H2\
-    %if the job is to go on, put out a line of type E in its place, or test another\nindicator. It ends with halt 6 after the lines of that record, and what was printed is kept";
+    %if the job is to continue, print a line of type E in its place, or test another\nindicator. It ends with halt 6 after the lines of that record, and what was printed is kept";

@@ -162,7 +162,7 @@ const LOWER: &str = "match value \"{}\" is lower than \"{}\" of record {}";
 
 /// What a cycle does besides processing a record.
 const BETWEEN: &str =
-    "it was cycle {}, which puts out the detail lines of record {} and then takes record {}, or comes to the end of the input";
+    "it was cycle {}, which writes the detail lines of record {} and then reads record {}, or reaches the end of the input";
 
 impl HaltContext<'_> {
     /// Writes the name of the record's file, or of all input files if it isn't known.
@@ -226,13 +226,13 @@ impl HaltContext<'_> {
             (Some((_, record)), Halt::IndicatorOn, _) => ("record {} was the last one", record),
             (Some((_, record)), _, _) => ("it was record {}", record),
             (None, _, _) if has_two_files(self.program) => ("it was cycle {}", cycle),
-            (None, _, 0) => ("it was the first cycle, which takes record 1", cycle),
+            (None, _, 0) => ("it was the first cycle, which reads record 1", cycle),
             (None, _, _) => (BETWEEN, cycle),
         };
         let end = match before {
             0 => "; no cycle was done before\n",
-            1 => "; 1 cycle was done before, and what was put out stays\n",
-            _ => "; {} cycles were done before, and what was put out stays\n",
+            1 => "; 1 cycle was done before, and its output stays\n",
+            _ => "; {} cycles were done before, and their output stays\n",
         };
         out.fill(sentence, &[first.into(), before.into(), cycle.into()]);
         out.fill(end, &[before.into()]);

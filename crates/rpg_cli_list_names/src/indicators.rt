@@ -16,7 +16,7 @@ const AFTER: usize = 130;
 const MATCHING: u8 = 129;
 
 const HEADING: &str =
-    "\nINDICATORS\n      turned on by                              asked on (N: where it's off)\n";
+    "\nINDICATORS\n      turned on by                              tested on (N: where it's off)\n";
 
 /// The width of the column of what turns an indicator on.
 const TURNED: usize = 40;

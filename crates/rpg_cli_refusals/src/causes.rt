@@ -46,7 +46,7 @@ fn sentence_of(cause: Cause) -> &'static str {
         Cause::Movements { .. } => {
             "; it spaces {} before and {} after, and skips to {} before and {} after"
         }
-        Cause::Alternative { .. } => "; its alternative {} asks MR",
+        Cause::Alternative { .. } => "; its alternative {} tests MR",
         Cause::Field { .. } => "; its field {} is ",
         Cause::Tested { .. } => "; its indicators:",
         Cause::Target { .. } => "; it leads to {}; they begin at {} and end at {}",

@@ -15,7 +15,7 @@ use std::alloc::{AllocError, Global};
 const BYTES_OF_STEP: u64 = 10_000;
 
 const STEPS: &str =
-    "  steps    a cycle takes at most {}\n  output   a cycle puts out at most {} bytes, print and disk together\n";
+    "  steps    a cycle takes at most {}\n  output   a cycle writes at most {} bytes, print and disk together\n";
 
 fn has_field(fields: &[ControlField], level: u8) -> bool {
     for field in fields {
@@ -63,7 +63,7 @@ fn write_rows(out: &mut TextWriter, rows: &Rows, uses_date: bool) {
     write_length(out, printer, rows.printer_length, "  prints   nothing\n");
     write_length(out, disk, rows.disk_length, "");
     out.write_str(if uses_date {
-        "  date     used: --date is wanted\n"
+        "  date     used: --date is required\n"
     } else {
         "  date     not used\n"
     });

@@ -615,7 +615,7 @@ fn unread(
 ) -> Result<Error, AllocError> {
     let (kind, message) = match bad_value(matches) {
         Some(message) => (ErrorKind::InvalidValue, message),
-        None => (ErrorKind::MissingSubcommand, "a command is wanted"),
+        None => (ErrorKind::MissingSubcommand, "a command is required"),
     };
     fault(alloc, program_name(arguments), kind, message)
 }

@@ -8,7 +8,7 @@ use Rattle.rpg_cycle.specs.Doing.{Beside, Does, DoesAlone, DoesHolding}
 use Rattle.rpg_cycle.specs.Ends.{Continues, PhaseEnd, phase_end}
 use Rattle.rpg_cycle.specs.Phases.{Phase, detail_lines, halt_if_indicated, set_off, unless, ◌before◌}
 use Rattle.rpg_cycle.specs.Spending.{Spends, cycle_weight, reach, section_cost}
-use Rattle.rpg_cycle.specs.Stages.{IfStops, UnlessNoMemory, job_end}
+use Rattle.rpg_cycle.specs.Stages.{IfStops, job_end}
 use Rattle.rpg_cycle.specs.Staging.{CanDo, CanSpend, DoesPhase, DoesStage}
 use Rattle.rpg_cycle.specs.declared.ends.PhaseStop.{PhaseStop}
 use Rattle.rpg_program.proofs.Fronts.{grows_not}

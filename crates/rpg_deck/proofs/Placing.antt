@@ -11,11 +11,10 @@ use Rattle.rpg_cards.specs.Labels as old
 use Rattle.rpg_cards.specs.Labels.{begins_subroutine, begun_count, brackets, ends, is_begsr, is_inside_subroutine, labels_after, section_of}
 use Rattle.rpg_cards.specs.Sections.{is_subroutine}
 use Rattle.rpg_cards.specs.declared.labels.Label.{Label}
-use Rattle.rpg_cards.specs.declared.labels.Section.{Section}
 use Rattle.rpg_cards.specs.declared.labels.Section.TheVariants.{Outside, Subroutine}
 use Rattle.rpg_deck.proofs.LastCard.{last_map, unwrap_map}
 use Rattle.rpg_deck.specs.Steps as new
-use Rattle.rpg_deck.specs.Steps.{CalculationCards, SubroutineState, before_calculations, group_statement, label_of, operation_card, subroutine_state_after, steps_from}
+use Rattle.rpg_deck.specs.Steps.{CalculationCards, SubroutineState, before_calculations, group_statement, subroutine_state_after, steps_from}
 use Rattle.rpg_deck.specs.Same.{calculation_in}
 use Rattle.rpg_sheet_specs.specs.declared.calculation.ControlLevel.{ControlLevel}
 use Rattle.rpg_sheet_specs.specs.declared.calculation.ControlLevel.TheVariants as control

@@ -4,7 +4,7 @@ use Rattle.std.specs.Prelude.{◌≡◌, List, map}
 use Rattle.rpg_cards.specs.Cards.{calculation_on, data_on, extension_on, file_on, input_on, output_on}
 use Rattle.rpg_cards.specs.declared.spec_card.SpecCard.{SpecCard}
 use Rattle.rpg_deck.specs.Cut as cut
-use Rattle.rpg_deck.specs.Steps.{CalculationCards, SubroutineState, Step}
+use Rattle.rpg_deck.specs.Steps.{SubroutineState, Step}
 use Rattle.rpg_deck.specs.Tree.{Tree, cards_on, header_on}
 use Rattle.rpg_deck.specs.declared.card.Card.{Card}
 use Rattle.rpg_deck.specs.declared.cut.Group.{Group}
@@ -13,7 +13,6 @@ use Rattle.rpg_deck.specs.declared.deck.Deck.{Deck}
 use Rattle.rpg_deck.specs.declared.steps.Place as read_place
 use Rattle.rpg_deck.specs.declared.steps.Step as read_step
 use Rattle.rpg_deck.specs.declared.tree.Tree as read
-use Rattle.rpg_sheet_specs.specs.declared.calculation.CalculationSpec.{CalculationSpec}
 
 -- ---- cards
 

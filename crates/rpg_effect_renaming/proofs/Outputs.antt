@@ -1,5 +1,5 @@
 -- Renaming keys commutes with the outputs of a cycle.
-use Rattle.std.proofs.Common.{◌≡◌, ℕ, true, false, not, ◌&&◌, cond, List, map, Option, refl, Ordering}
+use Rattle.std.proofs.Common.{◌≡◌, ℕ, true, false, not, ◌&&◌, cond, List, map, Option, Ordering}
 use Rattle.rpg_program.specs.Lines.{Line, detail_output, movements_watched, overflow_details, overflow_output, settled, total_output}
 use Rattle.rpg_program.specs.Showing.{turned_off}
 use Rattle.rpg_program.specs.World.{World}

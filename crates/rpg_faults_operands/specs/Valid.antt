@@ -1,5 +1,5 @@
 -- Operands that certainly break neither F1, F4 nor F5.
-use Rattle.std.specs.Prelude.{◌≡◌, List, Bool, false, Option, Some}
+use Rattle.std.specs.Prelude.{◌≡◌, List, false, Option}
 use Rattle.std.specs.List.{list_any}
 use Rattle.std.specs.Option.{option_and_then, option_map_or}
 use Rattle.rpg_cards.specs.declared.spec_card.SpecCard.{SpecCard}

@@ -28,7 +28,7 @@ pub(crate) fn notes(alloc: Global, view: &View) -> Result<Vec<Note>, AllocError>
         if printer.overflow.is_blank() {
             notes.push(Note {
                 card: printer.number,
-                text: "no overflow indicator: the old system skipped over the fold by itself, here lines go on over it",
+                text: "no overflow indicator: the old system skipped over the fold by itself, here lines continue over it",
             })?;
         }
     }

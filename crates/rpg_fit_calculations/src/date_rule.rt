@@ -163,7 +163,7 @@ fn check_line(
     for field in line.fields.iter() {
         let name = field.card.value(32, 37);
         if is_part(parts, name) && (is_early || is_field_put_first(printer, line, field)) {
-            let why = "% on a line that may be put out before any calculation";
+            let why = "% on a line that may be printed before any calculation";
             return Err(RuleStop::about(field.number, why, Word::of(name)));
         }
     }

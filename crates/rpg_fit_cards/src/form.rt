@@ -126,7 +126,7 @@ fn reason(form_use: &FormUse, form: Form, keeps_forms: bool) -> Option<Sentence>
     if form.overflow != OVERFLOW {
         if let Some(indicator) = form_use.overflow {
             return Some(Sentence::of_two(
-                "the overflow line is % and not 60, and % is asked for",
+                "the overflow line is % and not 60, and % is tested",
                 Word::of_number(form.overflow),
                 indicator,
             ));
@@ -150,7 +150,7 @@ fn reason_of_short(form_use: &FormUse, lines: Word, keeps_forms: bool) -> Option
         return Some(Sentence::about(text, lines));
     }
     if let Some(indicator) = form_use.overflow {
-        let text = "a form of % lines, and % is asked for";
+        let text = "a form of % lines, and % is tested";
         return Some(Sentence::of_two(text, lines, indicator));
     }
     if keeps_forms {

@@ -130,7 +130,7 @@ fn put_records(
     let name = seen.card.value(11, 18);
     let word = Word::of(name);
     let Some(text) = settings.records_of(name) else {
-        let sentence = "the records of % are wanted: give --table %=FILE";
+        let sentence = "the records of % are needed: give --table %=FILE";
         editor.refuse(seen.number, Sentence::of_two(sentence, word, word));
         return Ok(());
     };

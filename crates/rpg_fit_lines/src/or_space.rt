@@ -257,7 +257,7 @@ impl Split<'_> {
     /// Rejects an alternative that would test overflow, or is one too many: an earlier line may turn overflow on.
     fn check(&self, tested: Indicator, alternatives: usize) -> Result<(), RuleStop> {
         if !self.overflow.is_blank() && tested == self.overflow {
-            let why = "an earlier alternative asks for overflow";
+            let why = "an earlier alternative tests overflow";
             return Err(RuleStop::because(self.card, why));
         }
         if alternatives >= MOST_ALTERNATIVES {

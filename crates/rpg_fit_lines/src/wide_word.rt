@@ -206,7 +206,7 @@ pub(crate) struct ShortNumber {
 
 /// Why a number with a value before any calculation isn't copied.
 const EARLY: &str =
-    "a word with more places than digits, and the line may be put out before any calculation";
+    "a word with more places than digits, and the line may be printed before any calculation";
 
 /// Whether a name is the date or a part of it.
 fn is_date(name: &[u8]) -> bool {

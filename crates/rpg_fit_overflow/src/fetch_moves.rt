@@ -300,7 +300,7 @@ impl Moves<'_> {
 /// Returns the sentence about lines that were moved and copied.
 fn remark(moved: usize, copied: usize) -> Sentence {
     Sentence::of_two(
-        "fetch: lines put out by EXCPT: %; lines of overflow before those that fetch: %",
+        "fetch: lines printed by EXCPT: %; lines of overflow before those that fetch: %",
         Word::of_number(moved),
         Word::of_number(copied),
     )

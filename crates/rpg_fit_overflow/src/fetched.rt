@@ -79,7 +79,7 @@ fn check_uses(alloc: Global, moves: &Moves) -> Result<(), RuleStop> {
     for one in uses.checked()? {
         let is_overflow = one.indicator == moves.indicator && one.form != b'F';
         if is_overflow && !is_alternative(moves.lines, *one) {
-            let why = "fetch, and % is asked for beside overflow lines";
+            let why = "fetch, and % is tested beside overflow lines";
             return Err(RuleStop::about(one.number, why, one.indicator.word()));
         }
     }

@@ -143,7 +143,7 @@ impl Deck<'_> {
     /// Rejects PAGE if its line, other than at overflow, or its own conditions test overflow.
     fn check_overflow(&self, page: PageField) -> Result<(), RuleStop> {
         if self.tests_normally(page.line) || self.overflow.is_tested(&page.own()) {
-            return refused(page, "overflow is asked for beside PAGE under conditions");
+            return refused(page, "overflow is tested beside PAGE under conditions");
         }
         Ok(())
     }

@@ -4,7 +4,7 @@ use Rattle.std.specs.Ordering.{nat_cmp}
 use Rattle.rpg_program.specs.Ended.{Ended, ends_with, followed_by, if_right}
 use Rattle.rpg_program.specs.Ends.{Fault, Continues, end_of}
 use Rattle.rpg_program.specs.Forms.{form_at, is_plain, kind_of, length_of}
-use Rattle.rpg_program.specs.Input.{field_in, fits_columns, fits_shows, input_fault, record_in, record_part, value_read}
+use Rattle.rpg_program.specs.Input.{field_in, fits_columns, fits_shows, input_fault, record_in, record_part}
 use Rattle.rpg_program.specs.World.{Data}
 use Rattle.rpg_program.specs.declared.form.FieldForm.{FieldForm}
 use Rattle.rpg_program.specs.declared.form.Kind.{Kind}

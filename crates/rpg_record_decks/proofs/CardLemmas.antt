@@ -1,6 +1,5 @@
 -- The cards of lines.
-use Rattle.std.proofs.Common.{◌≡◌, ℕ, ◌+◌, ◌-◌, ◌<◌, ◌≤◌, ◌++◌, ◌⊎◌, inl, inr, cond, Bool, true, false, List, [], ◌∷◌, length, take, refl, sym, ap, ◌∙◌, arith, append-nil, append_assoc, Result, Ok, Err}
-use Rattle.std.specs.Prelude.{replicate}
+use Rattle.std.proofs.Common.{◌≡◌, ℕ, ◌+◌, ◌-◌, ◌<◌, ◌≤◌, ◌++◌, ◌⊎◌, inl, inr, cond, Bool, true, false, List, [], ◌∷◌, length, take, refl, ap, ◌∙◌, arith, append-nil, Result, Ok, Err}
 use Rattle.std.proofs.lemmas.Bool.{cases_lt}
 use Rattle.std.proofs.lemmas.List.{length-take-le, take-take, take_all}
 use Rattle.rpg_sheet_specs.specs.Cards.{card_of, is_skipped}
@@ -9,7 +8,6 @@ use Rattle.rpg_record_decks.specs.Cards.{card_at, cards_from, ends_cards, with_d
 use Rattle.rpg_record_decks.specs.Outcomes.{and_then, at_card, onto}
 use Rattle.rpg_record_decks.specs.declared.deck.DeckCard.{DeckCard}
 use Rattle.rpg_record_decks.specs.declared.fault.CardFault.{CardFault}
-use Rattle.rpg_record_decks.specs.declared.fault.DeckFault.{DeckFault}
 use Rattle.rpg_record_decks.specs.declared.fault.DeckFault.TheVariants as faults
 
 -- only the columns of a line count

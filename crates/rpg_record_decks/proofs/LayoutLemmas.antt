@@ -1,5 +1,5 @@
 -- The file that is meant.
-use Rattle.std.proofs.Common.{◌≡◌, List, find, ap, Option, Some, None, Err, option_copied}
+use Rattle.std.proofs.Common.{◌≡◌, List, find, ap, Some, None, Err, option_copied}
 use Rattle.rpg_record_decks.specs.Files.{is_meant}
 use Rattle.rpg_record_decks.specs.Layouts.{layout_by_cards, layout_of_file}
 use Rattle.rpg_record_decks.specs.declared.deck.DeckCard.{DeckCard}

@@ -1,6 +1,6 @@
 -- Results that follow one another.
 use Rattle.std.proofs.Common.{◌≡◌, ℕ, List, [], ◌++◌, refl, sym, ap, append_assoc, IfErr, IfOk, Result, Ok, Err}
-use Rattle.rpg_record_decks.specs.Outcomes.{IsDeckFaultOf, and_then, at_card, onto}
+use Rattle.rpg_record_decks.specs.Outcomes.{IsDeckFaultOf, and_then, onto}
 use Rattle.rpg_record_decks.specs.declared.fault.DeckFault.{DeckFault}
 use Rattle.rpg_record_decks.specs.declared.fault.DeckFault.TheVariants as faults
 

@@ -1,10 +1,10 @@
 -- Types while their cards are read.
-use Rattle.std.proofs.Common.{◌≡◌, ℕ, ◌+◌, ◌<◌, ◌++◌, Bool, true, false, List, [], ◌∷◌, drop, get_or, length, map, refl, sym, ap, subst, ◌∙◌, append_assoc, Option, Some, None, Result, Ok, Err}
+use Rattle.std.proofs.Common.{◌≡◌, ℕ, ◌+◌, ◌<◌, ◌++◌, Bool, true, false, List, [], ◌∷◌, drop, get_or, length, map, refl, sym, ap, subst, ◌∙◌, Option, Some, Result, Ok}
 use Rattle.std.proofs.lemmas.List.{at_drop_more}
 use Rattle.rpg_sheet_specs.specs.declared.input.InputSpec.{InputSpec}
 use Rattle.rpg_records.specs.Seen.{number_seen}
 use Rattle.rpg_records.specs.declared.layout.NumberField.{NumberField}
-use Rattle.rpg_record_decks.proofs.OutcomeLemmas.{fault_onto, fault_then, onto-nil, onto-onto}
+use Rattle.rpg_record_decks.proofs.OutcomeLemmas.{fault_onto, fault_then, onto-onto}
 use Rattle.rpg_record_decks.specs.Outcomes.{IsDeckFaultOf, and_then, at_card, onto}
 use Rattle.rpg_record_decks.specs.Reading.{type_read}
 use Rattle.rpg_record_decks.specs.Types.{TypeRead, cards_of_file, input_spec_of, is_input_card, is_of_file, type_after, type_before, types_read_after}

@@ -1,5 +1,5 @@
 -- The file that is meant.
-use Rattle.std.specs.Prelude.{ℕ, List, Bool, ◌&&◌, codes, Option, Some, None, Result, Ok, Err, if◌then◌else◌, option_copied}
+use Rattle.std.specs.Prelude.{ℕ, List, Bool, ◌&&◌, codes, Option, Some, None, Result, Ok, Err, if◌then◌else◌}
 use Rattle.std.specs.Str.{bytes_eq}
 use Rattle.rpg_sheet_specs.specs.Columns.{cols}
 use Rattle.rpg_sheet_specs.specs.Tables.{file}

@@ -1,13 +1,12 @@
 -- The texts that were written so far.
-use Rattle.std.proofs.Common.{◌≡◌, ℕ, ◌+◌, List, [], ◌++◌, length, take, refl, sym, ap, subst, ◌∙◌, arith, Option, Some, None, unwrap_or, Result, Ok, Err}
+use Rattle.std.proofs.Common.{◌≡◌, ℕ, ◌+◌, List, [], ◌++◌, length, take, refl, sym, subst, ◌∙◌, arith, Option, Some, unwrap_or, Result, Ok, Err}
 use Rattle.std.proofs.KnownBytes.{Appends-nil, Appends-trans}
 use Rattle.std.proofs.Math.Seq.{take-append-add}
-use Rattle.std.proofs.lemmas.List.{take-append-le}
 use Rattle.std.specs.Io.KnownBytes.{Appends}
 use Rattle.std.proofs.Common.{append-nil, length-append, take_all}
 use Rattle.rpg_files.specs.Sending.{AppendsPrefix}
-use Rattle.rpg_record_lines.specs.Conversions.{Made, InputPlace, counts_after, conversion_fault, frame_stop, line_stop}
-use Rattle.rpg_record_lines.specs.Texts.{AreTexts, BeginsOne, EndsAfter, HaveBegun, HaveWritten, NoTexts, OneMore, WritesNext, WritesOne, WritesTexts, next_number, no_counts}
+use Rattle.rpg_record_lines.specs.Conversions.{Made, InputPlace, counts_after, frame_stop, line_stop}
+use Rattle.rpg_record_lines.specs.Texts.{BeginsOne, EndsAfter, HaveBegun, HaveWritten, NoTexts, OneMore, WritesNext, WritesOne, WritesTexts, no_counts}
 use Rattle.rpg_record_lines.specs.declared.conversion.ConversionFault.{ConversionFault}
 use Rattle.rpg_record_lines.specs.declared.conversion.ConversionFault.TheVariants as stops
 use Rattle.rpg_record_lines.specs.declared.conversion.Counts.{Counts}

@@ -13,7 +13,6 @@ use Rattle.rpg_program.specs.Object.{Object, input_length}
 use Rattle.rpg_refusal_causes.proofs.First.{one_of_two, some_any, some_front, some_if, some_later, some_not_all, some_unless}
 use Rattle.rpg_refusal_causes.specs.First.{cause_if, first_cause}
 use Rattle.rpg_refusal_causes.specs.TypeCauses.{code_cause, control_cause, input_cause, level_length_cause, levels_cause, match_cause, matches_cause, shown_cause, twice_cause, type_cause, widths_cause}
-use Rattle.rpg_refusal_causes.specs.declared.cause.RefusalCause.{RefusalCause}
 use Rattle.rpg_refusal_causes.specs.declared.cause.RefusalCause.TheVariants as causes
 use Rattle.rpg_verify_rules.specs.Indicators.{if_any, is_of_type}
 use Rattle.rpg_verify_rules.specs.TypeRules.{all_measured, are_joined_as, are_matches, are_once, first_matches, is_code_in, is_control_in, is_input_in, is_measured, is_of_level, joined_width, joined_widths, measures, shows_wrongly, type_breaks}

@@ -108,7 +108,7 @@ impl LineRule {
             }
             LineRule::V9 => "an alternative is conditioned by MR",
             LineRule::V10 => {
-                "what a line puts out isn't there or has a bad index, or PAGE isn't a plain number of 4 digits without decimals"
+                "what a line outputs isn't there or has a bad index, or PAGE isn't a plain number of 4 digits without decimals"
             }
             LineRule::V11 =>
                 "what is edited isn't a number that the code fits, or a fill isn't allowed there",

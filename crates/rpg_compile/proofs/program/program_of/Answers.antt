@@ -15,7 +15,7 @@ use Rattle.rpg_program.specs.Object.{LineRow, SubroutineRow}
 use Rattle.rpg_effect_renaming.specs.Naming.{renamed_type}
 use Rattle.rpg_compile_program.specs.Lines.{record_length_of}
 use Rattle.rpg_compile_program.specs.Program.{version_with}
-use Rattle.rpg_compile_program.specs.Table.{Table, key_number, table_of}
+use Rattle.rpg_compile_program.specs.Table.{Table, key_number}
 use Rattle.rpg_compile_program.specs.Types.{types_on}
 use Rattle.rpg_compile.proofs.Programs.{is_program, made_of}
 use Rattle.rpg_compile.proofs.program.program_of.Goals as goal

@@ -4,7 +4,7 @@ use Rattle.rpg_cycle.proofs.Spending.{of_same}
 use Rattle.rpg_cycle.proofs.Staging.{can_do, ends_here, goes_free, continues, of_phase, stage_own, steps_few, still_few, still_free}
 use Rattle.rpg_cycle.specs.Doing.{holding_kept, match_by}
 use Rattle.rpg_cycle.specs.Phases as spec
-use Rattle.rpg_cycle.specs.Spending.{detail_time_weight, fields_weight, section_cost}
+use Rattle.rpg_cycle.specs.Spending.{fields_weight, section_cost}
 use Rattle.rpg_cycle.specs.Staging.{DoesStage, KeepsSelected}
 use Rattle.rpg_cycle_records.specs.Holding.{HoldsSelected, inputs_of}
 use Rattle.rpg_program.specs.Object.{Object}

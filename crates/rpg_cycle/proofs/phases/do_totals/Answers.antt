@@ -6,7 +6,6 @@ use Rattle.rpg_machine.specs.Outputs.{output_weight}
 use Rattle.rpg_machine.specs.declared.time.OutputTime.TheVariants as times
 use Rattle.rpg_program.specs.Object.{Object}
 use Rattle.rpg_verify.specs.Bound.{bound}
-use Rattle.rpg_cycle.proofs.Composing.{same_program}
 use Rattle.rpg_cycle.proofs.phases.do_totals.Goals as goal
 
 pub calculate-requires-clause-can : goal.calculate-requires-clause-can

@@ -1,4 +1,4 @@
-use Rattle.std.proofs.Common.{◌≡◌, ◌+◌, ◌-◌, ◌++◌, List, ℕ, length, drop, take, sym, ap, subst, arith, length-drop}
+use Rattle.std.proofs.Common.{◌≡◌, ◌+◌, ◌-◌, ◌++◌, List, ℕ, length, sym, ap, subst, arith, length-drop}
 use Rattle.std.specs.List.{join_with_byte, slice_split}
 use Rattle.rpg_text.specs.Lines.{is_line_feed}
 use Rattle.rpg_records.specs.Seen.{layout_seen}

@@ -1,6 +1,5 @@
 use Rattle.std.proofs.Common.{◌+◌, ap, arith, [], Some, None}
 use Rattle.rpg_record_lines.proofs.StepLemmas.{dropped_taken, fault_taken, refused_taken, taken_end, taken_part, text_taken}
-use Rattle.std.proofs.Common.{refl}
 use Rattle.std.proofs.KnownBytes.{Appends-nil}
 use Rattle.rpg_record_lines.proofs.TextLemmas.{frame_next, line_next}
 use Rattle.rpg_record_lines.specs.Inputs.{offset_of, remaining_of}
