@@ -53,10 +53,10 @@ fn source_line(alloc: Global, path: &str, answer: &Answer) -> Result<String, All
 /// Returns the JSON object for one of several sources.
 fn object_line(alloc: Global, path: &str, answer: &Answer) -> Result<String, AllocError> {
     let line = line(answer);
-    let mut arguments = TextWriter::new(alloc);
-    arguments.write_shown(line.text.as_slice());
-    let arguments = arguments.finish()?;
-    source_object(alloc, path, arguments.as_str(), line.status)
+    let mut text = TextWriter::new(alloc);
+    text.write_shown(line.text.as_slice());
+    let text = text.finish()?;
+    source_object(alloc, path, text.as_str(), line.status)
 }
 
 fn shown_answer(

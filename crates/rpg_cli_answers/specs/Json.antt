@@ -45,7 +45,7 @@ count_members a = []
 
 -- the answer in words
 abbrev pub answer_member : List ℕ → List ℕ
-answer_member arguments = codes "{\"answer\":\"" ++ arguments ++ codes "\""
+answer_member answer = codes "{\"answer\":\"" ++ answer ++ codes "\""
 
 -- the line that is printed without JSON, which has no character that is escaped, the counts, and the exit status
 abbrev pub json_text : Answer → List ℕ

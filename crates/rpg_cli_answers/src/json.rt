@@ -131,14 +131,14 @@ fn add_counts(text: &mut Object, answer: &Answer)
 }
 
 /// Begins an object with the words of the answer.
-fn begin(arguments: &[u8]) -> Object
-    requires { length arguments.now ≤ 96 }
-    ensures items { result.items ≡ json.answer_member arguments.now }
+fn begin(answer: &[u8]) -> Object
+    requires { length answer.now ≤ 96 }
+    ensures items { result.items ≡ json.answer_member answer.now }
     ensures len { array_vec_len result ≤ 110 }
 {
     let mut text = ArrayVec::new();
     add(&mut text, b"{\"answer\":\"");
-    add(&mut text, arguments);
+    add(&mut text, answer);
     add(&mut text, b"\"");
     text
 }

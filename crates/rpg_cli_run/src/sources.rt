@@ -13,7 +13,7 @@ use std::alloc::Global;
 use std::rt::Files;
 
 /// The most faults of the source that are listed.
-const MOST_TOLD: u16 = 20;
+const MAX_LISTED: u16 = 20;
 
 /// The source of the program: its path, what it compiles to, and the cards of its rows.
 #[derive(Drop)]
@@ -72,7 +72,7 @@ pub fn own_source<'a, R: Files + AllocGlobal, L: Listener>(
         Ok(compiled) => Ok(Some(OwnSource::of(rt.alloc(), path, compiled)?)),
         Err((text, answer)) => {
             if let Answer::Source(_) = answer {
-                report_faults(rt.alloc(), path, &text, MOST_TOLD, listener);
+                report_faults(rt.alloc(), path, &text, MAX_LISTED, listener);
             }
             Err(answer)
         }

@@ -11,7 +11,7 @@ use rpg_refusal_causes::placed_at;
 use std::alloc::{AllocError, Global};
 
 /// The most numbers that are printed for one kind of use.
-const MOST_TOLD: usize = 12;
+const MAX_LISTED: usize = 12;
 
 /// How a row uses a field: a type reads columns into it, an instruction sets it or only uses it, a line contains it.
 #[derive(Clone, Copy, PartialEq, Eq)]
@@ -45,14 +45,14 @@ fn write_rows(out: &mut TextWriter, words: &str, uses: &[RowUse], by: By) {
             if count == 0 {
                 out.write_str(words);
             }
-            if count < MOST_TOLD {
+            if count < MAX_LISTED {
                 out.fill_one(" {}", used.row);
             }
             count = count.saturating_add(1);
         }
     }
-    if count > MOST_TOLD {
-        out.fill_one(" and {} more", count - MOST_TOLD);
+    if count > MAX_LISTED {
+        out.fill_one(" and {} more", count - MAX_LISTED);
     }
 }
 

@@ -24,9 +24,9 @@ pub struct Tally {
 }
 
 fn kind_of(line: &str) -> usize {
-    let told = line.strip_prefix("refused: ").unwrap_or(line);
+    let reported = line.strip_prefix("refused: ").unwrap_or(line);
     for (kind, name) in KINDS.split(',').enumerate() {
-        if told.starts_with(name) {
+        if reported.starts_with(name) {
             return kind;
         }
     }
