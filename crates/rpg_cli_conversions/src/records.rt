@@ -9,7 +9,7 @@ use rpg_cli_files::{
 use rpg_cli_words::{
     FileArgument, RecordFraming, RecordsArguments, RecordsWay, SameFile, Shared, is_standard,
 };
-use rpg_record_decks::{DeckFault, DeckWords, fitted_deck, layout_of};
+use rpg_record_decks::{DeckArguments, DeckFault, fitted_deck, layout_of};
 use rpg_record_lines::{
     ConversionFault, Counts, Framing, Layout, Page, RecordFormat, lines_to_records,
     records_to_lines,
@@ -38,7 +38,7 @@ fn layout<L: Listener>(
     source: &[u8],
     listener: &mut L,
 ) -> Result<Layout, Answer> {
-    let deck_arguments = DeckWords {
+    let deck_arguments = DeckArguments {
         file: arguments.file,
         length: arguments.length,
         are_lines: arguments.framing == RecordFraming::Lines,

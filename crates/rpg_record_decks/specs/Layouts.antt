@@ -8,7 +8,7 @@ use Rattle.rpg_record_decks.specs.Kinds.{type_of}
 use Rattle.rpg_record_decks.specs.Outcomes.{and_then, at_card}
 use Rattle.rpg_record_decks.specs.Types.{TypeRead, cards_of_file, types_read}
 use Rattle.rpg_record_decks.specs.declared.deck.DeckCard.{DeckCard}
-use Rattle.rpg_record_decks.specs.declared.deck.DeckWords.{DeckWords}
+use Rattle.rpg_record_decks.specs.declared.deck.DeckArguments.{DeckArguments}
 use Rattle.rpg_record_decks.specs.declared.fault.CardFault.TheVariants as card_faults
 use Rattle.rpg_record_decks.specs.declared.fault.DeckFault.{DeckFault}
 use Rattle.rpg_record_decks.specs.declared.fault.DeckFault.TheVariants as faults
@@ -53,13 +53,13 @@ layout_of_file given are_lines cards None = Err faults.NoFile
 layout_of_file given are_lines cards (Some file) = and_then (at_card file.number (length_by given file.card)) (layout_for are_lines file cards)
 
 -- the first card of the file that is meant
-abbrev pub file_meant : DeckWords → List DeckCard → Option DeckCard
+abbrev pub file_meant : DeckArguments → List DeckCard → Option DeckCard
 file_meant words cards = find (λ c. is_meant (option_copied words.file) c.card) cards
 
 -- the layout of the records of the file that is meant
-abbrev pub layout_by_cards : DeckWords → List DeckCard → Result LayoutSeen DeckFault
+abbrev pub layout_by_cards : DeckArguments → List DeckCard → Result LayoutSeen DeckFault
 layout_by_cards words cards = layout_of_file words.length words.are_lines cards (file_meant words cards)
 
 -- The layout of the records of a deck's file, or the first card that is rejected.
-abbrev pub layout_by : DeckWords → List ℕ → Result LayoutSeen DeckFault
+abbrev pub layout_by : DeckArguments → List ℕ → Result LayoutSeen DeckFault
 layout_by words source = and_then (cards_of source) (layout_by_cards words)

@@ -17,7 +17,7 @@ const COLUMNS: usize = 80;
 
 /// Which file of the deck to use, and what the arguments add to its cards.
 #[derive(Clone, Copy)]
-pub struct DeckWords<'a> {
+pub struct DeckArguments<'a> {
     /// The file's name; None for the primary file.
     pub file: Option<&'a str>,
     /// The length of a record, which overrides the one on the card.

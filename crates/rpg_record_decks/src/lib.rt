@@ -12,7 +12,7 @@ mod kinds;
 mod layout;
 mod types;
 
-pub use deck::DeckWords;
+pub use deck::DeckArguments;
 pub use fault::{CardFault, DeckFault};
 pub use fitted::fitted_deck;
 pub use layout::layout_of;
