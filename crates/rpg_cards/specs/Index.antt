@@ -5,8 +5,10 @@ use Rattle.std.specs.Map.{lookup}
 use Rattle.std.specs.Option.{option_or}
 use Rattle.rpg_cards.specs.Constants.{constants_in, is_same}
 use Rattle.rpg_cards.specs.Files.{files}
+use Rattle.rpg_cards.specs.Levels.{has_match_field}
 use Rattle.rpg_cards.specs.Names.{defined_as, definitions, is_of}
 use Rattle.rpg_cards.specs.declared.constants.Constant.{Constant}
+use Rattle.rpg_cards.specs.declared.index.CardIndex.{CardIndex}
 use Rattle.rpg_cards.specs.declared.index.FirstDefinition.{FirstDefinition}
 use Rattle.rpg_cards.specs.declared.names.Defined.{Defined}
 use Rattle.rpg_cards.specs.declared.names.Defined.TheVariants.{Missing}
@@ -43,6 +45,11 @@ defined_first (Some d) = defined_as d.form
 pub record IsIndex (names : List (List ℕ × FirstDefinition)) (constants : List (Constant × ℕ)) (cards : List SpecCard) : Type 0 where
   pub defined : (name : List ℕ) → lookup (pointwise nat_eq name) names ≡ first_at (is_of name) placed_definition 0 (definitions cards)
   pub standing : (x : Constant) → lookup (is_same x) constants ≡ first_at (is_same x) place_of_constant 0 (constants_in cards)
+
+-- the index of these cards
+pub record IsIndexOf (index : CardIndex) (cards : List SpecCard) : Type 0 where
+  pub places : IsIndex index.names.entries index.constants.entries cards
+  pub matching : index.has_match_field ≡ has_match_field cards
 
 -- two sources have the same files
 abbrev pub HasSameFiles : List SpecCard → List SpecCard → Type 0

@@ -8,7 +8,7 @@ ghost use Rattle.std.specs.Option.{option_or};
 ghost use Rattle.rpg_cards.specs.Constants as constants;
 ghost use Rattle.rpg_cards.specs.Constants.{constants_on, is_same};
 ghost use Rattle.rpg_cards.specs.Files as files;
-ghost use Rattle.rpg_cards.specs.Index.{defined_first, first_at, placed_definition, HasSameFiles, NotesConstants, NotesNames};
+ghost use Rattle.rpg_cards.specs.Index.{defined_first, first_at, placed_definition, HasSameFiles, IsIndexOf, NotesConstants, NotesNames};
 ghost use Rattle.rpg_cards.specs.Levels as levels;
 ghost use Rattle.rpg_cards.specs.Names as names;
 ghost use Rattle.rpg_cards.specs.Names.{definitions_on, is_of};
@@ -37,34 +37,17 @@ pub struct FirstDefinition {
 /// More cards than memory can hold.
 const MOST_CARDS: usize = usize::MAX / 2;
 
-/// The cards of a source, with constant-time lookup of names and constants.
+/// The names and constants of some cards, to look them up in constant time.
 #[derive(Drop)]
-pub struct IndexedCards<'a> {
-    cards: &'a [SpecCard],
+pub struct CardIndex {
     names: HashMap<Name, FirstDefinition>,
     constants: HashMap<Constant, usize>,
-    /// The cards from the first F card to the last.
-    around_files: &'a [SpecCard],
     has_match_field: bool,
 }
 
-impl<'a> Model for IndexedCards<'a> {
-    ghost use Rattle.std.specs.Prelude.{List, ◌≡◌};
-    ghost use Rattle.rpg_cards.specs.declared.spec_card.SpecCard.{SpecCard};
-
-    ghost Value = { List SpecCard };
-
-    ghost use Rattle.rpg_cards.specs.Index.{IsIndex, HasSameFiles};
-    ghost use Rattle.rpg_cards.specs.Levels as levels;
-
-    ghost view = { λ i. i.cards.now };
-
-    ghost invariant = { λ i. IsIndex i.names.entries i.constants.entries i.cards.now × HasSameFiles i.around_files.now i.cards.now × (i.has_match_field ≡ levels.has_match_field i.cards.now) };
-}
-
-impl<'a> IndexedCards<'a> {
-    pub fn new(alloc: Global, cards: &'a [SpecCard]) -> Result<Self, AllocError>
-        ensures { IfOk result (λ indexed. indexed ≡ cards.now) }
+impl CardIndex {
+    fn new(alloc: Global, cards: &[SpecCard]) -> Result<Self, AllocError>
+        ensures { IfOk result (λ index. IsIndexOf index cards.now) }
     {
         if cards.len() > MOST_CARDS {
             return Err(AllocError);
@@ -77,13 +60,61 @@ impl<'a> IndexedCards<'a> {
             name_place = note_names(&mut names, name_place, card)?;
             constant_place = note_constants(&mut constants, constant_place, card)?;
         }
-        Ok(IndexedCards {
-            cards,
+        Ok(CardIndex {
             names,
             constants,
-            around_files: up_to_last_file(from_first_file(cards)),
             has_match_field: has_match_field(cards),
         })
+    }
+
+    /// Returns these cards with their index.
+    pub fn over(self, cards: &[SpecCard]) -> IndexedCards<'_>
+        requires { IsIndexOf self cards.now }
+        ensures { result ≡ cards.now }
+    {
+        IndexedCards {
+            cards,
+            index: self,
+            around_files: up_to_last_file(from_first_file(cards)),
+        }
+    }
+}
+
+/// The cards of a source, with constant-time lookup of names and constants.
+#[derive(Drop)]
+pub struct IndexedCards<'a> {
+    cards: &'a [SpecCard],
+    index: CardIndex,
+    /// The cards from the first F card to the last.
+    around_files: &'a [SpecCard],
+}
+
+impl<'a> Model for IndexedCards<'a> {
+    ghost use Rattle.std.specs.Prelude.{List, ◌≡◌};
+    ghost use Rattle.rpg_cards.specs.declared.spec_card.SpecCard.{SpecCard};
+
+    ghost Value = { List SpecCard };
+
+    ghost use Rattle.rpg_cards.specs.Index.{IsIndexOf, HasSameFiles};
+
+    ghost view = { λ i. i.cards.now };
+
+    ghost invariant = { λ i. IsIndexOf i.index i.cards.now × HasSameFiles i.around_files.now i.cards.now };
+}
+
+impl<'a> IndexedCards<'a> {
+    /// Finds the first place of each name and constant. Fails only if memory runs out.
+    pub fn new(alloc: Global, cards: &'a [SpecCard]) -> Result<Self, AllocError>
+        ensures { IfOk result (λ indexed. indexed ≡ cards.now) }
+    {
+        Ok(CardIndex::new(alloc, cards)?.over(cards))
+    }
+
+    /// Returns the index without the cards.
+    pub fn into_index(self) -> CardIndex
+        ensures { IsIndexOf result self }
+    {
+        self.index
     }
 
     pub fn as_slice(&self) -> &'a [SpecCard]
@@ -122,14 +153,14 @@ impl<'a> IndexedCards<'a> {
     fn first_definition(&self, name: &Name) -> Option<FirstDefinition>
         ensures { result ≡ first_at (is_of name.now) placed_definition 0 (names.definitions self.now) }
     {
-        self.names.get(name).copied()
+        self.index.names.get(name).copied()
     }
 
     /// Returns the first definition of a name, if it is among the first `place`.
     fn first_before(&self, name: &Name, place: usize) -> Option<FirstDefinition>
         ensures { result ≡ first_at (is_of name.now) placed_definition 0 (take place (names.definitions self.now)) }
     {
-        match self.names.get(name) {
+        match self.index.names.get(name) {
             Some(first) if first.place < place => Some(*first),
             _ => None,
         }
@@ -152,7 +183,7 @@ impl<'a> IndexedCards<'a> {
     pub fn is_new_constant(&self, place: usize, constant: &Constant) -> bool
         ensures { result ≡ not (list_any (is_same constant.now) (take place (constants.constants_in self.now))) }
     {
-        match self.constants.get(constant) {
+        match self.index.constants.get(constant) {
             None => true,
             Some(first) => *first >= place,
         }
@@ -176,7 +207,7 @@ impl<'a> IndexedCards<'a> {
     pub fn has_match_field(&self) -> bool
         ensures { result ≡ levels.has_match_field self.now }
     {
-        self.has_match_field
+        self.index.has_match_field
     }
 }
 

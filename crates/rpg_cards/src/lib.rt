@@ -20,7 +20,7 @@ pub use alternatives::{condition_of, conditions, depends, in_places, is_or, leve
 pub use constants::{Constant, ConstantText, factor_constant};
 pub use files::{FileUse, file_for, file_named, use_of};
 pub use groups::{continues, group_end, joins, last_card};
-pub use index::IndexedCards;
+pub use index::{CardIndex, IndexedCards};
 pub use indicators::{number_of, shows_of};
 pub use labels::{
     Label, Named, Section, begins_subroutine, defined_name, ends_subroutine, is_subroutine,

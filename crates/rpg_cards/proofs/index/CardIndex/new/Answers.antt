@@ -4,7 +4,7 @@ use Rattle.rpg_cards.proofs.IndexLemmas.{index_more}
 use Rattle.rpg_cards.proofs.ItemLemmas.{constants_in-take, definitions-take, few_constants, few_constants_on, few_definitions, few_definitions_on}
 use Rattle.rpg_cards.specs.Constants.{constants_in, constants_on}
 use Rattle.rpg_cards.specs.Names.{definitions, definitions_on}
-use Rattle.rpg_cards.proofs.index.IndexedCards.new.Goals as goal
+use Rattle.rpg_cards.proofs.index.CardIndex.new.Goals as goal
 
 pub note_names-requires : goal.note_names-requires
 note_names-requires c =

@@ -2,7 +2,7 @@ use Rattle.std.proofs.Common.{◌≡◌, length, take}
 use Rattle.rpg_cards.specs.Constants.{constants_in}
 use Rattle.rpg_cards.specs.Index.{IsIndex}
 use Rattle.rpg_cards.specs.Names.{definitions}
-use Rattle.rpg_cards.proofs.index.IndexedCards.new.Given as goal
+use Rattle.rpg_cards.proofs.index.CardIndex.new.Given as goal
 
 abbrev pub invariant-loop-card : goal.invariant-loop-card
 invariant-loop-card l = record {
