@@ -20,7 +20,7 @@ fn check_source<R: Files + Input + AllocGlobal, L: Listener>(
 ) -> Result<(), Answer> {
     let source = named(FileArgument::Source, source_bytes(rt, path))?;
     match faultless_cards(rt.alloc(), &source) {
-        Ok(cards) => judge_warnings(rt.alloc(), path, &source, &cards, arguments, listener),
+        Ok(faultless) => judge_warnings(rt.alloc(), path, &source, faultless, arguments, listener),
         Err(fault) => {
             report_faults(rt.alloc(), path, &source, arguments.most, listener);
             Err(fault.into())

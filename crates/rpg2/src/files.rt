@@ -18,16 +18,16 @@ use std::rt::Files;
 fn write_object<R: Files + AllocGlobal, L: Listener>(
     rt: &R,
     arguments: &CompileArguments,
-    source: &[u8],
-    object: &CompiledObject,
+    text: &[u8],
+    object: CompiledObject,
     listener: &mut L,
 ) -> Result<(), CommandStop> {
-    let cards = &object.cards;
+    let CompiledObject { source, bytes } = object;
     judge_warnings(
         rt.alloc(),
         arguments.source,
+        text,
         source,
-        cards,
         arguments.warnings,
         listener,
     )?;
@@ -36,7 +36,7 @@ fn write_object<R: Files + AllocGlobal, L: Listener>(
     refuse_same_file(written, &[source])?;
     Ok(named(
         FileArgument::Object,
-        write_bytes(rt, arguments.object, &object.bytes),
+        write_bytes(rt, arguments.object, &bytes),
     )?)
 }
 
@@ -51,7 +51,7 @@ pub(crate) fn compile_files<R: Files + Input + AllocGlobal, L: Listener>(
 ) -> Result<(), CommandStop> {
     let source = named(FileArgument::Source, source_bytes(rt, arguments.source))?;
     match compiled(rt.alloc(), &source, arguments.allowance) {
-        Ok(object) => write_object(rt, arguments, &source, &object, listener),
+        Ok(object) => write_object(rt, arguments, &source, object, listener),
         Err(answer) => {
             let most = arguments.warnings.most;
             report_faults(rt.alloc(), arguments.source, &source, most, listener);

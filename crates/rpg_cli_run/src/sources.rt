@@ -50,8 +50,8 @@ impl OwnSource<'_> {
 }
 
 fn rows_of(alloc: Global, text: &[u8]) -> Result<SourceRows, Answer> {
-    let cards = faultless_cards(alloc, text)?;
-    match SourceRows::of_cards(alloc, &cards) {
+    let source = faultless_cards(alloc, text)?;
+    match SourceRows::of_cards(alloc, &source.cards) {
         Ok(rows) => Ok(rows),
         Err(_) => Err(Answer::NoMemory),
     }

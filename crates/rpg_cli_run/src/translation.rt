@@ -5,17 +5,16 @@ ghost use Rattle.rpg_cli_run.specs.Spelling.{CompilesTo};
 ghost use Rattle.rpg_object.specs.Program.{first_fault};
 ghost use Rattle.rpg_faults.specs.Source.{AreFaultless, IsSourceRefusal};
 
-use rpg_cards::SpecCard;
 use rpg_compile::{Compiled, compile_with_cards};
-use rpg_faults::SourceFault;
+use rpg_faults::{FaultlessCards, SourceFault};
 use rpg_object::encode;
 use rpg_object::laws::a_spelling_is_read_again;
 use std::alloc::Global;
 
-/// The bytes of an object program, with the cards of the source that it was compiled from.
+/// The bytes of an object program, and the source that it was compiled from.
 #[derive(Drop)]
 pub struct CompiledObject {
-    pub cards: Vec<SpecCard>,
+    pub source: FaultlessCards,
     pub bytes: Vec<u8>,
 }
 
@@ -28,12 +27,12 @@ pub(crate) fn compile_to_object(
     requires { 0 < allowance }
     // The program obeys all rules, and the bytes decode to exactly that program.
     ensures ok { IfOk result (λ object. CompilesTo text.now allowance object.bytes.items) }
-    ensures cards { IfOk result (λ object. AreFaultless text.now object.cards.items) }
+    ensures cards { IfOk result (λ object. AreFaultless text.now object.source.cards.items) }
     ensures refused { IfErr result (λ fault. IsSourceRefusal fault text.now) }
     ensures faultless { IfOk result (λ object. first_fault object.bytes.items ≡ None) }
 {
     a_spelling_is_read_again();
-    let Compiled { cards, program } = compile_with_cards(alloc, text, allowance)?;
+    let Compiled { source, program } = compile_with_cards(alloc, text, allowance)?;
     let bytes = encode(alloc, &program)?;
-    Ok(CompiledObject { cards, bytes })
+    Ok(CompiledObject { source, bytes })
 }

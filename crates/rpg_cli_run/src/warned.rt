@@ -3,11 +3,10 @@
 ghost use Rattle.std.specs.Prelude.{IfErr, OnOk};
 ghost use Rattle.rpg_cli_run.specs.Warned.{IsDenied, PassesWarnings};
 
-use rpg_cards::SpecCard;
 use rpg_cli_answers::{Answer, Listener};
 use rpg_cli_warnings::{Warning, wanted_warnings, warning_messages};
 use rpg_cli_words::WarningArguments;
-use rpg_faults::{SourceFault, faultless_cards};
+use rpg_faults::{FaultlessCards, SourceFault, faultless_cards};
 use std::alloc::Global;
 
 /// Rejects a source for the first of these warnings, if the arguments deny them.
@@ -44,20 +43,21 @@ fn report_warnings<L: Listener>(
     }
 }
 
-/// Reports the warnings of a source without faults, given its cards, and rejects it if it has one and the arguments deny it.
+/// Reports the warnings of a source without faults, given its text, and rejects it if it has one and the arguments deny it.
 ///
 /// If memory runs out while looking for them, the source is rejected only if the arguments deny warnings.
 pub fn judge_warnings<L: Listener>(
     alloc: Global,
     path: &str,
-    source: &[u8],
-    cards: &[SpecCard],
+    text: &[u8],
+    source: FaultlessCards,
     arguments: WarningArguments,
     listener: &mut L,
 ) -> Result<(), Answer> {
-    match wanted_warnings(alloc, cards, arguments.allowed) {
+    let (cards, index) = source.into_parts();
+    match wanted_warnings(alloc, &index.over(&cards), arguments.allowed) {
         Ok(warnings) => {
-            report_warnings(alloc, path, source, arguments, &warnings, listener);
+            report_warnings(alloc, path, text, arguments, &warnings, listener);
             judged(arguments, &warnings)
         }
         Err(_) if arguments.denies => Err(Answer::NoMemory),
@@ -74,7 +74,7 @@ pub(crate) fn deny_warnings<L: Listener>(
     listener: &mut L,
 ) -> Result<(), Answer> {
     match faultless_cards(alloc, source) {
-        Ok(cards) => judge_warnings(alloc, path, source, &cards, arguments, listener),
+        Ok(faultless) => judge_warnings(alloc, path, source, faultless, arguments, listener),
         Err(SourceFault::NoMemory) if arguments.denies => Err(Answer::NoMemory),
         Err(_) => Ok(()),
     }

@@ -10,7 +10,7 @@ use crate::indicators::put_indicators;
 use crate::overlaps::put_overlaps;
 use crate::pages::put_pages;
 use crate::warning::Warning;
-use rpg_cards::{IndexedCards, SpecCard};
+use rpg_cards::IndexedCards;
 use rpg_cli_values::{WarningCode, WarningCodes};
 use std::alloc::{AllocError, Global};
 
@@ -67,13 +67,12 @@ fn without(
 /// Returns the warnings of a source without faults, in the order of its cards, except those whose codes are allowed.
 pub fn wanted_warnings(
     alloc: Global,
-    cards: &[SpecCard],
+    source: &IndexedCards,
     allowed: WarningCodes,
 ) -> Result<Vec<Warning>, AllocError>
-    ensures { IfOk result (λ warnings. IsPermutation (warned.wanted_of allowed cards.now) warnings.items) }
+    ensures { IfOk result (λ warnings. IsPermutation (warned.wanted_of allowed source.now) warnings.items) }
 {
-    let cards = IndexedCards::new(alloc, cards)?;
-    let warnings = source_warnings(alloc, &cards)?;
+    let warnings = source_warnings(alloc, source)?;
     let mut wanted = without(alloc, &warnings, allowed)?;
     wanted.sort_by_key(|warning| warning.card)?;
     Ok(wanted)

@@ -5,15 +5,14 @@ ghost use Rattle.rpg_compile.specs.Compile.{Compiles};
 ghost use Rattle.rpg_faults.specs.Source.{AreFaultless, IsSourceRefusal};
 
 use crate::program::translate;
-use rpg_cards::SpecCard;
-use rpg_faults::{SourceFault, faultless_cards};
+use rpg_faults::{FaultlessCards, SourceFault, faultless_cards};
 use rpg_program::Program;
 use std::alloc::Global;
 
-/// A source without faults: its cards, and the program that they compile to.
+/// A source without faults, and the program that it compiles to.
 #[derive(Drop)]
 pub struct Compiled {
-    pub cards: Vec<SpecCard>,
+    pub source: FaultlessCards,
     pub program: Program,
 }
 
@@ -25,12 +24,12 @@ pub fn compile_with_cards(
 ) -> Result<Compiled, SourceFault>
     requires { 0 < allowance }
     ensures ok { IfOk result (λ compiled. Compiles text.now allowance compiled.program) }
-    ensures cards { IfOk result (λ compiled. AreFaultless text.now compiled.cards.items) }
+    ensures cards { IfOk result (λ compiled. AreFaultless text.now compiled.source.cards.items) }
     ensures err { IfErr result (λ fault. IsSourceRefusal fault text.now) }
 {
-    let cards = faultless_cards(alloc, text)?;
-    let program = translate(alloc, &cards, allowance)?;
-    Ok(Compiled { cards, program })
+    let source = faultless_cards(alloc, text)?;
+    let program = translate(alloc, &source.cards, allowance)?;
+    Ok(Compiled { source, program })
 }
 
 /// Compiles a source. `allowance` limits the backward branches and calls of a cycle of its program.
@@ -39,6 +38,6 @@ pub fn compile(alloc: Global, text: &[u8], allowance: u16) -> Result<Program, So
     ensures ok { IfOk result (λ program. Compiles text.now allowance program) }
     ensures err { IfErr result (λ fault. IsSourceRefusal fault text.now) }
 {
-    let cards = faultless_cards(alloc, text)?;
-    Ok(translate(alloc, &cards, allowance)?)
+    let source = faultless_cards(alloc, text)?;
+    Ok(translate(alloc, &source.cards, allowance)?)
 }

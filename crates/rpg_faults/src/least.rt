@@ -1,7 +1,8 @@
 //! The first fault.
 
-ghost use Rattle.std.specs.Prelude.{◌≡◌, [], ◌∷◌, find, MatchOption, IfOk};
+ghost use Rattle.std.specs.Prelude.{◌≡◌, [], ◌∷◌, find, IfOk};
 ghost use Rattle.rpg_faults.specs.Faults as faults;
+ghost use Rattle.rpg_faults.specs.Judged.{IsJudged};
 ghost use Rattle.rpg_faults.specs.Rules as rules;
 ghost use Rattle.rpg_faults.specs.Seen.{AreCardsSeen};
 
@@ -10,19 +11,29 @@ use crate::cards::OrderedCards;
 use crate::code::FaultCode;
 use crate::fault::Fault;
 use crate::seen::Seen;
-use rpg_cards::{IndexedCards, SpecCard};
+use rpg_cards::{CardIndex, IndexedCards, SpecCard};
 use rpg_faults_limits::lacks_input;
 use rpg_faults_operands::has_valid_operands;
 use rpg_faults_tree::AnalyzedCards;
 use std::alloc::{AllocError, Global};
 
-/// Returns the first fault by card, then by code, in one pass over the cards. Fails only if memory runs out.
-pub(crate) fn first_fault(alloc: Global, cards: &OrderedCards) -> Result<Option<Fault>, AllocError>
-    ensures { IfOk result (λ found. MatchOption found (faults.Faultless cards.now.cards.items) (λ fault. faults.IsLeastFault cards.now.cards.items fault)) }
+/// Returns the index of cards without faults, or the first fault by card, then by code, in one pass over the cards. Fails only if memory
+/// runs out.
+pub(crate) fn faultless_index(
+    alloc: Global,
+    cards: &OrderedCards,
+) -> Result<Result<CardIndex, Fault>, AllocError>
+    ensures { IfOk result (λ judged. IsJudged cards.now.cards.items judged) }
 {
     let source = IndexedCards::new(alloc, &cards.cards)?;
-    let source = AnalyzedCards::new(alloc, &source)?;
-    Ok(least_fault(&source))
+    let fault = {
+        let analyzed = AnalyzedCards::new(alloc, &source)?;
+        least_fault(&analyzed)
+    };
+    match fault {
+        Some(fault) => Ok(Err(fault)),
+        None => Ok(Ok(source.into_index())),
+    }
 }
 
 fn least_fault(source: &AnalyzedCards) -> Option<Fault>

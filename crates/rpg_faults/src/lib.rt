@@ -22,6 +22,6 @@ pub use code::FaultCode;
 pub use columns::misplaces;
 pub use every_source::source_faults;
 pub use fault::Fault;
-pub use source::faultless_cards;
+pub use source::{FaultlessCards, faultless_cards};
 pub use source_fault::{CardFault, SourceCode, SourceFault};
 pub use state::Places;

@@ -1,28 +1,50 @@
 //! Reads the text of a source to its cards.
 
-ghost use Rattle.std.specs.Prelude.{IfOk, IfErr};
+ghost use Rattle.std.specs.Prelude.{◌≡◌, IfOk, IfErr};
+ghost use Rattle.rpg_cards.specs.Index.{IsIndexOf};
+ghost use Rattle.rpg_faults.specs.Props.{IsIndexOf-prop};
 ghost use Rattle.rpg_faults.specs.Source as sources;
 
 use crate::cards::spec_cards;
-use crate::least::first_fault;
+use crate::least::faultless_index;
 use crate::source_fault::{SourceCode, SourceFault};
-use rpg_cards::SpecCard;
+use rpg_cards::{CardIndex, SpecCard};
 use std::alloc::Global;
 
-/// Returns the cards of a source without faults that belong to a sheet, each with its
-/// number.
-pub fn faultless_cards(alloc: Global, text: &[u8]) -> Result<Vec<SpecCard>, SourceFault>
-    ensures ok { IfOk result (λ cards. sources.AreFaultless text.now cards.items) }
+/// The cards of a source without faults that belong to a sheet, each with its number, and their index.
+#[derive(Drop)]
+pub struct FaultlessCards {
+    pub cards: Vec<SpecCard>,
+    pub(crate) index: CardIndex,
+    pub ghost exact: { IsIndexOf index cards.items } by { IsIndexOf-prop index cards.items },
+}
+
+impl FaultlessCards {
+    /// Returns the cards, and the index that `CardIndex::over` puts over them.
+    pub fn into_parts(self) -> (Vec<SpecCard>, CardIndex)
+        ensures cards { result.0 ≡ self.cards }
+        ensures index { IsIndexOf result.1 result.0.items }
+    {
+        (self.cards, self.index)
+    }
+}
+
+/// Returns the cards of a source without faults.
+pub fn faultless_cards(alloc: Global, text: &[u8]) -> Result<FaultlessCards, SourceFault>
+    ensures ok { IfOk result (λ source. sources.AreFaultless text.now source.cards.items) }
     ensures err { IfErr result (λ fault. sources.IsSourceRefusal fault text.now) }
 {
     let cards = rpg_sheet::cards(alloc, text)?;
     let cards = spec_cards(alloc, cards)?;
-    match first_fault(alloc, &cards)? {
-        Some(fault) => Err(SourceFault::At {
+    match faultless_index(alloc, &cards)? {
+        Err(fault) => Err(SourceFault::At {
             card: fault.card,
             code: SourceCode::Fault(fault.code),
             columns: None,
         }),
-        None => Ok(cards.cards),
+        Ok(index) => Ok(FaultlessCards {
+            cards: cards.cards,
+            index,
+        }),
     }
 }
