@@ -112,7 +112,7 @@ impl<'a> IndexedCards<'a> {
 
     /// Returns the index without the cards.
     pub fn into_index(self) -> CardIndex
-        ensures { IsIndexOf result self }
+        ensures { IsIndexOf result self.entry }
     {
         self.index
     }

@@ -22,7 +22,7 @@ pub struct FaultlessCards {
 impl FaultlessCards {
     /// Returns the cards, and the index that `CardIndex::over` puts over them.
     pub fn into_parts(self) -> (Vec<SpecCard>, CardIndex)
-        ensures cards { result.0 ≡ self.cards }
+        ensures cards { result.0.items ≡ self.entry.cards.items }
         ensures index { IsIndexOf result.1 result.0.items }
     {
         (self.cards, self.index)
@@ -42,9 +42,9 @@ pub fn faultless_cards(alloc: Global, text: &[u8]) -> Result<FaultlessCards, Sou
             code: SourceCode::Fault(fault.code),
             columns: None,
         }),
-        Ok(index) => Ok(FaultlessCards {
-            cards: cards.cards,
-            index,
-        }),
+        Ok(index) => {
+            let cards = cards.cards;
+            Ok(FaultlessCards { cards, index })
+        }
     }
 }
