@@ -4,13 +4,15 @@ pub mod Codes
 pub mod Every
 pub mod EverySource
 pub mod Faults
+pub mod Judged
 pub mod Lengths
 pub mod Marks
 pub mod Matches
 pub mod Places
+pub mod Props
+pub mod Reported
 pub mod Rules
 pub mod Seen
 pub mod Source
 pub mod SourceCodes
 pub mod State
-pub mod Reported
