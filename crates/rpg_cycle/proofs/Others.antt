@@ -7,7 +7,7 @@ use Rattle.rpg_paper.specs.Paper.{Position, skipped, spaced, turns_overflow_on}
 use Rattle.rpg_program.specs.Effect.{Effect, Leaves, go_on, then_go, unless_wrong}
 use Rattle.rpg_program.specs.Ends.{End, Fault, Continues, Halt, Wrong}
 use Rattle.rpg_program.specs.LineFaults.{line_fault}
-use Rattle.rpg_program.specs.Lines.{Draft, Line, after_movement, after_skip, after_space, assembled, blank_line, blanked_all, detail_output, is_due, line_out, lines_out, one_out, put_on, output_lines, settled, spaced_after, spaced_before, where_due, with_fields}
+use Rattle.rpg_program.specs.Lines.{Draft, Line, after_movement, after_skip, after_space, assembled, blank_line, blanked_all, detail_output, is_due, line_out, lines_out, one_out, put_on, write_line_out, settled, spaced_after, spaced_before, where_due, with_fields}
 use Rattle.rpg_program.specs.Showing.{turned_off, turned_on}
 use Rattle.rpg_program.specs.World.{World}
 use Rattle.rpg_program.specs.declared.form.FieldForm.{FieldForm}
@@ -89,7 +89,7 @@ put_on_keeps n o Printer s text w h =
 put_on_keeps n o Disk s text w h = nothing n w
 
 module _ (forms : ℕ → Option FieldForm) (words : ℕ → List ℕ) where
-  output_keeps : (n : ℕ) (o : Option ℕ) (l : Line ℕ) (w : World nat_cmp) (e : End) (d : Draft nat_cmp) → IsOther o n → Keeps n w (output_lines forms words o l w e d).world
+  output_keeps : (n : ℕ) (o : Option ℕ) (l : Line ℕ) (w : World nat_cmp) (e : End) (d : Draft nat_cmp) → IsOther o n → Keeps n w (write_line_out forms words o l w e d).world
   output_keeps n o l w Continues d h =
       let drawn = with_fields d.fields w in
       let put = put_on_keeps n o l.file l.spacing d.text drawn h in
@@ -105,7 +105,7 @@ module _ (forms : ℕ → Option FieldForm) (words : ℕ → List ℕ) where
   unfolding line_out
   line_keeps n o l w h =
       let drawn = assembled forms words w.data.on l.len l.fields (blank_line l.len w) in
-      unless_keeps n (line_fault l.len l.spacing) w (output_lines forms words o l w drawn.ending drawn.draft) (output_keeps n o l w drawn.ending drawn.draft h)
+      unless_keeps n (line_fault l.len l.spacing) w (write_line_out forms words o l w drawn.ending drawn.draft) (output_keeps n o l w drawn.ending drawn.draft h)
 
   asked_keeps : (n : ℕ) (b : Bool) (e : Effect nat_cmp) (w : World nat_cmp) → Keeps n w e.world → Keeps n w (where_due forms words b e w).world
   asked_keeps n true e w h = h

@@ -23,7 +23,7 @@ use Rattle.rpg_cycle_safety.proofs.Moving.{IsShort, after_up, before_up, short_s
 use Rattle.rpg_cycle_safety.proofs.Printing.{Draws, one_keeps}
 use Rattle.rpg_cycle_safety.specs.Holding.{Holds}
 use Rattle.rpg_cycle_safety.specs.Measuring.{StandsNear, bytes_of_step}
-use Rattle.rpg_machine_lines.proofs.Passages.{none_asked}
+use Rattle.rpg_machine_lines.proofs.Passages.{none_due}
 use Rattle.rpg_machine_lines.specs.Passages.{may_count}
 use Rattle.rpg_program.specs.Constants.{word_at}
 use Rattle.rpg_program.specs.Kept.{IsProgram}
@@ -168,7 +168,7 @@ module _ (p : Object) where
           (few_more previous 1 (line_weight (program_line p l)) line (omega arith) (line_few l previous w sound h near)) near
       one_by false l previous w meant sound h near =
           let line = line_out (form_at p.fields) (word_at p) overflow (program_line p l) w in
-          subst (λ (b : Bool). PutsFew previous 0 (where_due (form_at p.fields) (word_at p) b line w)) (sym (none_asked overflow pass w.data.on l.time l.alternatives (others l.time meant)))
+          subst (λ (b : Bool). PutsFew previous 0 (where_due (form_at p.fields) (word_at p) b line w)) (sym (none_due overflow pass w.data.on l.time l.alternatives (others l.time meant)))
           (leaves_few previous w near)
 
       -- the lines of a passage
