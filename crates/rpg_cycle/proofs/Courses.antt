@@ -227,12 +227,15 @@ feed_ended : (e : JobEnd) (last : Option ℕ) → feed_at (stage_at (job_end e))
 feed_ended jobs.EndOfJob last = refl
 feed_ended (jobs.Halt k) last = refl
 
+done_few : (cycles waiting left all : ℕ) → cycles + waiting + left ≤ all → cycles + 1 ≤ all + 1
+done_few cycles waiting left all h = omega (arith, h)
+
 -- the job's last cycle
 ends_by : (old mid new : AtWork) (records rest : Records) (a b : Option (List ℕ)) (cycles most : ℕ) (e : JobEnd) (s : Summary) (u : IsUnderWay old records mid rest cycles most) →
     (d : DoesCycle mid u.earlier (last_position_from None u.out.lines) a b (job_end e) new) →
     RunsFrom mid u.earlier (last_position_from None u.out.lines) rest (last_cycle (job_end e) d.there d.out) →
-    s ≡ record { ending = e; cycles = cycles + 1; most = max most new.config.steps } → RunsRecords old records s new
-ends_by old mid new records rest a b cycles most e s u d last is =
+    s ≡ record { ending = e; cycles = cycles + 1; most = max most new.config.steps } → max most new.config.steps ≤ bound old.program → RunsRecords old records s new
+ends_by old mid new records rest a b cycles most e s u d last is low =
     let all = with_more u.out d.out in
     let ends = end_from-lines None u.out.lines d.out.lines in
     let bytes = ap (with_output (last_position_from None u.out.lines) d.out.lines d.out.records) u.bytes ∙ output_both None u.out.lines d.out.lines u.out.records d.out.records old.output in
@@ -247,17 +250,19 @@ ends_by old mid new records rest a b cycles most e s u d last is =
       print = ap (λ (b : Bytes). b.print) (d.bytes ∙ ap (with_feed (feed_at (stage_at (job_end e)) new.last)) bytes)
           ∙ ap (λ f. (old.output.print ++ paper all.lines) ++ f) feed ∙ append_assoc old.output.print (paper all.lines) (last_feed all.lines);
       disk = ap (λ (b : Bytes). b.disk) (d.bytes ∙ ap (with_feed (feed_at (stage_at (job_end e)) new.last)) bytes);
+      few = done_few cycles (waiting_count mid.inputs) (records_count rest) (records_count records) u.few;
+      low = low;
     })
 
 pub ended_so : (old mid new : AtWork) (records rest : Records) (a b : Option (List ℕ)) (cycles most : ℕ) (e : JobEnd) (s : Summary) → IsUnderWay old records mid rest cycles most →
     a ≡ next_in mid Primary rest.primary → b ≡ next_in mid Secondary rest.secondary → Cycles mid a b new → Ended (job_end e) ≡ new.stage →
-    s ≡ record { ending = e; cycles = cycles + 1; most = max most new.config.steps } → RunsRecords old records s new
-ended_so old mid new records rest a b cycles most e s u first second h g is =
+    s ≡ record { ending = e; cycles = cycles + 1; most = max most new.config.steps } → max most new.config.steps ≤ bound old.program → RunsRecords old records s new
+ended_so old mid new records rest a b cycles most e s u first second h g is low =
     let q = last_position_from None u.out.lines in
     let x = h.does u.earlier u.left u.orderly q u.last in
     let d : DoesCycle mid u.earlier q a b (job_end e) new = subst (λ (y : PhaseEnd). DoesCycle mid u.earlier q a b y new) (was_ended x.0 (job_end e) (sym x.1.stage ∙ sym g)) x.1 in
     ends_by old mid new records rest a b cycles most e s u d
-    (job_end e, d.there, d.out, with_next mid u.earlier q rest a b (job_end e) d.there d.out first second d.cycle, ends_here e d.there d.out _) is
+    (job_end e, d.there, d.out, with_next mid u.earlier q rest a b (job_end e) d.there d.out first second d.cycle, ends_here e d.there d.out _) is low
 
 -- the steps stay in the bound of the program
 pub still_low : (old mid new : AtWork) (records rest : Records) (a b : Option (List ℕ)) (cycles most : ℕ) → IsUnderWay old records mid rest cycles most → Cycles mid a b new → new.config.steps ≤ bound new.program →

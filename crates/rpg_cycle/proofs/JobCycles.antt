@@ -1,6 +1,8 @@
 -- What a machine's cycle means for the job.
-use Rattle.std.proofs.Common.{◌≡◌, ℕ, List, [], Option, None, Some, refl, sym, ap, ◌∙◌, subst, append-nil}
+use Rattle.std.proofs.Common.{◌≡◌, ◌≤◌, ℕ, true, false, List, [], Option, None, Some, Result, Ok, Err, refl, sym, ap, ◌∙◌, subst, append-nil}
+use Rattle.std.specs.Result.{IsErrAnd}
 use Rattle.rpg_paper.specs.Paper.{Position, last_position_from}
+use Rattle.rpg_program.specs.Fronts.{OnlyGrows}
 use Rattle.rpg_program.specs.Put.{Bytes, line_of, with_output}
 use Rattle.rpg_cycle.proofs.Cycling.{from_last, keeps}
 use Rattle.rpg_cycle.specs.Doing.{Does, Beside, holding, under_way, unselected}
@@ -8,19 +10,50 @@ use Rattle.rpg_cycle_records.specs.Earlier.{Left, Selected, left_by, with_record
 use Rattle.rpg_cycle_records.specs.Merging.{AreMergedInOrder}
 use Rattle.rpg_cycle_records.specs.Waiting.{Inputs, finds_match}
 use Rattle.rpg_cycle.specs.Ends.{Continues, PhaseEnd}
-use Rattle.rpg_cycle.specs.Job.{AtWork, DoesCycle, IsFollowing, feed_at, with_feed}
+use Rattle.rpg_cycle.specs.Job.{AnswersCycle, AtWork, Cycles, DoesCycle, IsFollowing, feed_at, with_feed}
 use Rattle.rpg_cycle_records.specs.Keeping.{noted, renewed_by, selected_as}
 use Rattle.rpg_cycle.specs.Phases.{Cycle, CycleOn, UnderWay, begun}
-use Rattle.rpg_cycle.specs.Stages.{Ended, Going, Stage, job_end, stage_at}
+use Rattle.rpg_cycle.specs.Stages.{Ended, Failed, Going, Stage, has_failed, is_going, job_end, stage_at}
 use Rattle.rpg_cycle.specs.declared.ends.JobEnd.{JobEnd}
 use Rattle.rpg_cycle.specs.declared.ends.JobEnd.TheVariants as jobs
 use Rattle.rpg_machine.specs.Config.{Output}
 use Rattle.rpg_machine.specs.Running.{Running, config_on, feed_after, finished, refilled}
 use Rattle.rpg_program.specs.Object.{Object}
+use Rattle.rpg_verify.specs.Bound.{bound}
 
 -- a job with that machine
 abbrev pub job : Object → Running → Left → Inputs → Stage → AtWork
 job p m left inputs stage = record { program = p; config = m.config; last = m.last; output = m.output; left = left; inputs = inputs; stage = stage }
+
+-- the answer of a job that continues, if it did its cycle
+pub answers : {A E : Type 0} (stage_by : A → Stage) (x y : Option (List ℕ)) {old new : AtWork} (a : A) → is_going old.stage ≡ true → Cycles old x y new → stage_by a ≡ new.stage → new.config.steps ≤ bound new.program →
+    OnlyGrows old.output new.output → AnswersCycle {A = A} {E = E} stage_by old x y (Ok a) new
+answers stage_by x y a on does stage_after few grown = record {
+  going = λ _. does;
+  stage_after = stage_after;
+  over = λ off. absurd (let e : true ≡ false = sym on ∙ off in cc);
+  failed = tt;
+  bound = λ _. few;
+  grows = grown;
+}
+
+-- and if memory ran out
+pub fails : {A E : Type 0} (stage_by : A → Stage) (x y : Option (List ℕ)) {old new : AtWork} (e : E) → is_going old.stage ≡ true → new.stage ≡ Failed → OnlyGrows old.output new.output →
+    AnswersCycle {A = A} {E = E} stage_by old x y (Err e) new
+fails stage_by x y {old} {new} e on failed grown = record {
+  going = λ _. tt;
+  stage_after = tt;
+  over = λ off. absurd (let e : true ≡ false = sym on ∙ off in cc);
+  failed = failed;
+  bound = λ h. absurd (let e : true ≡ false = sym (ap has_failed failed) ∙ h in cc);
+  grows = grown;
+}
+
+-- so it is if a `?` passes that on
+pub passes : {A E : Type 0} (stage_by : A → Stage) (x y : Option (List ℕ)) {old new : AtWork} (r : Result A E) (Q : E → Type 0) → IsErrAnd r Q → is_going old.stage ≡ true → new.stage ≡ Failed → OnlyGrows old.output new.output →
+    AnswersCycle stage_by old x y r new
+passes stage_by x y (Ok a) Q is on failed grown = absurd is
+passes stage_by x y (Err e) Q is on failed grown = fails stage_by x y e on failed grown
 
 -- what is kept of a record is what it leaves
 pub leaves : (p : Object) (earlier : List Selected) (t : Option ℕ) (text : List ℕ) → noted p t (renewed_by p t text (left_by p earlier)) ≡ left_by p (with_record (selected_as t text) earlier)

@@ -1,7 +1,8 @@
 -- A job as its callers see it. Of the lines before it remembers only the last one placed, as the machine does.
-use Rattle.std.specs.Prelude.{◌≡◌, ℕ, ℤ, ◌++◌, ◌≤◌, Bool, true, false, ◌&&◌, List, [], Option, None, Some}
+use Rattle.std.specs.Prelude.{◌≡◌, ℕ, ℤ, ◌++◌, ◌≤◌, Bool, true, false, ◌&&◌, List, [], Option, None, Some, Result, IfOk, IsOk, OnErr}
 use Rattle.std.specs.Ordering.{nat_cmp}
 use Rattle.rpg_paper.specs.Paper.{Position, last_position_from}
+use Rattle.rpg_program.specs.Fronts.{OnlyGrows}
 use Rattle.rpg_program.specs.Put.{Bytes, line_of, with_output}
 use Rattle.rpg_program.specs.World.{Fields}
 use Rattle.rpg_cycle_records.specs.Earlier.{Left, Selected, left_by, with_record}
@@ -105,6 +106,18 @@ job_needs_record j f = is_going j.stage && cycles.needs_record j.program j.confi
 -- its last cycle took no more steps than the program's bound
 abbrev pub KeepsBound : AtWork → Type 0
 KeepsBound j = has_failed j.stage ≡ false → j.config.steps ≤ bound j.program
+
+-- What a job answers to a call for its next cycle, with the record that is next in each file; the result determines a stage.
+pub record AnswersCycle {A E : Type 0} (stage_by : A → Stage) (old : AtWork) (primary secondary : Option (List ℕ)) (r : Result A E) (new : AtWork) : Type 0 where
+  -- a job that continues did the cycle, unless memory ran out
+  pub going : is_going old.stage ≡ true → IfOk r (λ _. Cycles old primary secondary new)
+  pub stage_after : IfOk r (λ x. stage_by x ≡ new.stage)
+  -- one that has ended stays as it is
+  pub over : is_going old.stage ≡ false → IsOk r × (new ≡ old)
+  pub failed : OnErr r (new.stage ≡ Failed)
+  pub bound : KeepsBound new
+  -- the output of earlier cycles is kept, even if memory ran out
+  pub grows : OnlyGrows old.output new.output
 
 -- the output was taken
 abbrev pub job_taken : AtWork → AtWork

@@ -1,8 +1,9 @@
 -- What `run_records` returns.
-use Rattle.std.specs.Prelude.{◌≡◌, ℕ, ℤ, true, List, [], ◌++◌, None, Some, map}
+use Rattle.std.specs.Prelude.{◌≡◌, ℕ, ℤ, ◌+◌, ◌≤◌, true, List, [], ◌++◌, None, Some, map}
 use Rattle.std.specs.Global.{Vec}
 use Rattle.rpg_cycle_records.specs.Earlier.{left_by}
 use Rattle.rpg_cycle_records.specs.Waiting.{unread}
+use Rattle.rpg_cycle.specs.Counting.{records_count}
 use Rattle.rpg_cycle.specs.Job.{AtWork, first_fields}
 use Rattle.rpg_cycle.specs.Phases.{UnderWay}
 use Rattle.rpg_cycle.specs.Runs.{Course, IsRun, Records, Runs, printed, stored}
@@ -14,6 +15,7 @@ use Rattle.rpg_program.specs.Put.{Bytes}
 use Rattle.rpg_machine.specs.Config.{Output}
 use Rattle.rpg_machine.specs.Running.{config_on}
 use Rattle.rpg_program.specs.Object.{Object}
+use Rattle.rpg_verify.specs.Bound.{bound}
 
 -- the bytes of records
 abbrev pub texts : List (Vec ℕ) → List (List ℕ)
@@ -34,13 +36,15 @@ pub record IsAtStart (j : AtWork) : Type 0 where
   pub files : j.inputs ≡ unread
   pub top : j.last ≡ None
 
--- a job before its first cycle ran over records to its end
+-- a job before its first cycle ran over records to its end, in at most one cycle more than there are, each within its program's bound
 pub record RunsRecords (old : AtWork) (records : Records) (s : Summary) (new : AtWork) : Type 0 where
   pub out : Output
   pub there : UnderWay
   pub runs : Runs old.program [] records (config_on None old.config) unread (course_of s out there)
   pub print : new.output.print ≡ old.output.print ++ printed out
   pub disk : new.output.disk ≡ old.output.disk ++ stored out
+  pub few : s.cycles ≤ records_count records + 1
+  pub low : s.most ≤ bound old.program
 
 -- how a run went, apart from its bytes
 abbrev pub summary_of : Run → Summary

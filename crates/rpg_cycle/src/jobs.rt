@@ -98,10 +98,9 @@ impl<'a> Job<'a, FlatStore> {
 }
 
 impl<'a, S: Store + Drop> Job<'a, S> {
-    ghost use Rattle.std.specs.Prelude.{◌≤◌, ◌&&◌, true, false, ◌↔◌, None, IfOk, OnErr, IsOk, IsErrOf};
+    ghost use Rattle.std.specs.Prelude.{◌&&◌, true, ◌↔◌, None, IfOk, IsErrOf};
     ghost use Rattle.rpg_cycle.specs.Cycled.{AreSeen};
-    ghost use Rattle.rpg_cycle.specs.Doing.{IsSeen, next_text};
-    ghost use Rattle.rpg_program.specs.Fronts.{OnlyGrows};
+    ghost use Rattle.rpg_cycle.specs.Doing.{next_text};
     ghost use Rattle.rpg_program.specs.declared.input.InputFile.TheVariants as files;
     ghost use Rattle.rpg_cycle.specs.Job as of;
     ghost use Rattle.rpg_cycle.specs.Phases.{takes_records};
@@ -111,7 +110,6 @@ impl<'a, S: Store + Drop> Job<'a, S> {
     ghost use Rattle.rpg_cycle_records.specs.Keeping.{left_of};
     ghost use Rattle.rpg_machine.specs.Run.{running_place};
     ghost use Rattle.rpg_memory.specs.Memory.{first_working};
-    ghost use Rattle.rpg_verify.specs.Bound.{bound};
 
     /// Starts a job on a date of six digits, with the values of a memory that no cycle has changed yet.
     pub fn start_in(
@@ -183,12 +181,7 @@ impl<'a, S: Store + Drop> Job<'a, S> {
         primary: Option<&[u8]>,
         secondary: Option<&[u8]>,
     ) -> Result<CycleEnd, AllocError>
-        ensures going { is_going self.old.stage ≡ true → IfOk result (λ _. of.Cycles self.old (next_text primary.entry) (next_text secondary.entry) self.new) }
-        ensures stage_after { IfOk result (λ e. stage_after e ≡ self.new.stage) }
-        ensures over { is_going self.old.stage ≡ false → IsOk result × (self.new ≡ self.old) }
-        ensures failed { OnErr result (self.new.stage ≡ Failed) }
-        ensures bound { of.KeepsBound self.new }
-        ensures grows { OnlyGrows self.old.output self.new.output }
+        ensures { of.AnswersCycle stage_after self.old (next_text primary.entry) (next_text secondary.entry) result self.new }
     {
         self.cycle_with_seen(primary, secondary, NOTHING_SEEN)
     }
@@ -201,14 +194,8 @@ impl<'a, S: Store + Drop> Job<'a, S> {
         secondary: Option<&[u8]>,
         seen: Seen,
     ) -> Result<CycleEnd, AllocError>
-        requires primary { IsSeen seen.primary primary }
-        requires secondary { IsSeen seen.secondary secondary }
-        ensures going { is_going self.old.stage ≡ true → IfOk result (λ _. of.Cycles self.old (next_text primary.entry) (next_text secondary.entry) self.new) }
-        ensures stage_after { IfOk result (λ e. stage_after e ≡ self.new.stage) }
-        ensures over { is_going self.old.stage ≡ false → IsOk result × (self.new ≡ self.old) }
-        ensures failed { OnErr result (self.new.stage ≡ Failed) }
-        ensures bound { of.KeepsBound self.new }
-        ensures grows { OnlyGrows self.old.output self.new.output }
+        requires { AreSeen seen primary secondary }
+        ensures { of.AnswersCycle stage_after self.old (next_text primary.entry) (next_text secondary.entry) result self.new }
     {
         match self.progress {
             Progress::Going => {
@@ -229,12 +216,8 @@ impl<'a, S: Store + Drop> Job<'a, S> {
     ) -> Result<Progress, AllocError>
         requires seen { AreSeen seen primary secondary }
         requires going { is_going self.old.stage ≡ true }
-        ensures done { IfOk result (λ _. of.Cycles self.old (next_text primary.entry) (next_text secondary.entry) self.new) }
-        ensures stage { IfOk result (λ g. stage_of g ≡ self.new.stage) }
+        ensures cycled { of.AnswersCycle stage_of self.old (next_text primary.entry) (next_text secondary.entry) result self.new }
         ensures ran { IfOk result (λ g. stage_of g ≡ Failed → ⊥) }
-        ensures failed { OnErr result (self.new.stage ≡ Failed) }
-        ensures bound { IfOk result (λ _. self.new.config.steps ≤ bound self.new.program) }
-        ensures grows { OnlyGrows self.old.output self.new.output }
     {
         self.progress = Progress::Failed;
         let (machine, kept) = (&mut self.machine, &mut self.kept);

