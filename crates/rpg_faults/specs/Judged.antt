@@ -1,5 +1,5 @@
 -- What judging cards returns: their index if they have no fault, otherwise the first fault.
-use Rattle.std.specs.Prelude.{◌×◌, List, Result, Ok, Err}
+use Rattle.std.specs.Prelude.{List, Result, Ok, Err}
 use Rattle.rpg_cards.specs.Index.{IsIndexOf}
 use Rattle.rpg_cards.specs.declared.index.CardIndex.{CardIndex}
 use Rattle.rpg_cards.specs.declared.spec_card.SpecCard.{SpecCard}

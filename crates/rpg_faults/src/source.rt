@@ -22,7 +22,7 @@ pub struct FaultlessCards {
 impl FaultlessCards {
     /// Returns the cards, and the index that `CardIndex::over` puts over them.
     pub fn into_parts(self) -> (Vec<SpecCard>, CardIndex)
-        ensures cards { result.0.items ≡ self.entry.cards.items }
+        ensures cards { result.0.items ≡ self.cards.items }
         ensures index { IsIndexOf result.1 result.0.items }
     {
         (self.cards, self.index)

@@ -1,16 +1,22 @@
 use Rattle.std.proofs.Common.{◌∙◌, ap, subst}
+use Rattle.std.specs.Prelude.{MatchOption}
 use Rattle.rpg_cards.specs.Index.{IsIndexOf}
-use Rattle.rpg_faults.specs.Faults.{least_fault}
+use Rattle.rpg_faults.specs.Faults.{Faultless, IsLeastFault, least_fault}
+use Rattle.rpg_faults.specs.declared.fault.Fault.{Fault}
 use Rattle.rpg_faults.proofs.LeastLemmas.{least}
 use Rattle.rpg_faults.proofs.least.faultless_index.Goals as goal
 
 pub returns-in-Some : goal.returns-in-Some
 returns-in-Some c =
     let cards = c.args.cards.now in
-    rw c.in-Some.is at (rw (c.least_fault.ensures ∙ ap least_fault (c.in_ok-analyzed.ensures ∙ c.in_ok-source.ensures ∙ c.deref.ensures.value)) (least cards.cards.items cards.numbered))
+    let judged : MatchOption c.least_fault.result (Faultless cards.cards.items) (λ (f : Fault). IsLeastFault cards.cards.items f) =
+    rw (c.least_fault.ensures ∙ ap least_fault (c.in_ok-analyzed.ensures ∙ c.in_ok-source.ensures ∙ c.deref.ensures.value)) (least cards.cards.items cards.numbered) in
+    rw c.in-Some.is at judged
 
 pub returns-in-None : goal.returns-in-None
 returns-in-None c =
     let cards = c.args.cards.now in
     let same = c.in_ok-source.ensures ∙ c.deref.ensures.value in
-    (rw c.in-None.is at (rw (c.least_fault.ensures ∙ ap least_fault (c.in_ok-analyzed.ensures ∙ same)) (least cards.cards.items cards.numbered)), subst (IsIndexOf c.into_index.result) same c.into_index.ensures)
+    let judged : MatchOption c.least_fault.result (Faultless cards.cards.items) (λ (f : Fault). IsLeastFault cards.cards.items f) =
+    rw (c.least_fault.ensures ∙ ap least_fault (c.in_ok-analyzed.ensures ∙ same)) (least cards.cards.items cards.numbered) in
+    (rw c.in-None.is at judged, subst (IsIndexOf c.into_index.result) same c.into_index.ensures)

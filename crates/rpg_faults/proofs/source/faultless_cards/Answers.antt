@@ -8,7 +8,7 @@ use Rattle.rpg_faults.proofs.source.faultless_cards.Goals as goal
 pub spec_cards-requires : goal.spec_cards-requires
 spec_cards-requires c = subst (IsInOrder 0) (sym (ap (numbered_cards 1) c.in_ok-cards.ensures.cards)) (sources-are c.args.text.now c.in_ok-cards.ensures.faultless)
 
-pub returns-in-Some-clause-err : goal.returns-in-Some-clause-err
-returns-in-Some-clause-err c =
+pub returns-in-Err-clause-err : goal.returns-in-Err-clause-err
+returns-in-Err-clause-err c =
     let cards = c.in_ok-cards-2.ensures ∙ ap (numbered_cards 1) c.in_ok-cards.ensures.cards in
-    (c.in_ok-cards.ensures.faultless, subst (λ cs. IsLeastFault cs c.in-Some.fault) cards (rw c.in-Some.is at c.in_ok-fault.ensures), refl)
+    (c.in_ok-cards.ensures.faultless, subst (λ cs. IsLeastFault cs c.in-Err.fault) cards (rw c.in-Err.is at c.in_ok-fault.ensures), refl)
