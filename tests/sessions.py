@@ -57,6 +57,8 @@ def wanted_of(commands: list[Command], text: bytes) -> list[bytes]:
 
 
 def unescaped(word: str) -> bytes:
+    if word == "''":
+        return b""
     found = re.sub(rb"\\(.)", lambda it: IN_WORDS.get(it[1], it[1]), word.encode("latin-1"), flags=re.DOTALL)
     return bytes(found)
 

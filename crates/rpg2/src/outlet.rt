@@ -16,7 +16,7 @@ impl Outlet {
         may_close: false,
     };
 
-    const PAGES: Outlet = Outlet {
+    pub const PAGES: Outlet = Outlet {
         name: "standard output",
         may_close: true,
     };

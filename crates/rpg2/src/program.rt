@@ -1,6 +1,6 @@
 //! Carries out the command of the arguments, or explains why they are rejected.
 
-ghost use Rattle.std.specs.Prelude.{◌≡◌};
+ghost use Rattle.std.specs.Prelude.{◌≡◌, ◌≤◌};
 ghost use Rattle.rpg2.specs.Saying.{PrintsALine, Says, SaysOrIsQuiet, WritesLine};
 
 use crate::checking::check_files;
@@ -15,7 +15,7 @@ use crate::reported::{StandardError, StandardStreams};
 use crate::reporting::{report_answer, report_unwritten};
 use rpg_cli_answers::{Answer, CommandStop, FormedListener, Listener, Reasons, json_line, line};
 use rpg_cli_conversions::{fit_file, records_file};
-use rpg_cli_files::send_line;
+use rpg_cli_files::{Reason, send_line};
 use rpg_cli_run::{go_files, run_files};
 use rpg_cli_words::{
     Format, GoArguments, Refusal, Request, RunArguments, refuse_bytes, refuse_same_file, request_of,
@@ -143,6 +143,23 @@ fn say_if_wanted<W: Write, L: Listener>(
     }
 }
 
+/// Prints clap's text, or reports why help couldn't be written, and returns the exit status.
+fn explain_refusal<R: Print + Eprint + AllocGlobal, L: Listener>(
+    rt: &R,
+    refusal: &Refusal,
+    listener: &mut L,
+) -> u8
+    ensures { result ≤ 2 }
+{
+    match refusal.explain(rt) {
+        Ok(status) => status,
+        Err(error) => {
+            report_unwritten(Outlet::PAGES, Reason::of(error.kind()), listener);
+            1
+        }
+    }
+}
+
 /// Reports a fault of the command line, or prints the requested help, and returns the exit status.
 fn refuse<R: Print + Eprint + AllocGlobal, W: Write, L: Listener>(
     rt: &R,
@@ -161,7 +178,7 @@ fn refuse<R: Print + Eprint + AllocGlobal, W: Write, L: Listener>(
             listener,
         )
     } else {
-        refusal.explain(rt)
+        explain_refusal(rt, refusal, listener)
     }
 }
 

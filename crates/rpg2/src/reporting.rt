@@ -120,7 +120,9 @@ fn write_bad_date(out: &mut TextWriter, arguments: &RunArguments) {
         out.write_str("--date today: the system's clock can't be read\n");
         return;
     }
-    out.write_str("--date is six digits, as 112676, or today, today-dmy or today-ymd; it was '");
+    out.write_str(
+        "--date needs six digits, such as 112676, or today, today-dmy or today-ymd; it was '",
+    );
     out.write_shown(arguments.date_text().as_bytes());
     out.write_str("'\n");
 }

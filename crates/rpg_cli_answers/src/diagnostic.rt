@@ -31,6 +31,9 @@ impl<'f, 't> Diagnostic<'f, 't> {
 /// The start of the message about a card that can't be rewritten.
 const REFUSED: &str = "can't be rewritten: ";
 
+/// The start of the message about a program that may take more steps than the arguments allow.
+const OVER_LIMIT: &str = "a cycle may take ";
+
 #[derive(Clone, Copy)]
 pub enum Severity {
     Error,
@@ -54,9 +57,10 @@ impl Severity {
         }
     }
 
-    /// A change of an old deck is a note; a card that can't be rewritten is an error.
+    /// A change of an old deck is a note; a card that can't be rewritten, and a program over the limit, are errors.
     fn of(topic: Option<Topic>, message: &str, uncoded: Severity) -> Severity {
         match topic {
+            None if message.starts_with(OVER_LIMIT) => Severity::Error,
             None => uncoded,
             Some(Topic::Warning(_)) => Severity::Warning,
             Some(Topic::Rewriting(_)) if !message.starts_with(REFUSED) => Severity::Note,

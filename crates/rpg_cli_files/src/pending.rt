@@ -1,7 +1,7 @@
 //! Files of a job that are written beside their places, and moved there once they are complete.
 
 use crate::files::{FileFault, identity_at, output_fault, output_file};
-use crate::replacing::{Beside, is_free, name_beside, new_file};
+use crate::replacing::{Beside, Replaces, is_free, name_beside, new_file};
 use crate::streams::Opened;
 use std::alloc::AllocError;
 use std::fs;
@@ -17,6 +17,7 @@ pub struct Pending<'a> {
     new: String,
     /// The number in the new file's name.
     number: u32,
+    replaces: Replaces,
 }
 
 /// A file to be written.
@@ -42,7 +43,12 @@ pub fn kept_file<'a, R: Files + AllocGlobal>(
             pending: None,
         });
     };
-    let Beside { file, path, number } = beside;
+    let Beside {
+        file,
+        path,
+        number,
+        replaces,
+    } = beside;
     Ok(KeptFile {
         opened: Opened::New(file),
         pending: Some(Pending {
@@ -50,6 +56,7 @@ pub fn kept_file<'a, R: Files + AllocGlobal>(
             part,
             new: path,
             number,
+            replaces,
         }),
     })
 }
@@ -57,6 +64,11 @@ pub fn kept_file<'a, R: Files + AllocGlobal>(
 impl<'a> Pending<'a> {
     pub fn place(&self) -> &'a str {
         self.place
+    }
+
+    /// Returns what the file replaces when it is complete.
+    pub fn replaces(&self) -> Replaces {
+        self.replaces
     }
 
     /// Returns where the file goes if it is incomplete.

@@ -16,7 +16,7 @@ enum Place {
     Nothing,
     /// A regular file.
     File(Metadata),
-    /// A link, a device, a folder, or something that can't be examined.
+    /// A link, a device, a folder, or something that can't be examined, such as an empty path.
     Other,
 }
 
@@ -27,9 +27,20 @@ pub(crate) struct Beside<F> {
     pub path: String,
     /// The number in its name.
     pub number: u32,
+    pub replaces: Replaces,
+}
+
+/// What a new file replaces.
+#[derive(Clone, Copy, PartialEq, Eq)]
+pub enum Replaces {
+    Nothing,
+    File,
 }
 
 fn place_at<R: Files>(rt: &R, path: &str) -> Place {
+    if path.is_empty() {
+        return Place::Other;
+    }
     match fs::symlink_metadata(rt, path) {
         Ok(about) if about.is_file() => Place::File(about),
         Ok(_) => Place::Other,
@@ -56,21 +67,31 @@ fn numbered_beside<R: Files + AllocGlobal>(
     rt: &R,
     path: &str,
     number: u32,
+    replaces: Replaces,
 ) -> Result<Option<Beside<R::File>>, FileFault> {
     let Ok(path) = name_beside(rt.alloc(), path, number) else {
         return Err(FileFault::NoMemory);
     };
     match File::create_new(rt, path.as_str()) {
-        Ok(file) => Ok(Some(Beside { file, path, number })),
+        Ok(file) => Ok(Some(Beside {
+            file,
+            path,
+            number,
+            replaces,
+        })),
         Err(error) if error.kind() == ErrorKind::AlreadyExists => Ok(None),
         Err(error) => Err(beside_fault(error)),
     }
 }
 
 /// Creates a file beside another, under a name that isn't taken.
-fn new_beside<R: Files + AllocGlobal>(rt: &R, path: &str) -> Result<Beside<R::File>, FileFault> {
+fn new_beside<R: Files + AllocGlobal>(
+    rt: &R,
+    path: &str,
+    replaces: Replaces,
+) -> Result<Beside<R::File>, FileFault> {
     for number in 0..NAMES {
-        if let Some(beside) = numbered_beside(rt, path, number)? {
+        if let Some(beside) = numbered_beside(rt, path, number, replaces)? {
             return Ok(beside);
         }
     }
@@ -98,7 +119,7 @@ fn new_for<R: Files + AllocGlobal>(
         .write(true)
         .open(rt, path)
         .map_err(output_fault)?;
-    let beside = new_beside(rt, path)?;
+    let beside = new_beside(rt, path, Replaces::File)?;
     if takes_place(&beside.file, old) {
         return Ok(Some(beside));
     }
@@ -112,7 +133,7 @@ pub(crate) fn new_file<R: Files + AllocGlobal>(
     path: &str,
 ) -> Result<Option<Beside<R::File>>, FileFault> {
     match place_at(rt, path) {
-        Place::Nothing => Ok(Some(new_beside(rt, path)?)),
+        Place::Nothing => Ok(Some(new_beside(rt, path, Replaces::Nothing)?)),
         Place::File(old) => new_for(rt, path, &old),
         Place::Other => Ok(None),
     }

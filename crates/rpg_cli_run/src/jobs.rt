@@ -9,6 +9,7 @@ ghost use Rattle.rpg_engine.specs.Objects.{HasObjectFault, SpellsProgram};
 use crate::dating::has_date;
 use crate::halting::report_halt;
 use crate::keeping::Kept;
+use crate::limiting::report_limit;
 use crate::looking::run_as_asked;
 use crate::refusing::report_refused;
 use crate::running::{run_over, run_source_over};
@@ -435,7 +436,13 @@ pub(crate) fn run_own<R: Files + Input + Print + AllocGlobal, L: Listener>(
     source: &OwnSource<'_>,
     listener: &mut L,
 ) -> Result<Report, CommandStop> {
-    let wanted = source_files(arguments, &source.compiled)?;
+    let wanted = match source_files(arguments, &source.compiled) {
+        Ok(wanted) => wanted,
+        Err(answer) => {
+            report_limit(rt.alloc(), arguments, answer, listener);
+            return Err(answer.into());
+        }
+    };
     run_accepted(
         rt,
         arguments,
@@ -453,7 +460,13 @@ fn run_object<R: Files + Input + Print + AllocGlobal, L: Listener>(
     object: &[u8],
     listener: &mut L,
 ) -> Result<Report, CommandStop> {
-    let (accepted, wanted) = program_of(rt.alloc(), arguments, object)?;
+    let (accepted, wanted) = match program_of(rt.alloc(), arguments, object) {
+        Ok(program) => program,
+        Err(answer) => {
+            report_limit(rt.alloc(), arguments, answer, listener);
+            return Err(answer.into());
+        }
+    };
     let runnable = match &accepted {
         Ok(program) => Ok(Runnable::Object(program)),
         Err(fault) => Err(*fault),

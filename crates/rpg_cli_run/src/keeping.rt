@@ -4,7 +4,7 @@ ghost use Rattle.std.specs.Prelude.{◌≡◌, IfErr};
 ghost use Rattle.rpg_cli_run.specs.Keeping.{IsOfFile, KeepsAnswer, disposition_of};
 
 use rpg_cli_answers::{Answer, CommandStop, Listener, NamedFile, refuse_same_file};
-use rpg_cli_files::{FileFault, Pending};
+use rpg_cli_files::{FileFault, Pending, Replaces};
 use rpg_cli_text::TextWriter;
 use rpg_cli_words::{FileArgument, SameFile, Shared};
 use rpg_engine::{JobEnd, Report};
@@ -51,26 +51,39 @@ fn put_in_place<R: Files>(rt: &R, file: &Option<Pending<'_>>) -> Result<(), File
     }
 }
 
-/// Returns the message about a file: it is unchanged, and where its part is, or the new one replaced it.
+/// Returns what became of a file, if the new one was left beside its place.
+fn left_text(file: &Pending<'_>) -> &'static str {
+    match file.replaces() {
+        Replaces::Nothing => "not made",
+        Replaces::File => "left as it was",
+    }
+}
+
+/// Returns what became of a file, if the new one was moved to its place.
+fn placed_text(file: &Pending<'_>) -> &'static str {
+    match file.replaces() {
+        Replaces::Nothing => "made by this run",
+        Replaces::File => "replaced by what this run wrote",
+    }
+}
+
+/// Returns the message about a file: what became of it, and where its part is, if there is one.
 fn kept_message(
     alloc: Global,
     argument: FileArgument,
-    place: &str,
+    file: &Pending<'_>,
     part: Option<&str>,
 ) -> Result<String, AllocError> {
     let mut out = TextWriter::new(alloc);
-    out.fill(
-        "{} ({}): ",
-        &[place.as_bytes().into(), argument.name().into()],
-    );
+    let place = file.place().as_bytes();
+    out.fill("{} ({}): ", &[place.into(), argument.name().into()]);
     match part {
-        Some(part) => {
-            out.write_str("left as it was; what this run wrote is in ");
-            out.write_shown(part.as_bytes());
-        }
-        None => out.write_str("replaced by what this run wrote"),
+        Some(part) => out.fill(
+            "{}; what this run wrote is in {}\n",
+            &[left_text(file).into(), part.as_bytes().into()],
+        ),
+        None => out.fill("{}\n", &[placed_text(file).into()]),
     }
-    out.write_char('\n');
     out.finish()
 }
 
@@ -78,11 +91,11 @@ fn kept_message(
 fn report_kept<L: Listener>(
     alloc: Global,
     argument: FileArgument,
-    place: &str,
+    file: &Pending<'_>,
     part: Option<&str>,
     listener: &mut L,
 ) {
-    if let Ok(message) = kept_message(alloc, argument, place, part) {
+    if let Ok(message) = kept_message(alloc, argument, file, part) {
         listener.report(message.as_str());
     }
 }
@@ -96,7 +109,7 @@ fn leave_part<R: Files + AllocGlobal, L: Listener>(
 ) {
     if let Some(pending) = file {
         let part = pending.leave_part(rt);
-        report_kept(rt.alloc(), argument, pending.place(), Some(part), listener);
+        report_kept(rt.alloc(), argument, pending, Some(part), listener);
     }
 }
 
@@ -191,13 +204,7 @@ impl<'a> Kept<'a> {
         }
         if let Err(fault) = put_in_place(rt, &self.disk) {
             if let Some(print) = &self.print {
-                report_kept(
-                    rt.alloc(),
-                    FileArgument::Print,
-                    print.place(),
-                    None,
-                    listener,
-                );
+                report_kept(rt.alloc(), FileArgument::Print, print, None, listener);
             }
             leave_part(rt, FileArgument::Disk, &self.disk, listener);
             return Err(Answer::File {

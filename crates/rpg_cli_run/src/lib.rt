@@ -8,6 +8,7 @@ mod halting;
 mod jobs;
 mod judging;
 mod keeping;
+mod limiting;
 mod looking;
 mod matching;
 mod refusing;

@@ -66,10 +66,13 @@ fn have_table(texts: &[&str], name: &str) -> bool {
     tables.any(|table| table.name == name)
 }
 
+/// The message if the old deck is a standard stream.
+const NO_DECK: &str = "'<SRC>' can't be '-', a standard stream; a file of that name is './-'";
+
 /// Returns what is wrong with an argument for a table file, given those after it.
 fn fault_of_table(text: &str, following: &[&str]) -> Option<&'static str> {
     match table_of(text) {
-        None => Some("'--table <NAME=FILE>' has the name of a file on the cards, and a path"),
+        None => Some("'--table <NAME=FILE>' needs a file's name from the cards, =, and a path"),
         Some(table) if have_table(following, table.name) => {
             Some("'--table <NAME=FILE>' can be given only once for each name")
         }
@@ -90,9 +93,12 @@ fn fault_of_tables(texts: &[&str]) -> Option<&'static str> {
 
 /// Returns what is wrong with a value that clap accepts.
 pub(crate) fn fault_of(given: &ArgMatches) -> Option<&'static str> {
+    if may_be_standard(given.get_str("SRC")) {
+        return Some(NO_DECK);
+    }
     match given.get_str("switches") {
         Some(text) if !are_switches(text) => {
-            Some("'--switches <00000000>' has eight digits, each 0 or 1")
+            Some("'--switches <00000000>' needs eight digits, each 0 or 1")
         }
         _ => fault_of_tables(given.get_strs("table").unwrap_or(&[])),
     }

@@ -103,14 +103,16 @@ fn dropped(given: &ArgMatches) -> Option<u8> {
 /// Returns what is wrong with a value that clap accepts.
 pub(crate) fn fault_of(given: &ArgMatches) -> Option<&'static str> {
     if may_be_standard(given.get_str("OUT")) {
-        return Some("'<OUT>' is a file: what went to standard output can't be taken back");
+        return Some("'<OUT>' must be a file: what went to standard output can't be taken back");
     }
     if may_be_standard(given.get_str("deck")) {
-        return Some("'--deck <NEW>' is a file: what went to standard output can't be taken back");
+        return Some(
+            "'--deck <NEW>' must be a file: what went to standard output can't be taken back",
+        );
     }
     match given.get_str("drop") {
         Some(text) if byte_of(text).is_none() => {
-            Some("'--drop <XX>' has two hexadecimal digits, as FF")
+            Some("'--drop <XX>' needs two hexadecimal digits, such as FF")
         }
         _ => None,
     }

@@ -1,6 +1,6 @@
 //! What the arguments request, or what clap reports instead.
 
-ghost use Rattle.std.specs.Prelude.{◌<◌, ◌≤◌};
+ghost use Rattle.std.specs.Prelude.{◌<◌, ◌≤◌, IfOk};
 
 use crate::building::{fault, matches_of};
 use crate::commands::cut;
@@ -16,6 +16,7 @@ use clap::error::ErrorKind;
 use clap::{ArgMatches, Error};
 use rpg_cli_values::DateArgument;
 use std::alloc::{AllocError, Global};
+use std::io;
 
 /// What the arguments request.
 #[derive(Drop)]
@@ -426,15 +427,17 @@ impl Refusal {
         self.error.kind() == ErrorKind::OutOfMemory
     }
 
-    /// Prints clap's text, a fault to standard error and help to standard output, and returns the exit status.
-    pub fn explain<R: Print + Eprint + AllocGlobal>(&self, rt: &R) -> u8
-        ensures { result ≤ 2 }
+    /// Prints clap's text, a fault to standard error and help to standard output, and returns the exit status. The error is why help couldn't
+    /// be written.
+    pub fn explain<R: Print + Eprint + AllocGlobal>(&self, rt: &R) -> io::Result<u8>
+        ensures { IfOk result (λ status. status ≤ 2) }
     {
         let is_fault = self.error.use_stderr();
         match self.error.print(rt) {
-            Ok(()) if is_fault => 2,
-            Ok(()) => 0,
-            Err(_) => 1,
+            Ok(()) if is_fault => Ok(2),
+            Ok(()) => Ok(0),
+            Err(_) if is_fault => Ok(1),
+            Err(error) => Err(error),
         }
     }
 }
