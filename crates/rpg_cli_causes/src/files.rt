@@ -1,11 +1,10 @@
 //! F7, and F9 of lines: files that are unknown, described twice or of the wrong use, and spaces and skips for the disk
 //! file.
 
-use crate::near::is_near;
 use crate::spot::{Spot, text_at};
 use rpg_cards::{FileUse, SpecCard};
 use rpg_causes::{FileCause, FileOnCard, FileUser};
-use rpg_cli_text::TextWriter;
+use rpg_cli_text::{TextWriter, is_near};
 
 const fn use_name(serves_as: FileUse) -> &'static str {
     match serves_as {

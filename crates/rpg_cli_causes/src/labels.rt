@@ -1,10 +1,9 @@
 //! F10, F11, F13 and F14: labels and subroutines.
 
-use crate::near::is_near;
 use crate::spot::Spot;
 use rpg_cards::{Named, SpecCard, defined_name};
 use rpg_causes::{NowhereCause, Target, TwiceCause};
-use rpg_cli_text::TextWriter;
+use rpg_cli_text::{TextWriter, is_near};
 
 /// Returns the label or the subroutine that a card defines.
 fn given_on(card: &SpecCard) -> Option<Named> {

@@ -11,6 +11,7 @@ mod filling;
 mod items;
 mod line_fault;
 mod marks;
+mod operations;
 mod pattern;
 mod range;
 mod refused;
@@ -21,6 +22,7 @@ mod shorthand;
 mod unread;
 
 pub use deck::deck_of;
+pub use filling::is_shorthand;
 pub use line_fault::{LineFault, ShorthandFault, line_message};
 pub use marks::{begins_data, ends_source};
 pub use pattern::character_at;

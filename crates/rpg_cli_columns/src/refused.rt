@@ -1,10 +1,11 @@
 //! Messages about columns that are rejected.
 
 use crate::card::CardKind;
+use crate::operations::write_near_operations;
 use crate::pattern::{character_at, write_columns};
 use crate::range::{Range, WantedRange, range_of};
 use crate::shift::{write_form_type_shift, write_shift};
-use crate::unread::feature_at;
+use crate::unread::{feature_at, has_number_after};
 use rpg_cli_text::TextWriter;
 use rpg_sheet::ColumnFault;
 
@@ -43,11 +44,18 @@ fn is_starred(line: &[u8]) -> bool {
     false
 }
 
+const NUMBER_AFTER: &str =
+    "columns 73 to 80 look like a card number: only 75 to 80 are free; `cut -c1-72` takes the numbers away";
+
 /// Writes which columns have a bad value: what they hold, what that is in RPG II or what they may hold, and whether the text is in the
 /// wrong columns.
 pub fn write_bad_columns(out: &mut TextWriter, line: &[u8], columns: ColumnFault) {
     let range = range_of(CardKind::of(line), WantedRange::Columns(columns));
     write_columns_found(out, line, columns, range);
+    if has_number_after(line, columns) {
+        out.write_str(NUMBER_AFTER);
+        return;
+    }
     match feature_at(line, columns) {
         Some(feature) => {
             out.write_shown(feature.sentence);
@@ -57,6 +65,7 @@ pub fn write_bad_columns(out: &mut TextWriter, line: &[u8], columns: ColumnFault
         }
         None => {
             write_wanted(out, line, columns, range);
+            write_near_operations(out, line, columns);
             write_overlong(out, line, columns);
             write_shift(out, line, columns, 2);
         }

@@ -63,6 +63,27 @@ pub fn has_card_number(line: &[u8]) -> bool {
     true
 }
 
+/// The first and the last column after those that RPG II uses.
+const AFTER: ColumnFault = ColumnFault {
+    column: 73,
+    last: 80,
+};
+
+/// Whether the rejected columns of a card belong to a number that fills columns 73 or 74 to 80.
+pub(crate) fn has_number_after(line: &[u8], columns: ColumnFault) -> bool {
+    if columns.column < AFTER.column {
+        return false;
+    }
+    for column in AFTER.column..=AFTER.last {
+        let character = character_at(line, usize::from(column));
+        let is_before = column == AFTER.column && character == b' ';
+        if !is_before && !character.is_ascii_digit() {
+            return false;
+        }
+    }
+    true
+}
+
 /// Returns which feature of RPG II rejected columns hold, and the workaround; None if they hold no known feature.
 pub(crate) fn feature_at(line: &[u8], columns: ColumnFault) -> Option<Unread> {
     let (letter, _) = sheet_of(CardKind::of(line));

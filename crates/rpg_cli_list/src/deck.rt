@@ -13,12 +13,13 @@ const COLUMNS: usize = 80;
 /// The last card of a source.
 const LAST_CARD: u16 = 2000;
 
-/// The lines of a source up to the card that ends it, or to the first one over the limit; and the readable cards, of a sheet or of
-/// data.
+/// The lines of a source up to the card that ends it, or to the first one over the limit; the readable cards, of a sheet or of data;
+/// and whether these have all E cards and all that begin data, so that it is known which data are whose.
 #[derive(Drop)]
 pub(crate) struct ReadCards<'a> {
     pub lines: Vec<&'a [u8]>,
     pub cards: Vec<SpecCard>,
+    pub has_all_tables: bool,
 }
 
 /// Whether a line begins with these two characters, followed by a blank or its end.
@@ -39,6 +40,13 @@ fn is_among(faults: &[CardFault], number: u16) -> bool {
         }
     }
     false
+}
+
+/// Whether a card that can't be read begins data, or may be an E card: one of no other sheet, before all data.
+fn may_be_of_tables(line: &[u8], is_data: bool) -> bool {
+    let is_comment = line.get(6) == Some(&b'*');
+    let is_of_others = matches!(line.get(5), Some(b'H' | b'F' | b'I' | b'C' | b'O'));
+    begins_with(line, b"**") || !(is_data || is_comment || is_of_others)
 }
 
 /// Returns the meaning of a card of data; None before data begin, and for a card that ends the source.
@@ -79,6 +87,7 @@ impl<'a> ReadCards<'a> {
     ) -> Result<(), AllocError> {
         self.lines.push(line)?;
         if is_among(faults, number) {
+            self.has_all_tables &= !may_be_of_tables(line, is_data);
             return Ok(());
         }
         if let Some(spec) = spec_of(line, is_data) {
@@ -92,6 +101,7 @@ impl<'a> ReadCards<'a> {
         let mut read = ReadCards {
             lines: Vec::new(alloc),
             cards: Vec::new(alloc),
+            has_all_tables: true,
         };
         let mut rest = source;
         let mut is_data = false;

@@ -14,21 +14,37 @@ use rpg_deck::{Deck, Tree};
 use rpg_faults::{CardFault, source_faults};
 use std::alloc::{AllocError, Global};
 
-const UNREAD: &str =
-    "{} card{} that can't be read\nthe tables are of the others; other checks run once all can be read\n";
+const MANY_READ: &str =
+    "{} card{} that can't be read\nthe tables below cover the other cards; other checks run once all cards can be read\n";
+
+const ONE_READ: &str =
+    "{} card{} that can't be read\nthe tables below cover the other card; other checks run once all cards can be read\n";
+
+const NONE_READ: &str =
+    "{} card{} that can't be read\nother checks run once all cards can be read\n";
 
 /// Returns the ending of a noun with this count.
 fn counted(count: usize) -> &'static str {
     if count == 1 { "" } else { "s" }
 }
 
+/// Returns the sentence for the faults of a source with so many cards: how many there are, and which cards the tables cover if some can't
+/// be read.
+fn faults_sentence(cards: usize, faults: &[CardFault]) -> &'static str {
+    match faults.first() {
+        None => "no fault\n",
+        Some(fault) if is_unread(fault) => match cards.saturating_sub(faults.len()) {
+            0 => NONE_READ,
+            1 => ONE_READ,
+            _ => MANY_READ,
+        },
+        Some(_) => "{} fault{}\n",
+    }
+}
+
 /// Writes how many cards and how many faults there are.
 fn write_head(out: &mut TextWriter, path: &str, cards: usize, faults: &[CardFault]) {
-    let sentence = match faults.first() {
-        None => "no fault\n",
-        Some(fault) if is_unread(fault) => UNREAD,
-        Some(_) => "{} fault{}\n",
-    };
+    let sentence = faults_sentence(cards, faults);
     let count = faults.len();
     out.write_shown(path.as_bytes());
     out.fill(": {} card{}, ", &[cards.into(), counted(cards).into()]);
@@ -51,12 +67,13 @@ fn write_contents(
     alloc: Global,
     out: &mut TextWriter,
     source: &IndexedCards,
+    has_all_tables: bool,
 ) -> Result<(), AllocError> {
     let cards = source.as_slice();
     let deck = Deck::new(alloc, cards)?;
     let tree = Tree::of(alloc, &deck)?;
     write_files(alloc, out, &tree)?;
-    write_tables(out, &tree);
+    write_tables(out, &tree, has_all_tables);
     write_records(out, source, &tree);
     write_fields(alloc, out, source)?;
     Labels::of(alloc, cards)?.write(out);
@@ -81,7 +98,7 @@ fn cards_text(
         text,
     };
     write_cards(&mut out, &read.lines, known, faults);
-    write_contents(alloc, &mut out, &source)?;
+    write_contents(alloc, &mut out, &source, read.has_all_tables)?;
     out.finish()
 }
 

@@ -50,8 +50,9 @@ pub(crate) fn write_decimals(out: &mut TextWriter, decimals: Option<u8>) {
     }
 }
 
-/// Writes a row for each table and array of the E cards. The data come in the order of the E cards that have data.
-pub(crate) fn write_tables(out: &mut TextWriter, tree: &Tree) {
+/// Writes a row for each table and array of the E cards. The data come in the order of the E cards that have data: where they are is known
+/// if these are all tables of the source.
+pub(crate) fn write_tables(out: &mut TextWriter, tree: &Tree, are_all: bool) {
     if !tree.tables.is_empty() {
         out.write_str(HEADING);
     }
@@ -59,7 +60,7 @@ pub(crate) fn write_tables(out: &mut TextWriter, tree: &Tree) {
     for card in tree.tables {
         let extension = card.spec;
         let beginning = match (extension.entries_per_card, tree.decks.groups.get(with_data)) {
-            (Some(_), Some(deck)) => Some(deck.first.number),
+            (Some(_), Some(deck)) if are_all => Some(deck.first.number),
             _ => None,
         };
         with_data = with_data.saturating_add(usize::from(beginning.is_some()));

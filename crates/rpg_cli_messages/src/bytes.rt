@@ -1,7 +1,7 @@
 //! The probable causes of bytes that aren't characters, and of lines that are too long.
 
 use rpg_cli_text::TextWriter;
-use rpg_text::is_blank;
+use rpg_text::{is_blank, is_character};
 
 /// How many bytes of a line are examined for EBCDIC.
 const LOOKED_AT: usize = 80;
@@ -57,6 +57,23 @@ fn looks_like_ebcdic(line: &[u8]) -> bool {
     count > begin.len() / 2
 }
 
+/// Whether all bytes of a line are characters or carriage returns.
+fn is_text(line: &[u8]) -> bool {
+    for byte in line {
+        if !is_character(*byte) && *byte != b'\r' {
+            return false;
+        }
+    }
+    true
+}
+
+/// What an object program begins with: its name, and the higher byte of its version.
+const OBJECT_NAME: &[u8; 7] = b"RPGOBJ\0";
+
+pub(crate) fn is_object(bytes: &[u8]) -> bool {
+    bytes.starts_with(OBJECT_NAME)
+}
+
 /// The hexadecimal digits.
 const HEX: &[u8; 16] = b"0123456789abcdef";
 
@@ -73,6 +90,8 @@ pub fn write_byte_cause(out: &mut TextWriter, line: &[u8], place: usize) {
     let byte = rest.first().copied().unwrap_or(0);
     let sentence = if looks_like_ebcdic(line) {
         BAD_EBCDIC
+    } else if byte == b'\r' && !is_text(line) {
+        BAD_BYTE
     } else if let Some(cause) = cause_of(rest) {
         cause
     } else if begins_letter(rest) {
@@ -101,7 +120,7 @@ pub(crate) fn write_long_line(out: &mut TextWriter, line: &[u8]) {
     out.fill(TOO_LONG, &[count.into()]);
     if looks_like_ebcdic(line) {
         out.fill("; {}", &[EBCDIC.into()]);
-    } else if line.contains(&b'\r') {
+    } else if line.contains(&b'\r') && is_text(line) {
         out.write_str(RETURNS);
     } else if is_blank(rest) {
         out.fill(BLANK, &[count.into()]);

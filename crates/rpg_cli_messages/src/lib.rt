@@ -9,6 +9,7 @@ mod message;
 mod note;
 mod order;
 mod picture;
+mod shorthand;
 mod unmarked;
 
 pub use bytes::write_byte_cause;

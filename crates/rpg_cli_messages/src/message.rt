@@ -1,10 +1,11 @@
 //! The diagnostics for a rejected source.
 
-use crate::bytes::{write_byte_cause, write_long_line};
+use crate::bytes::{is_object, write_byte_cause, write_long_line};
 use crate::card_lines::CardLines;
 use crate::cards::readable_cards;
 use crate::order::{LaterCard, later_card, write_order};
 use crate::picture::write_picture;
+use crate::shorthand::write_shorthand;
 use crate::unmarked::write_unmarked;
 use rpg_cards::IndexedCards;
 use rpg_cli_causes::{AnalyzedCards, Root, SourceCards, root_of, write_cause};
@@ -16,7 +17,7 @@ use rpg_text::{is_character, trimmed};
 use std::alloc::{AllocError, Global};
 
 /// Returns the diagnostics for the faults of the source `path`: for each a line `PATH:CARD:COLUMN: CODE: SENTENCE`, the card and a mark,
-/// for at most `most` faults; then the number of faults.
+/// for at most `most` faults, and for one if the source is an object program; then the number of faults.
 pub fn source_messages(
     alloc: Global,
     path: &str,
@@ -33,6 +34,7 @@ pub fn source_messages(
     };
     let mut out = TextWriter::new(alloc);
     let mut mistakes = Vec::new(alloc);
+    let most = if is_object(source) { most.min(1) } else { most };
     let listed = faults.get(..usize::from(most)).unwrap_or(faults);
     write_messages(&mut out, &mut mistakes, path, known, listed)?;
     write_count(&mut out, path, faults, most);
@@ -216,13 +218,21 @@ pub fn write_place(
     }
 }
 
-/// Writes what is wrong: the rule that is broken, and the numbers on the cards that break it.
+const OBJECT: &str =
+    "this is an object program: run it with rpg2 run, or look at it with rpg2 show";
+
+/// Writes what is wrong: the rule that is broken, and the numbers on the cards that break it. The first card of an object program is
+/// always at fault, and stands for all of it.
 pub(crate) fn write_sentence(
     out: &mut TextWriter,
     line: &[u8],
     source: SourceCards<'_>,
     fault: CardFault,
 ) {
+    if fault.card == 1 && is_object(source.text) {
+        out.write_str(OBJECT);
+        return;
+    }
     match fault.code {
         SourceCode::Fault(code) => {
             if !write_cause(out, source, line, fault.card, fault.columns, code) {
@@ -233,6 +243,7 @@ pub(crate) fn write_sentence(
         SourceCode::Sheet(SheetCode::S2) => write_bad_byte(out, line),
         SourceCode::Sheet(SheetCode::S3) => {
             write_form_type(out, line);
+            write_shorthand(out, source.text, fault.card, line);
             write_unmarked(out, source.text, fault.card);
         }
         SourceCode::Sheet(SheetCode::S4) => {

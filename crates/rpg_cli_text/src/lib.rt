@@ -2,9 +2,11 @@
 #![tactic(auto)]
 
 mod indicators;
+mod near;
 mod piece;
 mod writer;
 
 pub use indicators::indicator_name;
+pub use near::is_near;
 pub use piece::Piece;
 pub use writer::TextWriter;
