@@ -12,7 +12,10 @@ from outcome import Outcome
 from program import Program
 
 # The words that decks are rewritten with, if NAME.words has no others.
-WORDS = "--table TABF=table --switches 10000000 --forms"
+WORDS = "--switches 10000000 --forms"
+
+# The words for decks whose cards name the table file.
+TABLE = ["--table", "TABF=table"]
 
 AT_ONCE = 10
 
@@ -23,9 +26,11 @@ def reported(errors: str) -> str:
     return "".join(f"{it[1]}\n" for it in lines if it)
 
 
-def words_of(path: Path) -> list[str]:
+def words_of(path: Path, deck: bytes) -> list[str]:
+    """The words that a deck, that of the path or what it becomes, is rewritten with."""
     own = path.with_suffix(".words")
-    return (own.read_text(encoding="utf-8") if own.exists() else WORDS).split()
+    words = (own.read_text(encoding="utf-8") if own.exists() else WORDS).split()
+    return words + TABLE if re.search(rb"^.{5}F *TABF ", deck, re.M) else words
 
 
 def answer_of(told: str, deck: bytes, new: bytes | None) -> tuple[str, int]:
@@ -45,7 +50,7 @@ def show(program: Program, path: Path) -> list[Outcome]:
         folder = Path(name)
         (folder / "deck").write_bytes(path.read_bytes())
         (folder / "table").write_bytes((path.parent / "table").read_bytes())
-        line, status, errors = program.answer(["fit", "deck", "new", *words_of(path)], folder)
+        line, status, errors = program.answer(["fit", "deck", "new", *words_of(path, path.read_bytes())], folder)
         made = (folder / "new").read_bytes() if (folder / "new").exists() else None
         faults = []
         if (line, status) != answer_of(told, path.read_bytes(), new):
@@ -55,7 +60,7 @@ def show(program: Program, path: Path) -> list[Outcome]:
         if made != new:
             faults.append(f"--- new\n{(made or b'none').decode('latin-1')}")
         if made is not None:
-            again, _, _ = program.answer(["fit", "new", "newer", *words_of(path)], folder)
+            again, _, _ = program.answer(["fit", "new", "newer", *words_of(path, made)], folder)
             if again != "changes 0" or (folder / "newer").read_bytes() != made:
                 faults.append(f"--- once more\n{again}")
     return [Outcome(str(path.relative_to(path.parent.parent)), f"fit {path.stem}", "\n" + "\n".join(faults) if faults else None)]

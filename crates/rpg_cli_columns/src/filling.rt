@@ -7,8 +7,23 @@ use rpg_text::{is_blank, trimmed};
 /// The column of the form type.
 const FORM_TYPE: u8 = 6;
 
+/// The columns of a card.
+const COLUMNS: usize = 80;
+
 /// The most items of a line, one for each column.
 const MOST_ITEMS: usize = 80;
+
+/// Whether a text opens or closes one between apostrophes: it has an odd number of them after the form type.
+fn turns_open(column: u8, text: &[u8]) -> bool {
+    let mut is_odd = false;
+    for (i, character) in text.iter().enumerate() {
+        let there = usize::from(column).saturating_add(i);
+        if *character == b'\'' && there > usize::from(FORM_TYPE) {
+            is_odd = !is_odd;
+        }
+    }
+    is_odd
+}
 
 /// A card under construction.
 #[derive(Clone, Copy)]
@@ -65,8 +80,38 @@ impl Columns {
         Ok(())
     }
 
+    /// Whether a text between apostrophes may be open before a column: one of the factors or of the constant. A comment has none.
+    fn may_be_open(&self, column: usize) -> bool {
+        match (self.characters[5], self.characters[6]) {
+            (_, b'*') => false,
+            (b'C', _) => 18 < column && column <= 43,
+            (b'O', _) => 45 < column,
+            _ => false,
+        }
+    }
+
+    /// Rejects an item after a text that an apostrophe opened, unless it continues the text, which has a blank before it.
+    fn check_cut(&self, column: u8, text: &[u8], following: &[u8]) -> Result<(), LineFault> {
+        let end = usize::from(column).saturating_add(text.len());
+        let next = end.saturating_add(1);
+        match column_at(following) {
+            Some((other, _)) if self.may_be_open(end) && usize::from(other) != next => {
+                Err(if next > COLUMNS {
+                    LineFault::TooLong
+                } else {
+                    LineFault::CutText {
+                        column: other,
+                        next,
+                    }
+                })
+            }
+            _ => Ok(()),
+        }
+    }
+
     fn put_items(&mut self, items: &[u8]) -> Result<(), LineFault> {
         let mut rest = items;
+        let mut is_open = false;
         for _ in 0..MOST_ITEMS {
             if is_blank(rest) {
                 return Ok(());
@@ -76,6 +121,10 @@ impl Columns {
             };
             let (text, following) = cut(following);
             self.put_text(column, text)?;
+            is_open = is_open != turns_open(column, text);
+            if is_open {
+                self.check_cut(column, text, following)?;
+            }
             rest = following;
         }
         if is_blank(rest) {

@@ -16,6 +16,9 @@ pub enum LineFault {
     BadColumn,
     /// A text extends past column 80.
     TooLong,
+    /// A text between apostrophes ends before its closing one, at an item of this column. If the item is part of it, it continues in
+    /// column `next`.
+    CutText { column: u8, next: usize },
     /// A column is filled twice.
     FilledTwice,
     /// It is line 2,001.
@@ -23,8 +26,8 @@ pub enum LineFault {
 }
 
 impl LineFault {
-    /// Returns what is wrong, in words.
-    pub const fn sentence(self) -> &'static str {
+    /// Returns what is wrong, in words, with places for the columns of a text that is cut.
+    const fn sentence(self) -> &'static str {
         match self {
             LineFault::NoCharacter => "a byte isn't a character: characters run from blank to ~",
             LineFault::NoBlank => {
@@ -35,6 +38,9 @@ impl LineFault {
             }
             LineFault::BadColumn => { "a column is 1 to 80 and not 6, which has the form type" }
             LineFault::TooLong => "a text goes past column 80",
+            LineFault::CutText { .. } => {
+                "a text between apostrophes is cut at {}=: close it, or put {}= before {}= if that is part of the text"
+            }
             LineFault::FilledTwice => "a column is filled twice",
             LineFault::TooMany => "a source has at most 2,000 cards",
         }
@@ -55,6 +61,16 @@ impl From<AllocError> for ShorthandFault {
     }
 }
 
+fn write_fault(out: &mut TextWriter, fault: LineFault) {
+    match fault {
+        LineFault::CutText { column, next } => out.fill(
+            fault.sentence(),
+            &[column.into(), next.into(), column.into()],
+        ),
+        _ => out.write_str(fault.sentence()),
+    }
+}
+
 /// Returns the message about a line of the file `path`.
 pub fn line_message(
     alloc: Global,
@@ -63,10 +79,8 @@ pub fn line_message(
     fault: LineFault,
 ) -> Result<String, AllocError> {
     let mut out = TextWriter::new(alloc);
-    let sentence = fault.sentence();
-    out.fill(
-        "{}:{}: {}\n",
-        &[path.as_bytes().into(), line.into(), sentence.into()],
-    );
+    out.fill("{}:{}: ", &[path.as_bytes().into(), line.into()]);
+    write_fault(&mut out, fault);
+    out.write_char('\n');
     out.finish()
 }

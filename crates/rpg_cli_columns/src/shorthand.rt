@@ -26,12 +26,12 @@ struct Item {
     has_blanks: bool,
 }
 
-/// Whether a character belongs to no item: the form type, or a blank before, after or between items. A blank ends any item if the rest
-/// would be taken for an item.
+/// Whether a character belongs to no item: a blank before, after or between items. A blank ends any item if the rest would be taken for an
+/// item.
 fn is_between(text: &[u8], place: usize, character: u8, item: Item) -> bool {
     let after = text.get(place.saturating_add(1)..).unwrap_or(&[]);
     let is_inside = item.is_open && item.has_blanks && column_at(after).is_none();
-    place == FORM_TYPE || (character == b' ' && !is_inside)
+    character == b' ' && !is_inside
 }
 
 /// Writes a character of an item, with its column if it begins one.
@@ -52,12 +52,15 @@ fn write_shorthand(out: &mut TextWriter, line: &[u8]) {
     let form = text.get(FORM_TYPE).copied().unwrap_or(b' ');
     out.write_char(char::from(form));
     let is_comment = text.get(FORM_TYPE.saturating_add(1)) == Some(&b'*');
-    let mut item = Item {
+    let first = Item {
         is_open: false,
         has_blanks: is_comment,
     };
+    let mut item = first;
     for (place, character) in text.iter().enumerate() {
-        if is_between(text, place, *character, item) {
+        if place == FORM_TYPE {
+            item = first;
+        } else if is_between(text, place, *character, item) {
             item.is_open = false;
         } else {
             write_character(out, text, place, *character, item);

@@ -122,7 +122,36 @@ pub(crate) fn refusal_message(
     out.finish()
 }
 
-/// Returns the message that a deck has, or would have, too many cards.
+/// Writes a number with a comma before each three of its digits, except the first.
+fn write_grouped(out: &mut TextWriter, digits: &str) {
+    for (place, digit) in digits.chars().enumerate() {
+        let following = digits.len().saturating_sub(place);
+        if place > 0 && following % 3 == 0 {
+            out.write_char(',');
+        }
+        out.write_char(digit);
+    }
+}
+
+/// Returns the message that the deck `path` has too many cards: `card` is the first over the limit.
+pub(crate) fn long_deck_message(
+    alloc: Global,
+    path: &str,
+    cards: usize,
+    card: u16,
+) -> Result<String, AllocError> {
+    let mut digits = TextWriter::new(alloc);
+    digits.fill_one("{}", cards);
+    let digits = digits.finish()?;
+    let mut out = TextWriter::new(alloc);
+    write_card(&mut out, path, usize::from(card));
+    out.write_str("S6: the deck has ");
+    write_grouped(&mut out, digits.as_str());
+    out.write_str(" cards, and 2,000 are the most\n");
+    out.finish()
+}
+
+/// Returns the message that the new deck would have too many cards.
 pub(crate) fn too_many_message(alloc: Global, path: &str) -> Result<String, AllocError> {
     let mut out = TextWriter::new(alloc);
     out.write_shown(path.as_bytes());

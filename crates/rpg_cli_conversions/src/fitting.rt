@@ -1,6 +1,7 @@
 //! The command that rewrites an old deck.
 
-use crate::changes::{change_messages, refusal_message, too_many_message};
+use crate::changes::{change_messages, long_deck_message, refusal_message, too_many_message};
+use crate::files_of_cards::names_file;
 use crate::new_deck::new_deck_messages;
 use rpg_cli_answers::{Answer, CommandStop, Listener, NamedFile, named, refuse_same_file};
 use rpg_cli_files::{FileFault, Opened, Reason, file_bytes, lines, write_bytes};
@@ -11,6 +12,9 @@ use rpg_sheet::SheetCode;
 use std::alloc::{AllocError, Global};
 use std::io::Write;
 use std::rt::Files;
+
+/// The most cards of a deck.
+const MOST_CARDS: usize = 2000;
 
 /// The number of the first card over the limit.
 const PAST_LIMIT: u16 = 2001;
@@ -69,6 +73,45 @@ fn rewrite(
     fit(alloc, source, &settings)
 }
 
+/// Counts the lines of a text.
+fn count_lines(text: &[u8]) -> usize {
+    let ended = text.iter().filter(|byte| **byte == b'\n').count();
+    match text.last() {
+        None | Some(b'\n') => ended,
+        Some(_) => ended.saturating_add(1),
+    }
+}
+
+/// Reports that a deck has too many cards, or that the new one would, and returns the answer.
+fn refuse_long<L: Listener>(
+    alloc: Global,
+    arguments: &FitArguments,
+    source: &[u8],
+    listener: &mut L,
+) -> Answer {
+    let fault = SourceFault::At {
+        card: PAST_LIMIT,
+        code: SourceCode::Sheet(SheetCode::S6),
+        columns: None,
+    };
+    let cards = count_lines(source);
+    let (message, answer) = if cards > MOST_CARDS {
+        (
+            long_deck_message(alloc, arguments.source, cards, PAST_LIMIT),
+            Answer::Source(fault),
+        )
+    } else {
+        (
+            too_many_message(alloc, arguments.source),
+            Answer::NewDeck(fault),
+        )
+    };
+    if let Ok(message) = message {
+        listener.report(message.as_str());
+    }
+    answer
+}
+
 /// Reports why a deck isn't rewritten, and returns the answer.
 fn refuse<L: Listener>(
     alloc: Global,
@@ -87,18 +130,19 @@ fn refuse<L: Listener>(
                 rule: refusal.rule.number(),
             }
         }
-        FitFault::TooMany => {
-            if let Ok(message) = too_many_message(alloc, arguments.source) {
-                listener.report(message.as_str());
-            }
-            Answer::NewDeck(SourceFault::At {
-                card: PAST_LIMIT,
-                code: SourceCode::Sheet(SheetCode::S6),
-                columns: None,
-            })
-        }
+        FitFault::TooMany => refuse_long(alloc, arguments, source, listener),
         FitFault::NoMemory => Answer::NoMemory,
     }
+}
+
+/// Rejects a table file by a name that no file of the cards has.
+fn keep_names(arguments: &FitArguments, source: &[u8]) -> Result<(), CommandStop> {
+    for (place, table) in arguments.tables.iter().enumerate() {
+        if !names_file(source, table.name.as_bytes()) {
+            return Err(CommandStop::UnknownTable(place));
+        }
+    }
+    Ok(())
 }
 
 /// Refuses to write the new deck over a file that is read.
@@ -201,6 +245,7 @@ pub fn fit_file<R: Files + Print + AllocGlobal, L: Listener>(
     listener: &mut L,
 ) -> Result<Answer, CommandStop> {
     let source = named(FileArgument::Source, file_bytes(rt, arguments.source))?;
+    keep_names(arguments, &source)?;
     let records = table_records(rt, arguments)?;
     match rewrite(rt.alloc(), arguments, &source, records.as_slice()) {
         Ok(fit) => conclude(rt, arguments, &source, &fit, listener),

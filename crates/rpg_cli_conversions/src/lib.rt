@@ -2,6 +2,7 @@
 #![tactic(auto)]
 
 mod changes;
+mod files_of_cards;
 mod fitting;
 mod law;
 mod new_deck;

@@ -19,9 +19,9 @@ pub(crate) const WARNINGS: &str = "\
     %- a result with as many as the longer factor. So may a sum be, and a product with a number that\n  has none before its point may be shorter:\n\n     C           TOT       MULT AMT       SUM     80\n     C           TOT       ADD  AMT       TOT\n     C           TOT       MULT .05       TAX     42\
     %give the result field more digits (49-51); a product can have as many as both\nfactors together. Digits on the left that have no place are lost, and nothing halts\
     @W5%a control level is tested, and no field has it%cards\
-    %- where no input field has L2 in 59-60:\n\n     OPRINT   T        L2\
+    %- a calculation (7-8) and a line, where no input field has L1 or L2 in 59-60:\n\n     CL1         TOT       ADD  AMT       TOT\n     OPRINT   T        L2\
     %- a level that an input field has, or that a record type, a result or SETON turns on:\n\n     I                                        1   3 REGIONL2\n     OPRINT   T        L2\
-    %write the level into 59-60 of its control field, or take the condition away. A level\nwithout a field is on where a higher one breaks, and at the end\
+    %write the level into 59-60 of its control field, or take away the level in 7-8 or the\ncondition. A level without a field is on where a higher one breaks, and at the end. L0 and LR are\nalways turned on\
     @W6%PAGE has conditions, and isn't set back to 1%cards\
     %- a page number with a condition of its own (23-31):\n\n     O                 01      PAGE      10\
     %- PAGE without conditions, on a line with conditions:\n\n     OPRINT   H  1     1P\n     O       OR        OF\n     O                         PAGE      10\

@@ -14,6 +14,11 @@ pub or_false : (b : Bool) → b ≡ (b || false)
 or_false true = refl
 or_false false = refl
 
+-- one after the other, or one of two
+pub or_two : (a b c : Bool) → ((a || b) || c) ≡ (a || (b || c))
+or_two true b c = refl
+or_two false b c = refl
+
 -- one after the other, or any of three
 pub or_three : (a b c d : Bool) → (((a || b) || c) || d) ≡ (a || ((b || c) || d))
 or_three true b c d = refl

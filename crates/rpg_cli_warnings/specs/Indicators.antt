@@ -1,10 +1,12 @@
--- W1 and W2: which indicators are warned of, and at which card.
+-- W1, W2 and W5: which indicators are warned of, and at which card.
 use Rattle.std.specs.Prelude.{ℕ, ◌+◌, List, [], ◌++◌, Bool, true, false, not, ◌&&◌, ◌||◌, ◌==◌, nat_le, suc, zero, Option, None, Some, is_some, find, if◌then◌else◌}
 use Rattle.std.specs.List.{list_any}
 use Rattle.std.specs.Option.{option_map, option_map_or, option_to_list}
 use Rattle.rpg_cards.specs.Times.{line_conditions_on}
 use Rattle.rpg_cards.specs.declared.spec_card.SpecCard.{SpecCard}
 use Rattle.rpg_sheet_specs.specs.declared.calculation.CalculationSpec.{CalculationSpec}
+use Rattle.rpg_sheet_specs.specs.declared.calculation.ControlLevel.{ControlLevel}
+use Rattle.rpg_sheet_specs.specs.declared.calculation.ControlLevel.TheVariants as control
 use Rattle.rpg_sheet_specs.specs.declared.calculation.Operation.{Operation}
 use Rattle.rpg_sheet_specs.specs.declared.calculation.Operation.TheVariants as operation
 use Rattle.rpg_sheet_specs.specs.declared.column.ColumnFault.{ColumnFault}
@@ -42,9 +44,30 @@ one_tests n c = option_map_or (λ x. x.indicator == n) c false
 abbrev pub any_tests : ℕ → Three (Option ConditionSpec) → Bool
 any_tests n t = one_tests n t.first || one_tests n t.second || one_tests n t.third
 
+-- the indicator of a calculation at total time
+abbrev pub total_of : ControlLevel → Option ℕ
+total_of (control.Total n) = Some n
+total_of control.Detail = None
+total_of control.Subroutine = None
+total_of control.And = None
+total_of control.Or = None
+
+-- the control level in columns 7-8 of a C card
+abbrev pub total_on : Spec → Option ℕ
+total_on (spec.Calculation k) = total_of k.control_level
+total_on s = None
+
+-- the control level of the card is that indicator
+abbrev pub level_tests : ℕ → Spec → Bool
+level_tests n s = option_map_or (λ x. x == n) (total_on s) false
+
 -- a condition of the card is on that indicator
+abbrev pub condition_tests : ℕ → Spec → Bool
+condition_tests n s = option_map_or (any_tests n) (conditions_on_card s) false
+
+-- the control level or a condition of the card is on that indicator
 abbrev pub tests : ℕ → SpecCard → Bool
-tests n c = option_map_or (any_tests n) (conditions_on_card c.spec) false
+tests n c = level_tests n c.spec || condition_tests n c.spec
 
 -- the place of the first of three that satisfies the test, each of this many columns
 abbrev pub place_of : {X : Type 0} → (X → Bool) → ℕ → Three X → ℕ
@@ -55,8 +78,12 @@ abbrev pub columns_from : ℕ → ℕ → ColumnFault
 columns_from column more = record { column = column; last = column + more }
 
 -- the columns of the condition on an indicator
+abbrev pub condition_columns : ℕ → Spec → ColumnFault
+condition_columns n s = columns_from (conditions_begin s + option_map_or (place_of (one_tests n) 3) (conditions_on_card s) 6) 2
+
+-- the columns of the control level, if it is that indicator, or else of the condition on it
 abbrev pub tested_columns : ℕ → SpecCard → ColumnFault
-tested_columns n c = columns_from (conditions_begin c.spec + option_map_or (place_of (one_tests n) 3) (conditions_on_card c.spec) 6) 2
+tested_columns n c = if level_tests n c.spec then columns_from 7 1 else condition_columns n c.spec
 
 -- ---- turning on
 

@@ -5,7 +5,7 @@ ghost use Rattle.std.specs.List.{list_any};
 ghost use Rattle.rpg_cli_warnings.specs.Indicators as indicators;
 ghost use Rattle.rpg_cli_warnings.specs.Marks.{is_marked};
 
-use crate::testing::tested_on;
+use crate::testing::{tested_on, total_on};
 use crate::turning::shown_on;
 use rpg_cards::SpecCard;
 use rpg_sheet_specs::{ConditionSpec, Indicator};
@@ -20,16 +20,34 @@ fn mark_tested(marks: &mut [bool; 256], condition: Option<ConditionSpec>)
     }
 }
 
-/// Marks the indicators that a card tests.
+/// Marks the control level of a card.
+#[tactic(auto, using(crate::proofs::Marking::mark_one, crate::proofs::Marking::or_false))]
+fn note_level(marks: &mut [bool; 256], card: &SpecCard)
+    ensures { (n : ℕ) → is_marked n marks.new ≡ (is_marked n marks.old || indicators.level_tests n card.now.spec) }
+{
+    if let Some(level) = total_on(card) {
+        marks[usize::from(level)] = true;
+    }
+}
+
+/// Marks the indicators of a card's conditions.
 #[tactic(auto, using(crate::proofs::Marking::or_false))]
-fn note_tested(marks: &mut [bool; 256], card: &SpecCard)
-    ensures { (n : ℕ) → is_marked n marks.new ≡ (is_marked n marks.old || indicators.tests n card.now) }
+fn note_conditions(marks: &mut [bool; 256], card: &SpecCard)
+    ensures { (n : ℕ) → is_marked n marks.new ≡ (is_marked n marks.old || indicators.condition_tests n card.now.spec) }
 {
     if let Some(conditions) = tested_on(card) {
         mark_tested(marks, conditions.first);
         mark_tested(marks, conditions.second);
         mark_tested(marks, conditions.third);
     }
+}
+
+/// Marks the indicators that a card tests.
+fn note_tested(marks: &mut [bool; 256], card: &SpecCard)
+    ensures { (n : ℕ) → is_marked n marks.new ≡ (is_marked n marks.old || indicators.tests n card.now) }
+{
+    note_level(marks, card);
+    note_conditions(marks, card);
 }
 
 /// Marks each indicator that one of the cards tests.
