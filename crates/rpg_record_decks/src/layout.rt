@@ -9,7 +9,7 @@ ghost use Rattle.rpg_record_decks.specs.Reading.{type_read};
 ghost use Rattle.rpg_record_decks.specs.Types.{TypeRead};
 
 use crate::columns::file_name;
-use crate::deck::{DeckCard, DeckArguments, deck_cards};
+use crate::deck::{DeckArguments, DeckCard, deck_cards};
 use crate::fault::{CardFault, DeckFault};
 use crate::file::{file_length, find_file};
 use crate::kinds::{code_columns, record_type};
@@ -110,7 +110,11 @@ fn layout_of_file(
 
 /// Returns the layout of the records of the file to use.
 #[tactic(auto, using(crate::proofs::LayoutLemmas::no_file, crate::proofs::LayoutLemmas::file_found))]
-fn layout_by_cards(alloc: Global, words: DeckArguments, cards: &[DeckCard]) -> Result<Layout, DeckFault>
+fn layout_by_cards(
+    alloc: Global,
+    words: DeckArguments,
+    cards: &[DeckCard],
+) -> Result<Layout, DeckFault>
     ensures layout { IfOk result (λ layout. layout_by_cards words.entry cards.now ≡ Ok (layout_seen layout)) }
     ensures fault { IfErr result (IsDeckFaultOf (layout_by_cards words.entry cards.now)) }
 {
