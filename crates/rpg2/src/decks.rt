@@ -1,8 +1,8 @@
 //! The command that converts shorthand to cards, and cards to shorthand.
 
 use rpg_cli_answers::{Answer, CommandStop, Listener, named, source_bytes};
-use rpg_cli_columns::{RULER, ShorthandFault, deck_of, line_message, shorthand_of};
 use rpg_cli_messages::card_message;
+use rpg_cli_shorthand::{RULER, ShorthandFault, deck_of, line_message, shorthand_of};
 use rpg_cli_words::{CardsArguments, CardsWanted, FileArgument};
 use rpg_faults::{CardFault, SourceFault};
 use std::alloc::Global;

@@ -70,6 +70,6 @@ pub(crate) fn range_of(kind: CardKind, which: WantedRange) -> Option<Range> {
 }
 
 /// Whether a range of a card's sheet begins in a column, which is counted from 1.
-pub(crate) fn begins_range(line: &[u8], column: usize) -> bool {
+pub fn begins_range(line: &[u8], column: usize) -> bool {
     range_of(CardKind::of(line), WantedRange::From(column)).is_some()
 }

@@ -1,6 +1,6 @@
 //! Shorthand given as a source.
 
-use rpg_cli_columns::is_shorthand;
+use rpg_cli_shorthand::is_shorthand;
 use rpg_cli_text::TextWriter;
 use rpg_sheet::Card;
 use rpg_text::{first_line, has_only_characters};

@@ -1,6 +1,7 @@
 //! Data without a `**` card before it.
 
-use rpg_cli_columns::{begins_data, character_at, ends_source, has_card_number};
+use rpg_cli_columns::{character_at, has_card_number};
+use rpg_cli_shorthand::{begins_data, ends_source};
 use rpg_cli_text::TextWriter;
 use rpg_text::{first_line, is_blank};
 

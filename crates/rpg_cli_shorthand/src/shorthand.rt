@@ -3,7 +3,7 @@
 use crate::deck::write_line;
 use crate::items::column_at;
 use crate::marks::{begins_data, ends_source};
-use crate::range::begins_range;
+use rpg_cli_columns::begins_range;
 use rpg_cli_text::TextWriter;
 use rpg_faults::{SourceCode, SourceFault};
 use rpg_sheet::SheetCode;

@@ -1,0 +1,17 @@
+//! Shorthand for cards, and the cards that it stands for.
+#![tactic(auto)]
+
+mod deck;
+mod filling;
+mod items;
+mod line_fault;
+mod marks;
+mod ruler;
+mod shorthand;
+
+pub use deck::deck_of;
+pub use filling::is_shorthand;
+pub use line_fault::{LineFault, ShorthandFault, line_message};
+pub use marks::{begins_data, ends_source};
+pub use ruler::RULER;
+pub use shorthand::shorthand_of;
