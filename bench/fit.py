@@ -72,8 +72,7 @@ class Room:
         return (self.folder / name).read_bytes().decode("latin-1")
 
     def fit(self, source, new):
-        has_table = source == "deck" and self.job.table is not None
-        tables = ["--table", f"{old_deck_sources.TABLE_FILE}=table"] if has_table else []
+        tables = ["--table", f"{old_deck_sources.TABLE_FILE}=table"] if self.job.table is not None else []
         return self.answer("fit", source, new, *tables, "--switches", self.job.switches)
 
     def go(self):

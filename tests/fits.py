@@ -12,10 +12,7 @@ from outcome import Outcome
 from program import Program
 
 # The words that decks are rewritten with, if NAME.words has no others.
-WORDS = "--switches 10000000 --forms"
-
-# The words for decks whose cards name the table file.
-TABLE = ["--table", "TABF=table"]
+WORDS = "--table TABF=table --switches 10000000 --forms"
 
 AT_ONCE = 10
 
@@ -26,11 +23,9 @@ def reported(errors: str) -> str:
     return "".join(f"{it[1]}\n" for it in lines if it)
 
 
-def words_of(path: Path, deck: bytes) -> list[str]:
-    """The words that a deck, that of the path or what it becomes, is rewritten with."""
+def words_of(path: Path) -> list[str]:
     own = path.with_suffix(".words")
-    words = (own.read_text(encoding="utf-8") if own.exists() else WORDS).split()
-    return words + TABLE if re.search(rb"^.{5}F *TABF ", deck, re.M) else words
+    return (own.read_text(encoding="utf-8") if own.exists() else WORDS).split()
 
 
 def answer_of(told: str, deck: bytes, new: bytes | None) -> tuple[str, int]:
@@ -50,7 +45,7 @@ def show(program: Program, path: Path) -> list[Outcome]:
         folder = Path(name)
         (folder / "deck").write_bytes(path.read_bytes())
         (folder / "table").write_bytes((path.parent / "table").read_bytes())
-        line, status, errors = program.answer(["fit", "deck", "new", *words_of(path, path.read_bytes())], folder)
+        line, status, errors = program.answer(["fit", "deck", "new", *words_of(path)], folder)
         made = (folder / "new").read_bytes() if (folder / "new").exists() else None
         faults = []
         if (line, status) != answer_of(told, path.read_bytes(), new):
@@ -60,7 +55,7 @@ def show(program: Program, path: Path) -> list[Outcome]:
         if made != new:
             faults.append(f"--- new\n{(made or b'none').decode('latin-1')}")
         if made is not None:
-            again, _, _ = program.answer(["fit", "new", "newer", *words_of(path, made)], folder)
+            again, _, _ = program.answer(["fit", "new", "newer", *words_of(path)], folder)
             if again != "changes 0" or (folder / "newer").read_bytes() != made:
                 faults.append(f"--- once more\n{again}")
     return [Outcome(str(path.relative_to(path.parent.parent)), f"fit {path.stem}", "\n" + "\n".join(faults) if faults else None)]

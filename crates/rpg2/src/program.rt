@@ -18,8 +18,7 @@ use rpg_cli_conversions::{fit_file, records_file};
 use rpg_cli_files::{Reason, send_line};
 use rpg_cli_run::{go_files, run_files};
 use rpg_cli_words::{
-    Format, GoArguments, Refusal, Request, RunArguments, refuse_bytes, refuse_same_file,
-    refuse_table, request_of,
+    Format, GoArguments, Refusal, Request, RunArguments, refuse_bytes, refuse_same_file, request_of,
 };
 use std::alloc::Global;
 use std::io::{Error, ErrorKind, Write};
@@ -246,12 +245,6 @@ fn obey_as_asked<
         Err(CommandStop::SameFile(same)) => refuse(
             rt,
             &refuse_same_file(alloc, same),
-            out,
-            listener,
-        ),
-        Err(CommandStop::UnknownTable(place)) => refuse(
-            rt,
-            &refuse_table(alloc, request, place),
             out,
             listener,
         ),

@@ -10,8 +10,6 @@ pub enum CommandStop {
     Answer(Answer),
     /// A file that another argument names would be emptied.
     SameFile(SameFile),
-    /// No file of the cards has the name that `--table` gives: its place among them.
-    UnknownTable(usize),
     /// A text couldn't be printed completely.
     Unshown(Reason),
     /// The job produced no report.

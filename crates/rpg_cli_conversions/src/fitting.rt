@@ -1,7 +1,6 @@
 //! The command that rewrites an old deck.
 
 use crate::changes::{change_messages, long_deck_message, refusal_message, too_many_message};
-use crate::files_of_cards::names_file;
 use crate::new_deck::new_deck_messages;
 use rpg_cli_answers::{Answer, CommandStop, Listener, NamedFile, named, refuse_same_file};
 use rpg_cli_files::{FileFault, Opened, Reason, file_bytes, lines, write_bytes};
@@ -89,27 +88,20 @@ fn refuse_long<L: Listener>(
     source: &[u8],
     listener: &mut L,
 ) -> Answer {
-    let fault = SourceFault::At {
-        card: PAST_LIMIT,
-        code: SourceCode::Sheet(SheetCode::S6),
-        columns: None,
-    };
     let cards = count_lines(source);
-    let (message, answer) = if cards > MOST_CARDS {
-        (
-            long_deck_message(alloc, arguments.source, cards, PAST_LIMIT),
-            Answer::Source(fault),
-        )
+    let message = if cards > MOST_CARDS {
+        long_deck_message(alloc, arguments.source, cards, PAST_LIMIT)
     } else {
-        (
-            too_many_message(alloc, arguments.source),
-            Answer::NewDeck(fault),
-        )
+        too_many_message(alloc, arguments.source)
     };
     if let Ok(message) = message {
         listener.report(message.as_str());
     }
-    answer
+    Answer::NewDeck(SourceFault::At {
+        card: PAST_LIMIT,
+        code: SourceCode::Sheet(SheetCode::S6),
+        columns: None,
+    })
 }
 
 /// Reports why a deck isn't rewritten, and returns the answer.
@@ -133,16 +125,6 @@ fn refuse<L: Listener>(
         FitFault::TooMany => refuse_long(alloc, arguments, source, listener),
         FitFault::NoMemory => Answer::NoMemory,
     }
-}
-
-/// Rejects a table file by a name that no file of the cards has.
-fn keep_names(arguments: &FitArguments, source: &[u8]) -> Result<(), CommandStop> {
-    for (place, table) in arguments.tables.iter().enumerate() {
-        if !names_file(source, table.name.as_bytes()) {
-            return Err(CommandStop::UnknownTable(place));
-        }
-    }
-    Ok(())
 }
 
 /// Refuses to write the new deck over a file that is read.
@@ -245,7 +227,6 @@ pub fn fit_file<R: Files + Print + AllocGlobal, L: Listener>(
     listener: &mut L,
 ) -> Result<Answer, CommandStop> {
     let source = named(FileArgument::Source, file_bytes(rt, arguments.source))?;
-    keep_names(arguments, &source)?;
     let records = table_records(rt, arguments)?;
     match rewrite(rt.alloc(), arguments, &source, records.as_slice()) {
         Ok(fit) => conclude(rt, arguments, &source, &fit, listener),

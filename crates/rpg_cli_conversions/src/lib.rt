@@ -2,7 +2,6 @@
 #![tactic(auto)]
 
 mod changes;
-mod files_of_cards;
 mod fitting;
 mod law;
 mod new_deck;

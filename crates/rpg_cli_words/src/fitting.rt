@@ -38,14 +38,6 @@ impl<'a> FitArguments<'a> {
         may_be_standard(self.new_deck)
     }
 
-    /// Returns the name and the path of a table file.
-    pub(crate) fn table(&self, place: usize) -> (&'a str, &'a str) {
-        match self.tables.get(place) {
-            Some(table) => (table.name, table.path),
-            None => ("", ""),
-        }
-    }
-
     pub(crate) fn path(&self, argument: FileArgument) -> Option<&'a str> {
         match argument {
             FileArgument::Source => Some(self.source),

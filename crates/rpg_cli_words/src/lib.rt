@@ -22,7 +22,7 @@ pub use records::{RecordFraming, RecordsArguments, RecordsWay};
 pub use request::{
     CheckArguments, CompileArguments, ExplainArguments, FileArgument, Refusal, Request,
     RunArguments, SameFile, Shared, ShowArguments, VerifyArguments, is_standard, refuse_bytes,
-    refuse_same_file, refuse_table, request_of,
+    refuse_same_file, request_of,
 };
 pub use rpg_cli_values::DateArgument;
 pub use warned::WarningArguments;

@@ -464,20 +464,6 @@ pub fn refuse_same_file(alloc: Global, same: SameFile) -> Refusal {
     Refusal::of(same_file_error(alloc, same))
 }
 
-fn unknown_table_error(alloc: Global, name: &str, path: &str) -> Result<Error, AllocError> {
-    let message = format!(in alloc; "'--table {name}={path}': no file of the cards has that name")?;
-    fault(alloc, PROGRAM, ErrorKind::InvalidValue, message.as_str())
-}
-
-/// Rejects a table file whose name no file of the cards has, by its place among them.
-pub fn refuse_table(alloc: Global, request: &Request, place: usize) -> Refusal {
-    let (name, path) = match request {
-        Request::Fit(arguments) => arguments.table(place),
-        _ => ("", ""),
-    };
-    Refusal::of(unknown_table_error(alloc, name, path))
-}
-
 /// The default allowance.
 const ALLOWANCE: u16 = 1000;
 
