@@ -116,11 +116,15 @@ module _ {X Y : Type 0} (test : X → Bool) (made : ℕ → X → Y) where
 
   -- ---- entries that find what a list has, and more items after it
 
+  -- what is found of a list, and of more items after it
+  pub first_more : (was now : Option Y) (xs items : List X) → was ≡ first_at test made 0 xs → now ≡ option_or was (first_at test made (length xs) items) → now ≡ first_at test made 0 (xs ++ items)
+  first_more was now xs items first noted =
+      let place : 0 + length xs ≡ length xs = omega arith in
+      noted ∙ ap (λ o. option_or o (first_at test made (length xs) items)) first ∙ ap (λ k. option_or (first_at test made 0 xs) (first_at test made k items)) (sym place) ∙ sym (first_at-append 0 xs items)
+
   pub noted_more : {K : Type 0} (found : K → Bool) (entries more : List (K × Y)) (xs items : List X) → lookup found entries ≡ first_at test made 0 xs
       → lookup found more ≡ option_or (lookup found entries) (first_at test made (length xs) items) → lookup found more ≡ first_at test made 0 (xs ++ items)
-  noted_more found entries more xs items was noted =
-      let place : 0 + length xs ≡ length xs = omega arith in
-      noted ∙ ap (λ o. option_or o (first_at test made (length xs) items)) was ∙ ap (λ k. option_or (first_at test made 0 xs) (first_at test made k items)) (sym place) ∙ sym (first_at-append 0 xs items)
+  noted_more found entries more xs items was noted = first_more (lookup found entries) (lookup found more) xs items was noted
 
   -- one item more of those that are being noted
   pub noted_one : {K : Type 0} (found : K → Bool) (old entries more : List (K × Y)) (start place : ℕ) (done : List X) (x : X) → place ≡ start + length done

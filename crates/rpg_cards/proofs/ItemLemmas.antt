@@ -22,7 +22,7 @@ constants_in-append (c ∷ cs) ds = ap (λ (l : List Constant). constants_on c.s
 
 -- ---- one more card
 
-take_one : (cards : List SpecCard) (i : ℕ) (c : SpecCard) → i < length cards → c ≡ get_or cards i c → take (i + 1) cards ≡ take i cards ++ c ∷ []
+pub take_one : (cards : List SpecCard) (i : ℕ) (c : SpecCard) → i < length cards → c ≡ get_or cards i c → take (i + 1) cards ≡ take i cards ++ c ∷ []
 take_one cards i c lt is = rw (take_more cards i c lt, ← is) refl
 
 pub definitions-push : (before : List SpecCard) (c : SpecCard) → definitions (before ++ c ∷ []) ≡ definitions before ++ definitions_on c.spec

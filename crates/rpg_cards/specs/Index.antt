@@ -1,19 +1,25 @@
--- The first places of names and constants.
-use Rattle.std.specs.Prelude.{◌≡◌, ℕ, ◌+◌, Bool, List, [], ◌∷◌, nat_eq, if◌then◌else◌, Option, None, Some}
+-- The first places of names, constants and files.
+use Rattle.std.specs.Prelude.{◌≡◌, ℕ, ◌+◌, Bool, false, List, [], ◌∷◌, nat_eq, nat_lt, slice_get, if◌then◌else◌, Option, None, Some}
 use Rattle.std.specs.Cmp.Lexicographic.{pointwise}
 use Rattle.std.specs.Map.{lookup}
-use Rattle.std.specs.Option.{option_or}
+use Rattle.std.specs.Option.{option_and_then, option_map_or, option_or}
+use Rattle.rpg_cards.specs.Cards.{file_on}
 use Rattle.rpg_cards.specs.Constants.{constants_in, is_same}
-use Rattle.rpg_cards.specs.Files.{files}
+use Rattle.rpg_cards.specs.Files.{file_use, same_use}
 use Rattle.rpg_cards.specs.Levels.{has_match_field}
 use Rattle.rpg_cards.specs.Names.{defined_as, definitions, is_of}
 use Rattle.rpg_cards.specs.declared.constants.Constant.{Constant}
+use Rattle.rpg_cards.specs.declared.files.FileUse.{FileUse}
+use Rattle.rpg_cards.specs.declared.files.FileUse.TheVariants.{Primary, Secondary, Printer, Disk}
+use Rattle.rpg_cards.specs.declared.first_places.FirstFiles.{FirstFiles}
+use Rattle.rpg_cards.specs.declared.first_places.FirstUses.{FirstUses}
 use Rattle.rpg_cards.specs.declared.index.CardIndex.{CardIndex}
 use Rattle.rpg_cards.specs.declared.index.FirstDefinition.{FirstDefinition}
 use Rattle.rpg_cards.specs.declared.names.Defined.{Defined}
 use Rattle.rpg_cards.specs.declared.names.Defined.TheVariants.{Missing}
 use Rattle.rpg_cards.specs.declared.names.Definition.{Definition}
 use Rattle.rpg_cards.specs.declared.spec_card.SpecCard.{SpecCard}
+use Rattle.rpg_sheet_specs.specs.declared.file.FileSpec.{FileSpec}
 
 -- a function of the first item that passes a test and of its place; the first item of the list is at place i
 abbrev pub first_at : {X Y : Type 0} → (X → Bool) → (ℕ → X → Y) → ℕ → List X → Option Y
@@ -46,11 +52,65 @@ pub record IsIndex (names : List (List ℕ × FirstDefinition)) (constants : Lis
   pub defined : (name : List ℕ) → lookup (pointwise nat_eq name) names ≡ first_at (is_of name) placed_definition 0 (definitions cards)
   pub standing : (x : Constant) → lookup (is_same x) constants ≡ first_at (is_same x) place_of_constant 0 (constants_in cards)
 
+-- ---- files
+
+-- the file has that name
+abbrev pub is_named : List ℕ → FileSpec → Bool
+is_named name f = pointwise nat_eq name f.name
+
+-- the file has that use
+abbrev pub is_for : FileUse → FileSpec → Bool
+is_for u f = same_use u (file_use f)
+
+-- an F card whose file passes a test
+abbrev pub has_file : (FileSpec → Bool) → SpecCard → Bool
+has_file test c = option_map_or test (file_on c.spec) false
+
+-- the place of a card
+abbrev pub place_of_card : ℕ → SpecCard → ℕ
+place_of_card i c = i
+
+-- the place of the first F card whose file passes a test
+abbrev pub first_file : (FileSpec → Bool) → List SpecCard → Option ℕ
+first_file test cards = first_at (has_file test) place_of_card 0 cards
+
+-- a place among the first n
+abbrev pub place_before : ℕ → Option ℕ → Option ℕ
+place_before n None = None
+place_before n (Some i) = if nat_lt i n then Some i else None
+
+-- the file on the card at a place
+abbrev pub file_at : List SpecCard → Option ℕ → Option FileSpec
+file_at cards place = option_and_then (λ c. file_on c.spec) (option_and_then (slice_get cards) place)
+
+-- the place of the first F card with a use
+abbrev pub first_with : FirstUses → FileUse → Option ℕ
+first_with s Primary = s.primary
+first_with s Secondary = s.secondary
+first_with s Printer = s.printer
+first_with s Disk = s.disk
+
+-- a use at a place is noted, unless it is known
+abbrev pub with_use : FileUse → ℕ → FirstUses → FirstUses
+with_use Primary i s = record { primary = option_or s.primary (Some i); secondary = s.secondary; printer = s.printer; disk = s.disk }
+with_use Secondary i s = record { primary = s.primary; secondary = option_or s.secondary (Some i); printer = s.printer; disk = s.disk }
+with_use Printer i s = record { primary = s.primary; secondary = s.secondary; printer = option_or s.printer (Some i); disk = s.disk }
+with_use Disk i s = record { primary = s.primary; secondary = s.secondary; printer = s.printer; disk = option_or s.disk (Some i) }
+
+-- the card's file, if it has one, is noted under its name and its use, unless they are known
+pub record NotesFile (place : ℕ) (c : SpecCard) (old new : FirstFiles) : Type 0 where
+  pub named : (name : List ℕ) → lookup (pointwise nat_eq name) new.names.entries ≡ option_or (lookup (pointwise nat_eq name) old.names.entries) (if has_file (is_named name) c then Some place else None)
+  pub used : (u : FileUse) → first_with new.uses u ≡ option_or (first_with old.uses u) (if has_file (is_for u) c then Some place else None)
+
+-- each name and each use with the place of its first F card
+pub record AreFirstFiles (files : FirstFiles) (cards : List SpecCard) : Type 0 where
+  pub named : (name : List ℕ) → lookup (pointwise nat_eq name) files.names.entries ≡ first_file (is_named name) cards
+  pub used : (u : FileUse) → first_with files.uses u ≡ first_file (is_for u) cards
+
+-- ---- all of it
+
 -- the index of these cards
 pub record IsIndexOf (index : CardIndex) (cards : List SpecCard) : Type 0 where
   pub places : IsIndex index.names.entries index.constants.entries cards
+  pub files : AreFirstFiles index.files cards
   pub matching : index.has_match_field ≡ has_match_field cards
-
--- two sources have the same files
-abbrev pub HasSameFiles : List SpecCard → List SpecCard → Type 0
-HasSameFiles some cards = files some ≡ files cards

@@ -1,21 +1,20 @@
-//! The cards of a source, with the first place of each name and of each constant.
+//! The cards of a source, with the first place of each name, constant and file.
 
 ghost use Rattle.std.specs.Prelude.{◌≡◌, ℕ, ◌+◌, ◌<◌, ◌^◌, List, length, take, not, Some, None, nat_eq, if◌then◌else◌, option_copied, IfOk, OnOk};
 ghost use Rattle.std.specs.Cmp.Lexicographic.{pointwise};
 ghost use Rattle.std.specs.List.{list_any};
-ghost use Rattle.std.specs.Map.{lookup};
-ghost use Rattle.std.specs.Option.{option_or};
 ghost use Rattle.rpg_cards.specs.Constants as constants;
 ghost use Rattle.rpg_cards.specs.Constants.{constants_on, is_same};
 ghost use Rattle.rpg_cards.specs.Files as files;
-ghost use Rattle.rpg_cards.specs.Index.{defined_first, first_at, placed_definition, HasSameFiles, IsIndexOf, NotesConstants, NotesNames};
+ghost use Rattle.rpg_cards.specs.Index.{defined_first, file_at, first_at, place_before, placed_definition, IsIndexOf, NotesConstants, NotesNames};
 ghost use Rattle.rpg_cards.specs.Levels as levels;
 ghost use Rattle.rpg_cards.specs.Names as names;
 ghost use Rattle.rpg_cards.specs.Names.{definitions_on, is_of};
 ghost use Rattle.rpg_cards.specs.declared.constants.Constant.{Constant};
 
 use crate::constants::{Constant, factor_constant};
-use crate::files::{FileUse, file_for, file_named};
+use crate::files::FileUse;
+use crate::first_places::{FirstFiles, note};
 use crate::levels::has_match_field;
 use crate::names::{Defined, given_form};
 use crate::spec_card::SpecCard;
@@ -24,7 +23,6 @@ use rpg_sheet_specs::{Factor, FileSpec, Word};
 use rpg_symbols::Name;
 use std::alloc::{AllocError, Global};
 use std::collections::HashMap;
-use std::hash::Hash;
 use std::marker::Model;
 
 /// The place of a name's first definition among all definitions, and its form: None if that is over a limit.
@@ -37,11 +35,12 @@ pub struct FirstDefinition {
 /// More cards than memory can hold.
 const MOST_CARDS: usize = usize::MAX / 2;
 
-/// The names and constants of some cards, to look them up in constant time.
+/// The names, constants and files of some cards, to look them up in constant time.
 #[derive(Drop)]
 pub struct CardIndex {
     names: HashMap<Name, FirstDefinition>,
     constants: HashMap<Constant, usize>,
+    files: FirstFiles,
     has_match_field: bool,
 }
 
@@ -63,6 +62,7 @@ impl CardIndex {
         Ok(CardIndex {
             names,
             constants,
+            files: FirstFiles::of(alloc, cards)?,
             has_match_field: has_match_field(cards),
         })
     }
@@ -72,21 +72,15 @@ impl CardIndex {
         requires { IsIndexOf self cards.now }
         ensures { result ≡ cards.now }
     {
-        IndexedCards {
-            cards,
-            index: self,
-            around_files: up_to_last_file(from_first_file(cards)),
-        }
+        IndexedCards { cards, index: self }
     }
 }
 
-/// The cards of a source, with constant-time lookup of names and constants.
+/// The cards of a source, with constant-time lookup of names, constants and files.
 #[derive(Drop)]
 pub struct IndexedCards<'a> {
     cards: &'a [SpecCard],
     index: CardIndex,
-    /// The cards from the first F card to the last.
-    around_files: &'a [SpecCard],
 }
 
 impl<'a> Model for IndexedCards<'a> {
@@ -95,11 +89,11 @@ impl<'a> Model for IndexedCards<'a> {
 
     ghost Value = { List SpecCard };
 
-    ghost use Rattle.rpg_cards.specs.Index.{IsIndexOf, HasSameFiles};
+    ghost use Rattle.rpg_cards.specs.Index.{IsIndexOf};
 
     ghost view = { λ i. i.cards.now };
 
-    ghost invariant = { λ i. IsIndexOf i.index i.cards.now × HasSameFiles i.around_files.now i.cards.now };
+    ghost invariant = { λ i. IsIndexOf i.index i.cards.now };
 }
 
 impl<'a> IndexedCards<'a> {
@@ -193,14 +187,38 @@ impl<'a> IndexedCards<'a> {
     pub fn file_named(&self, name: &Word<8>) -> Option<&'a FileSpec>
         ensures { option_copied result ≡ files.file_named name.now self.now }
     {
-        file_named(name, self.around_files)
+        self.file_named_before(name, self.cards.len())
+    }
+
+    /// Returns the first F card with this name, if it is among the first `count` cards.
+    pub fn file_named_before(&self, name: &Word<8>, count: usize) -> Option<&'a FileSpec>
+        ensures { option_copied result ≡ files.file_named name.now (take count self.now) }
+    {
+        self.file_at(self.index.files.named(name), count)
     }
 
     /// Returns the first file with this use.
     pub fn file_for(&self, file_use: FileUse) -> Option<&'a FileSpec>
         ensures { option_copied result ≡ files.file_for file_use self.now }
     {
-        file_for(file_use, self.around_files)
+        self.file_for_before(file_use, self.cards.len())
+    }
+
+    /// Returns the first file with this use, if it is among the first `count` cards.
+    pub fn file_for_before(&self, file_use: FileUse, count: usize) -> Option<&'a FileSpec>
+        ensures { option_copied result ≡ files.file_for file_use (take count self.now) }
+    {
+        self.file_at(self.index.files.used(file_use), count)
+    }
+
+    /// Returns the file on the card at a place, if that is among the first `count` cards.
+    fn file_at(&self, place: Option<usize>, count: usize) -> Option<&'a FileSpec>
+        ensures { option_copied result ≡ file_at self.now (place_before count place) }
+    {
+        match place {
+            Some(place) if place < count => self.cards.get(place)?.file(),
+            _ => None,
+        }
     }
 
     /// Whether a field has a match level, so that conditions may test MR.
@@ -209,34 +227,6 @@ impl<'a> IndexedCards<'a> {
     {
         self.index.has_match_field
     }
-}
-
-/// Drops the cards before the first F card.
-fn from_first_file(cards: &[SpecCard]) -> &[SpecCard]
-    ensures { HasSameFiles result.now cards.now }
-{
-    let mut rest = cards;
-    while let Some((card, following)) = rest.split_first() {
-        if card.file().is_some() {
-            return rest;
-        }
-        rest = following;
-    }
-    rest
-}
-
-/// Drops the cards after the last F card.
-fn up_to_last_file(cards: &[SpecCard]) -> &[SpecCard]
-    ensures { HasSameFiles result.now cards.now }
-{
-    let mut rest = cards;
-    while let Some((card, front)) = rest.split_last() {
-        if card.file().is_some() {
-            return rest;
-        }
-        rest = front;
-    }
-    rest
 }
 
 fn defined_first(first: Option<FirstDefinition>) -> Defined
@@ -298,16 +288,4 @@ fn copied(name: &Name) -> Name
     ensures { result ≡ name.now }
 {
     Name::new(name.as_slice())
-}
-
-/// Stores a value under a key that has none.
-fn note<K: Eq + Hash + Drop, V: Drop>(
-    map: &mut HashMap<K, V>,
-    key: K,
-    value: V,
-) -> Result<(), AllocError>
-    ensures { OnOk result ((q : K) → lookup (K.eq q) map.new.entries ≡ option_or (lookup (K.eq q) map.old.entries) (if K.eq q key then Some value else None)) }
-{
-    map.entry(key)?.or_insert(value);
-    Ok(())
 }

@@ -5,6 +5,7 @@
 mod alternatives;
 mod constants;
 mod files;
+mod first_places;
 mod groups;
 mod index;
 mod indicators;

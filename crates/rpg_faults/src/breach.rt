@@ -44,7 +44,9 @@ pub(crate) fn breaks(
         FaultCode::F6 => {
             rpg_faults_limits::passes_limit(cards, &seen.sheets, &seen.limits, before, card, after)
         }
-        FaultCode::F7 => rpg_faults_limits::breaks_files(cards, &seen.sheets, before, card),
+        FaultCode::F7 => {
+            rpg_faults_limits::breaks_files(cards, &seen.sheets, before, card, after)
+        }
         FaultCode::F8 => rpg_faults_operands::bad_indicator(cards, card),
         FaultCode::F9 => {
             rpg_faults_flow::bad_columns(before, card, after)

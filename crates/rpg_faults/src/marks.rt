@@ -53,7 +53,7 @@ fn fault_range(
         FaultCode::F4 => rpg_faults_operands::wrong_columns(cards, card, after),
         FaultCode::F5 => Some(rpg_faults_operands::wrong_index(cards, card, after)),
         FaultCode::F6 => rpg_faults_limits::limit_columns(card),
-        FaultCode::F7 => rpg_faults_limits::file_columns(before, card),
+        FaultCode::F7 => rpg_faults_limits::file_columns(cards, before, card, after),
         FaultCode::F8 => rpg_faults_operands::indicator_columns(cards, card),
         FaultCode::F9 => missing_columns(cards, seen, card, after),
         FaultCode::F10 | FaultCode::F13 | FaultCode::F14 => Some(rpg_faults_flow::target_range()),

@@ -8,13 +8,13 @@ pub returns-in-Some : goal.returns-in-Some
 returns-in-Some c =
     let first = c.in-Some.first.now in
     sym (ap (λ b. cond b (Some first) None) (lt-ltb first.place c.args.place c.if-first-place.true))
-    ∙ found_before _ _ _ c.self.invariant.0.places c.args.name.now c.args.place _ (Some first) c.self.view_is c.in-Some.ensures.value
+    ∙ found_before _ _ _ c.self.invariant.places c.args.name.now c.args.place _ (Some first) c.self.view_is c.in-Some.ensures.value
 
 pub returns-in_default : goal.returns-in_default
 returns-in_default c =
     let first = c.in-Some.first.now in
     sym (ap (λ b. cond b (Some first) None) (le-ltb first.place c.args.place c.if-first-place.false))
-    ∙ found_before _ _ _ c.self.invariant.0.places c.args.name.now c.args.place _ (Some first) c.self.view_is c.in-Some.ensures.value
+    ∙ found_before _ _ _ c.self.invariant.places c.args.name.now c.args.place _ (Some first) c.self.view_is c.in-Some.ensures.value
 
 pub returns-in_default-2 : goal.returns-in_default-2
-returns-in_default-2 c = found_before _ _ _ c.self.invariant.0.places c.args.name.now c.args.place _ None c.self.view_is (sym (ap option_copied c.in_default.is) ∙ c.get.ensures.value)
+returns-in_default-2 c = found_before _ _ _ c.self.invariant.places c.args.name.now c.args.place _ None c.self.view_is (sym (ap option_copied c.in_default.is) ∙ c.get.ensures.value)
