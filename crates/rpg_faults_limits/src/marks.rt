@@ -10,9 +10,7 @@ use crate::files::ends_apart;
 use crate::limits::has_bad_entries;
 use crate::names::{is_bad_table, is_other};
 use crate::state::Limits;
-use rpg_cards::{
-    Definition, FileUse, IndexedCards, SpecCard, sized_form, use_of,
-};
+use rpg_cards::{Definition, FileUse, IndexedCards, SpecCard, sized_form, use_of};
 use rpg_sheet_specs::{
     CalculationSpec, ColumnRange, ExtensionSpec, FileSpec, InputSpec, Movement, OutputSpec, Spec,
 };
