@@ -6,7 +6,7 @@ ghost use Rattle.std.specs.List.{list_any};
 ghost use Rattle.rpg_cards.specs.Constants as constants;
 ghost use Rattle.rpg_cards.specs.Constants.{constants_on, is_same};
 ghost use Rattle.rpg_cards.specs.Files as files;
-ghost use Rattle.rpg_cards.specs.Index.{defined_first, file_at, first_at, place_before, placed_definition, IsIndexOf, NotesConstants, NotesNames};
+ghost use Rattle.rpg_cards.specs.Index.{defined_first, file_at, first_at, place_before, placed_definition, IsIndex, IsIndexOf, NotesConstants, NotesNames};
 ghost use Rattle.rpg_cards.specs.Levels as levels;
 ghost use Rattle.rpg_cards.specs.Names as names;
 ghost use Rattle.rpg_cards.specs.Names.{definitions_on, is_of};
@@ -59,6 +59,19 @@ impl CardIndex {
             name_place = note_names(&mut names, name_place, card)?;
             constant_place = note_constants(&mut constants, constant_place, card)?;
         }
+        CardIndex::with_files(alloc, cards, names, constants)
+    }
+
+    /// Adds the files of the cards to their names and constants.
+    fn with_files(
+        alloc: Global,
+        cards: &[SpecCard],
+        names: HashMap<Name, FirstDefinition>,
+        constants: HashMap<Constant, usize>,
+    ) -> Result<Self, AllocError>
+        requires { IsIndex names.entries constants.entries cards.now }
+        ensures { IfOk result (λ index. IsIndexOf index cards.now) }
+    {
         Ok(CardIndex {
             names,
             constants,
