@@ -3,7 +3,7 @@
 ghost use Rattle.std.specs.Prelude.{◌≡◌, ◌<◌, length, position, IfSome};
 ghost use Rattle.rpg_sheet_specs.specs.Values as values;
 
-use crate::names::name_of;
+use crate::names::{begins_with_letter, name_of};
 use crate::numbers::digits;
 use rpg_sheet_specs::{Entry, EntryIndex};
 use rpg_text::trimmed;
@@ -13,18 +13,20 @@ use rpg_text::trimmed;
 pub fn entry(text: &[u8]) -> Option<Entry>
     ensures { result ≡ values.entry text.now }
 {
-    let text = trimmed(text);
-    match comma(text) {
-        None => name_of(text).map(|name| Entry { name, index: None }),
-        Some(place) => {
-            let name = name_of(&text[..place])?;
-            let index = index(&text[place + 1..])?;
-            Some(Entry {
-                name,
-                index: Some(index),
-            })
-        }
+    if !begins_with_letter(text) {
+        return None;
     }
+    let text = trimmed(text);
+    if let Some(name) = name_of(text) {
+        return Some(Entry { name, index: None });
+    }
+    let place = comma(text)?;
+    let name = name_of(&text[..place])?;
+    let index = index(&text[place + 1..])?;
+    Some(Entry {
+        name,
+        index: Some(index),
+    })
 }
 
 /// Returns the place of the first comma.

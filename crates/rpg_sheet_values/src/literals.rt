@@ -1,6 +1,6 @@
 //! Literals: numbers and texts on the card, from the first column of their range.
 
-ghost use Rattle.std.specs.Prelude.{◌≡◌, ◌≢◌, ℕ, ◌+◌, ◌-◌, ◌^◌, ◌≤◌, ◌<◌, ◌↔◌, List, [], ◌∷◌, None, length, option_map, position, IfNone, IfSome, IsTrue};
+ghost use Rattle.std.specs.Prelude.{◌≡◌, ◌≢◌, ℕ, ◌+◌, ◌-◌, ◌^◌, ◌≤◌, ◌<◌, ◌↔◌, List, [], ◌∷◌, None, length, not, option_map, position, IfNone, IfSome, IsTrue};
 ghost use Rattle.std.specs.List.{list_all, before_first, after_first};
 ghost use Rattle.std.specs.Str.Parse.{starts_with_minus, without_leading_sign};
 ghost use Rattle.rpg_sheet_specs.specs.Values as values;
@@ -113,7 +113,7 @@ pub fn quoted<const N: usize>(text: &[u8]) -> Option<TextLiteral<N>>
     if !is_enclosed(text) {
         return None;
     }
-    let word = undoubled(&text[1..text.len() - 1])?;
+    let word = text_within(&text[1..text.len() - 1])?;
     Some(TextLiteral::new(word))
 }
 
@@ -122,6 +122,24 @@ fn is_enclosed(text: &[u8]) -> bool
     ensures { result ≡ values.is_enclosed text.now }
 {
     matches!(text, [b'\'', _, .., b'\''])
+}
+
+/// Reads the text between apostrophes, which seldom has another.
+fn text_within<const N: usize>(text: &[u8]) -> Option<Word<N>>
+    requires { length text.now ≤ N }
+    ensures { result ≡ values.undoubled text.now }
+{
+    if has_no_apostrophe(text) {
+        Some(Word::new(text))
+    } else {
+        undoubled(text)
+    }
+}
+
+fn has_no_apostrophe(text: &[u8]) -> bool
+    ensures { result ≡ list_all (λ c. not (values.is_apostrophe c)) text.now }
+{
+    text.iter().all(|c| *c != b'\'')
 }
 
 /// Reads a text whose apostrophes are doubled; None if one is single.

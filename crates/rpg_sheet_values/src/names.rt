@@ -1,7 +1,8 @@
 //! Names and letters.
 
-ghost use Rattle.std.specs.Prelude.{◌≡◌, ◌≤◌, length};
+ghost use Rattle.std.specs.Prelude.{◌≡◌, ◌≤◌, false, length, slice_get};
 ghost use Rattle.std.specs.List.{list_all};
+ghost use Rattle.std.specs.Option.{option_map_or};
 ghost use Rattle.rpg_sheet_specs.specs.Values as values;
 
 use rpg_sheet_specs::Word;
@@ -11,6 +12,16 @@ fn is_letter(c: u8) -> bool
     ensures { result ≡ values.is_letter c }
 {
     c.is_ascii_uppercase() || c == b'$' || c == b'#' || c == b'@'
+}
+
+/// Whether the first column has a letter.
+pub(crate) fn begins_with_letter(text: &[u8]) -> bool
+    ensures { result ≡ option_map_or values.is_letter (slice_get text.now 0) false }
+{
+    match text.split_first() {
+        None => false,
+        Some((first, _)) => is_letter(*first),
+    }
 }
 
 fn is_name_character(c: u8) -> bool
