@@ -1,6 +1,6 @@
 -- What is kept of the lines before says what is wrong with the next.
 use Rattle.std.proofs.Common.{◌≡◌, ℕ, ◌+◌, ◌<◌, ◌≤◌, Bool, true, false, List, [], ◌∷◌, ◌++◌, length, Option, Some, None, refl, sym, ap, ◌∙◌, arith, length-append, map}
-use Rattle.std.specs.Prelude.{Result, Ok, Err, IfOk, IfErr, OnOk, if◌then◌else◌, ◌||◌, ◌&&◌, not, nat_lt, nat_le, is_none}
+use Rattle.std.specs.Prelude.{Result, Ok, Err, IfErr, OnOk, if◌then◌else◌, ◌||◌, ◌&&◌, not, nat_lt, nat_le, is_none}
 use Rattle.std.specs.List.{list_any, list_all}
 use Rattle.std.specs.Option.{option_map_or, option_or}
 use Rattle.std.specs.Str.Lines.{lines}
@@ -117,8 +117,8 @@ pub code_past : (count latest : ℕ) (data_begun : Bool) (line columns : List �
 code_past count latest data_begun line columns code short is characters many by = code_fit count latest data_begun line columns short is characters ∙ rw (many_cards count many) (sym by)
 
 -- a card before card 2,001, as it is read
-pub code_if_read : {X E : Type 0} (count latest : ℕ) (data_begun : Bool) (line columns : List ℕ) (Means : X → Type 0) (read : Result X E) → length line ≤ 80 → columns ≡ card_of line
-    → list_all is_character columns ≡ true → count < 2000 → IfOk read (λ x. Means x × (sheet_code latest data_begun columns ≡ None)) → OnOk read (code_seen count latest data_begun line ≡ None)
+pub code_if_read : {X E : Type 0} (count latest : ℕ) (data_begun : Bool) (line columns : List ℕ) (Means : Type 0) (read : Result X E) → length line ≤ 80 → columns ≡ card_of line
+    → list_all is_character columns ≡ true → count < 2000 → OnOk read (Means × (sheet_code latest data_begun columns ≡ None)) → OnOk read (code_seen count latest data_begun line ≡ None)
 code_if_read count latest data_begun line columns Means (Ok x) short is characters few valid = code_valid count latest data_begun line columns short is characters valid.1 few
 code_if_read count latest data_begun line columns Means (Err e) short is characters few valid = tt
 

@@ -2,17 +2,15 @@
 use Rattle.std.specs.Prelude.{ℕ, List, Bool, Option, codes}
 use Rattle.rpg_sheet_specs.specs.declared.calculation.CalculationSpec.{CalculationSpec}
 use Rattle.rpg_sheet_specs.specs.declared.calculation.ControlLevel.{ControlLevel}
-use Rattle.rpg_sheet_specs.specs.declared.calculation.Operation.{Operation}
 use Rattle.rpg_sheet_specs.specs.declared.extension.ExtensionSpec.{ExtensionSpec}
 use Rattle.rpg_sheet_specs.specs.declared.file.FileRole.{FileRole}
 use Rattle.rpg_sheet_specs.specs.declared.file.FileSpec.{FileSpec}
 use Rattle.rpg_sheet_specs.specs.declared.indicator.ConditionSpec.{ConditionSpec}
 use Rattle.rpg_sheet_specs.specs.declared.indicator.Three.{Three}
 use Rattle.rpg_sheet_specs.specs.declared.input.InputFieldSpec.{InputFieldSpec}
-use Rattle.rpg_sheet_specs.specs.declared.literal.Factor.{Factor}
 use Rattle.rpg_sheet_specs.specs.Columns.{Columns, values, at, blank, ◌⊛◌, ◌⊘◌}
-use Rattle.rpg_sheet_specs.specs.Tables.{alternating, calculation_spec, control_field_level, device_named, extension_spec, file_overflow, file_spec, input_field, match_field_level, three_indicators}
-use Rattle.rpg_sheet_specs.specs.Values.{blank_or, digits, entry, marked, number}
+use Rattle.rpg_sheet_specs.specs.Tables.{alternating, calculation_spec, control_field_level, device_named, extension_spec, file_overflow, file_spec, input_field, match_field_level, operation, three_indicators}
+use Rattle.rpg_sheet_specs.specs.Values.{blank_or, digits, entry, factor, marked, number}
 
 -- an F card from its record length on
 abbrev pub rest_of_file : List ℕ → FileRole → Bool → Bool → Columns FileSpec
@@ -39,9 +37,12 @@ rest_of_field from to decimals name = values (input_field from to decimals name)
     ⊛ three_indicators 65 66 67 68 69 70
     ⊘ blank 71 74
 
--- a C card from its result field on
-abbrev pub rest_of_calculation : ControlLevel → Three (Option ConditionSpec) → Option Factor → Option Operation → Option Factor → Columns CalculationSpec
-rest_of_calculation level conditions factor_1 operation factor_2 = values (calculation_spec level conditions factor_1 operation factor_2)
+-- a C card from its first factor on
+abbrev pub rest_of_calculation : ControlLevel → Three (Option ConditionSpec) → Columns CalculationSpec
+rest_of_calculation level conditions = values (calculation_spec level conditions)
+    ⊛ at 18 27 (blank_or factor)
+    ⊛ at 28 32 (blank_or operation)
+    ⊛ at 33 42 (blank_or factor)
     ⊛ at 43 48 (blank_or entry)
     ⊛ at 49 51 (blank_or number)
     ⊛ at 52 52 (blank_or digits)

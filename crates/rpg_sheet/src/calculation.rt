@@ -8,40 +8,29 @@ ghost use Rattle.rpg_sheet_specs.specs.Tables as tables;
 
 use crate::card::Card;
 use crate::columns::{at, conditions, indicators};
-use rpg_sheet_specs::{
-    CalculationSpec, ColumnFault, ConditionSpec, ControlLevel, Factor, Operation, Three, ranges,
-};
+use rpg_sheet_specs::{CalculationSpec, ColumnFault, ConditionSpec, ControlLevel, Three, ranges};
 
+#[inline(never)]
 pub(crate) fn calculation_card(card: &Card) -> Result<CalculationSpec, ColumnFault>
     ensures { result ≡ tables.calculation_card.reading card.now }
 {
     let text = card.columns(ranges::CONTROL_LEVEL);
     let control_level = at(ranges::CONTROL_LEVEL, rpg_sheet_values::control_level(text))?;
     let conditions = conditions(card, ranges::CONDITIONS)?;
-    let factor_1 = card.optional_factor(ranges::FIRST_FACTOR)?;
-    let operation = card.optional_operation(ranges::OPERATION)?;
-    let factor_2 = card.optional_factor(ranges::SECOND_FACTOR)?;
-    calculation_with(
-        card,
-        control_level,
-        conditions,
-        factor_1,
-        operation,
-        factor_2,
-    )
+    calculation_with(card, control_level, conditions)
 }
 
-/// Reads the rest of a calculation with these factors.
+/// Reads the rest of a calculation with these conditions.
 fn calculation_with(
     card: &Card,
     control_level: ControlLevel,
     conditions: Three<Option<ConditionSpec>>,
-    factor_1: Option<Factor>,
-    operation: Option<Operation>,
-    factor_2: Option<Factor>,
 ) -> Result<CalculationSpec, ColumnFault>
-    ensures { result ≡ (rest_of_calculation control_level conditions factor_1 operation factor_2).reading card.now }
+    ensures { result ≡ (rest_of_calculation control_level conditions).reading card.now }
 {
+    let factor_1 = card.optional_factor(ranges::FIRST_FACTOR)?;
+    let operation = card.optional_operation(ranges::OPERATION)?;
+    let factor_2 = card.optional_factor(ranges::SECOND_FACTOR)?;
     let result_field = card.optional_entry(ranges::RESULT_NAME)?;
     let length = card.optional_number(ranges::RESULT_LENGTH)?;
     let decimals = card.optional_digit(ranges::RESULT_DECIMALS)?;

@@ -13,7 +13,6 @@ use rpg_sheet_specs::{
     CardColumns, ColumnFault, ConditionSpec, Entry, Factor, Indicator, Operation, RecordCode,
     TextLiteral, Three, Within, Word,
 };
-use rpg_text::is_blank;
 
 /// The value of columns, or the fault that it is bad.
 pub(crate) type Read<T> = Result<T, ColumnFault>;
@@ -50,7 +49,7 @@ impl Card {
         ensures { result ≡ (line_from columns.first 8 (values.blank_or (values.name 8))).reading self.now }
     {
         let text = self.columns(columns);
-        if is_blank(text) {
+        if has_only_blanks(text) {
             return Ok(None);
         }
         Ok(Some(at(columns, rpg_sheet_values::name(text))?))
@@ -61,7 +60,7 @@ impl Card {
         ensures { result ≡ (line_from columns.first 10 (values.blank_or values.factor)).reading self.now }
     {
         let text = self.columns(columns);
-        if is_blank(text) {
+        if has_only_blanks(text) {
             return Ok(None);
         }
         Ok(Some(at(columns, rpg_sheet_values::factor_of(text))?))
@@ -128,7 +127,7 @@ impl Card {
         ensures { result ≡ (line_from columns.first 6 (values.blank_or values.entry)).reading self.now }
     {
         let text = self.columns(columns);
-        if is_blank(text) {
+        if has_only_blanks(text) {
             return Ok(None);
         }
         Ok(Some(at(columns, rpg_sheet_values::entry(text))?))
@@ -175,7 +174,7 @@ impl Card {
         ensures { result ≡ (line_from columns.first 26 (values.blank_or values.quoted)).reading self.now }
     {
         let text = self.columns(columns);
-        if is_blank(text) {
+        if has_only_blanks(text) {
             return Ok(None);
         }
         Ok(Some(at(columns, rpg_sheet_values::quoted(text))?))

@@ -17,10 +17,12 @@ pub(crate) fn input_card(card: &Card) -> Result<InputSpec, ColumnFault>
     ensures { result ≡ tables.input_card.reading card.now }
 {
     if is_and_card(card) {
-        Ok(InputSpec::And(type_and_card(card)?))
-    } else {
-        type_or_field_card(card)
+        return Ok(InputSpec::And(type_and_card(card)?));
     }
+    if is_field_card(card) {
+        return Ok(InputSpec::Field(field_card(card)?));
+    }
+    Ok(InputSpec::Type(type_card(card)?))
 }
 
 impl Card {
@@ -31,16 +33,6 @@ impl Card {
         ensures least { IfErr result (λ fault. IsLeastColumn (tables.input_card.bad self.now) fault.column) }
     {
         input_card(self)
-    }
-}
-
-fn type_or_field_card(card: &Card) -> Result<InputSpec, ColumnFault>
-    ensures { result ≡ tables.type_or_field_card.reading card.now }
-{
-    if is_field_card(card) {
-        Ok(InputSpec::Field(field_card(card)?))
-    } else {
-        Ok(InputSpec::Type(type_card(card)?))
     }
 }
 
@@ -58,6 +50,7 @@ pub(crate) fn is_field_card(card: &Card) -> bool
     has_only_blanks(card.columns(ranges::TYPE_OR_LINE))
 }
 
+#[inline(never)]
 fn type_card(card: &Card) -> Result<RecordType, ColumnFault>
     ensures { result ≡ tables.type_card.reading card.now }
 {
@@ -76,6 +69,7 @@ fn type_card(card: &Card) -> Result<RecordType, ColumnFault>
     })
 }
 
+#[inline(never)]
 fn type_and_card(card: &Card) -> Result<Three<Option<RecordCode>>, ColumnFault>
     ensures { result ≡ tables.type_and_card.reading card.now }
 {
@@ -109,6 +103,7 @@ fn record_codes(card: &Card) -> Result<Three<Option<RecordCode>>, ColumnFault>
     })
 }
 
+#[inline(never)]
 fn field_card(card: &Card) -> Result<InputFieldSpec, ColumnFault>
     ensures { result ≡ tables.field_card.reading card.now }
 {

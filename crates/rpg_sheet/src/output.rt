@@ -12,14 +12,21 @@ use rpg_sheet_specs::{
     ColumnFault, ConditionSpec, Movement, OutputField, OutputRecord, OutputSpec, Three, ranges,
 };
 
+#[inline(never)]
 pub(crate) fn output_card(card: &Card) -> Result<OutputSpec, ColumnFault>
     ensures { result ≡ tables.output_card.reading card.now }
 {
     if is_and_card(card) {
-        Ok(OutputSpec::And(line_conditions(card)?))
-    } else {
-        line_or_card(card)
+        return Ok(OutputSpec::And(line_conditions(card)?));
     }
+    if is_or_card(card) {
+        card.blank(ranges::AFTER_TIME)?;
+        return Ok(OutputSpec::Or(line_conditions(card)?));
+    }
+    if is_field_card(card) {
+        return Ok(OutputSpec::Field(output_field_card(card)?));
+    }
+    Ok(OutputSpec::Record(record_card(card)?))
 }
 
 impl Card {
@@ -41,27 +48,7 @@ fn is_or_card(card: &Card) -> bool
         && card.columns(ranges::OR_WORD) == b"OR".as_slice()
 }
 
-fn line_or_card(card: &Card) -> Result<OutputSpec, ColumnFault>
-    ensures { result ≡ tables.line_or_card.reading card.now }
-{
-    if is_or_card(card) {
-        card.blank(ranges::AFTER_TIME)?;
-        Ok(OutputSpec::Or(line_conditions(card)?))
-    } else {
-        line_or_field_card(card)
-    }
-}
-
-fn line_or_field_card(card: &Card) -> Result<OutputSpec, ColumnFault>
-    ensures { result ≡ tables.line_or_field_card.reading card.now }
-{
-    if is_field_card(card) {
-        Ok(OutputSpec::Field(output_field_card(card)?))
-    } else {
-        Ok(OutputSpec::Record(record_card(card)?))
-    }
-}
-
+#[inline(never)]
 fn record_card(card: &Card) -> Result<OutputRecord, ColumnFault>
     ensures { result ≡ tables.record_card.reading card.now }
 {
@@ -96,6 +83,7 @@ fn movement(card: &Card) -> Result<Movement, ColumnFault>
 }
 
 /// Reads further conditions of a line.
+#[inline(never)]
 fn line_conditions(card: &Card) -> Result<Three<Option<ConditionSpec>>, ColumnFault>
     ensures { result ≡ tables.line_conditions.reading card.now }
 {
@@ -105,6 +93,7 @@ fn line_conditions(card: &Card) -> Result<Three<Option<ConditionSpec>>, ColumnFa
     Ok(conditions)
 }
 
+#[inline(never)]
 fn output_field_card(card: &Card) -> Result<OutputField, ColumnFault>
     ensures { result ≡ tables.output_field_card.reading card.now }
 {

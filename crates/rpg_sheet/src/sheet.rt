@@ -1,8 +1,10 @@
 //! The sheets of a source, and what can be wrong with its cards.
 
-ghost use Rattle.std.specs.Prelude.{◌≡◌, ◌≤◌, length, None, Some, vec_len, IfOk, IfErr};
+ghost use Rattle.std.specs.Prelude.{◌≡◌, ◌≤◌, length, None, Some, vec_len, OnOk, IfErr};
 ghost use Rattle.rpg_sheet_specs.specs.Cards as cards;
 ghost use Rattle.rpg_sheet_specs.specs.Specs.{data_spec_of, spec_of};
+ghost use Rattle.rpg_sheet_specs.specs.declared.spec.Spec.TheVariants as specs;
+ghost use Rattle.std.specs.Option.{option_map};
 ghost use Rattle.rpg_sheet.specs.Codes as codes;
 ghost use Rattle.rpg_sheet.specs.Seen.{IsCardFault, sheet_code};
 ghost use Rattle.rpg_sheet.specs.declared.sheet.SheetCode.TheVariants.{S5};
@@ -161,14 +163,20 @@ impl Cards {
     }
 }
 
-/// Reads a card after a sheet at place `latest`, or returns the fault of its form type or columns. `data_begun` says whether data has
-/// begun.
-pub(crate) fn read(card: &Card, latest: u8, data_begun: bool) -> Result<Option<Spec>, CardFault>
-    ensures ok { IfOk result (λ spec. (spec ≡ spec_of data_begun card.now) × (sheet_code latest data_begun card.now ≡ None)) }
+/// Reads a card after a sheet at place `latest` to `spec`, or returns the fault of its form type or columns. `data_begun` says whether data
+/// has begun.
+pub(crate) fn read(
+    spec: &mut Option<Spec>,
+    card: &Card,
+    latest: u8,
+    data_begun: bool,
+) -> Result<(), CardFault>
+    ensures ok { OnOk result ((spec.new ≡ spec_of data_begun card.now) × (sheet_code latest data_begun card.now ≡ None)) }
     ensures err { IfErr result (IsCardFault latest data_begun card.now) }
 {
     if !card.is_sheet(data_begun) {
-        return Ok(data(card, data_begun).map(Spec::Data));
+        read_data(spec, card, data_begun);
+        return Ok(());
     }
     let Some(sheet) = card.form_type() else {
         return Err(SheetCode::S3.into());
@@ -176,7 +184,15 @@ pub(crate) fn read(card: &Card, latest: u8, data_begun: bool) -> Result<Option<S
     if sheet_place(sheet) < latest {
         return Err(SheetCode::S4.into());
     }
-    Ok(Some(card.read(sheet)?))
+    Ok(card.read_to(spec, sheet)?)
+}
+
+/// Reads a card that belongs to no sheet to `spec`.
+#[inline(never)]
+fn read_data(spec: &mut Option<Spec>, card: &Card, data_begun: bool)
+    ensures { spec.new ≡ option_map specs.Data (data_spec_of data_begun card.now) }
+{
+    *spec = data(card, data_begun).map(Spec::Data);
 }
 
 /// Returns the meaning of a card that belongs to no sheet.
@@ -184,12 +200,13 @@ fn data(card: &Card, data_begun: bool) -> Option<DataSpec>
     ensures { result ≡ data_spec_of data_begun card.now }
 {
     if card.ends_source() {
-        None
-    } else if card.begins_data() {
-        Some(DataSpec::Begin)
-    } else if data_begun {
-        Some(DataSpec::Card(DataCard::new(card.as_slice())))
-    } else {
-        None
+        return None;
     }
+    if card.begins_data() {
+        return Some(DataSpec::Begin);
+    }
+    if !data_begun {
+        return None;
+    }
+    Some(DataSpec::Card(DataCard::new(card.as_slice())))
 }

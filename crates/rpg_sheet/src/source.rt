@@ -35,6 +35,7 @@ pub(crate) const NO_LINES: Earlier = Earlier {
 
 impl Earlier {
     /// Returns the state after a line with these columns.
+    #[inline(always)]
     pub(crate) fn with(self, columns: &[u8; 80]) -> Self
         requires { self.count ≤ 2000 }
         ensures { (lines : List (List ℕ)) → (line : List ℕ) → columns.now ≡ card_of line → HasSeen self lines → HasSeen result (lines ++ line ∷ []) }
@@ -72,8 +73,9 @@ pub fn cards(alloc: Global, text: &[u8]) -> Result<Cards, SheetFault>
     while !rest.is_empty() {
         let (line, more) = first_line(rest);
         let columns = columns_of(line);
-        match checked(earlier, line, &columns) {
-            Ok(spec) => specs.push(spec)?,
+        let mut spec = None;
+        match checked(&mut spec, earlier, line, &columns) {
+            Ok(()) => specs.push(spec)?,
             Err(CardFault { code, columns }) => {
                 return Err(SheetFault::At {
                     card: earlier.count + 1,
@@ -96,14 +98,15 @@ fn room_for(text: &[u8]) -> usize {
     (text.len() / 40).min(usize::from(CARDS))
 }
 
-/// Reads a line with these columns after earlier ones, or returns its fault.
+/// Reads a line with these columns after earlier ones to `spec`, or returns its fault.
 pub(crate) fn checked(
+    spec: &mut Option<Spec>,
     earlier: Earlier,
     line: &[u8],
     columns: &[u8; 80],
-) -> Result<Option<Spec>, CardFault>
+) -> Result<(), CardFault>
     requires { columns.now ≡ card_of line.now }
-    ensures spec { IfOk result (λ spec. spec ≡ spec_of earlier.data_begun columns.now) }
+    ensures spec { OnOk result (spec.new ≡ spec_of earlier.data_begun columns.now) }
     ensures valid { OnOk result (code_seen earlier.count earlier.latest earlier.data_begun line.now ≡ None) }
     ensures code { IfErr result (λ fault. code_seen earlier.count earlier.latest earlier.data_begun line.now ≡ Some fault.code) }
     ensures columns { IfErr result (λ fault. fault.columns ≡ sheets.sheet_fault_columns earlier.data_begun columns.now fault.code) }
@@ -118,7 +121,7 @@ pub(crate) fn checked(
     if earlier.count >= CARDS {
         return Err(past_last(&card, earlier.latest, earlier.data_begun));
     }
-    read(&card, earlier.latest, earlier.data_begun)
+    read(spec, &card, earlier.latest, earlier.data_begun)
 }
 
 /// Returns the fault of card 2,001: that it is one too many, unless it can't be read.
@@ -126,8 +129,9 @@ fn past_last(card: &Card, latest: u8, data_begun: bool) -> CardFault
     ensures code { Some result.code ≡ option_or (sheet_code latest data_begun card.now) (Some S6) }
     ensures columns { result.columns ≡ sheets.sheet_fault_columns data_begun card.now result.code }
 {
-    match read(card, latest, data_begun) {
-        Ok(_) => SheetCode::S6.into(),
+    let mut spec = None;
+    match read(&mut spec, card, latest, data_begun) {
+        Ok(()) => SheetCode::S6.into(),
         Err(fault) => fault,
     }
 }

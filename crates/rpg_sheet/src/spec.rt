@@ -1,13 +1,39 @@
 //! The meaning of a card.
 
-ghost use Rattle.std.specs.Prelude.{◌≡◌, [], OnOk, IfErr};
+ghost use Rattle.std.specs.Prelude.{◌≡◌, [], false, Err, OnOk, IfErr};
+ghost use Rattle.std.specs.Result.{result_ok};
+ghost use Rattle.rpg_sheet.specs.Readable.{has_bad_column};
 ghost use Rattle.rpg_sheet_specs.specs.Columns.{IsLeastColumn};
 ghost use Rattle.rpg_sheet_specs.specs.Specs.{card_on};
 
 use crate::card::Card;
+use crate::input::input_card;
+use crate::output::output_card;
 use rpg_sheet_specs::{ColumnFault, FormType, Spec};
 
 impl Card {
+    /// Reads a card of this sheet to `spec`, or returns the leftmost of its bad values. A meaning takes 240 bytes, so moving it is costly.
+    #[tactic(auto, unfolding(rpg_sheet_specs::specs::Columns::values, rpg_sheet_specs::specs::Columns::also))]
+    pub(crate) fn read_to(
+        &self,
+        spec: &mut Option<Spec>,
+        sheet: FormType,
+    ) -> Result<(), ColumnFault>
+        ensures value { OnOk result (spec.new ≡ result_ok ((card_on sheet).reading self.now)) }
+        ensures valid { OnOk result (has_bad_column sheet self.now ≡ false) }
+        ensures fault { IfErr result (λ fault. (card_on sheet).reading self.now ≡ Err fault) }
+    {
+        match sheet {
+            FormType::Header => *spec = Some(Spec::Header(self.h()?)),
+            FormType::File => *spec = Some(Spec::File(self.f()?)),
+            FormType::Extension => *spec = Some(Spec::Extension(self.e()?)),
+            FormType::Input => *spec = Some(Spec::Input(input_card(self)?)),
+            FormType::Calculation => *spec = Some(Spec::Calculation(self.c()?)),
+            FormType::Output => *spec = Some(Spec::Output(output_card(self)?)),
+        }
+        Ok(())
+    }
+
     /// Reads a card of this sheet, or returns the leftmost of its bad values.
     #[tactic(auto, unfolding(rpg_sheet_specs::specs::Columns::values, rpg_sheet_specs::specs::Columns::also))]
     pub fn read(&self, sheet: FormType) -> Result<Spec, ColumnFault>

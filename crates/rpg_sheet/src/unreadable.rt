@@ -60,8 +60,9 @@ fn put_if_unreadable(
     requires columns { columns.now ≡ card_of line.now }
     ensures { OnOk result ((lines : List (List ℕ)) → HasSeen earlier lines → found.new.items ≡ found.old.items ++ every.unreadable_at lines line.now) }
 {
-    match checked(earlier, line, columns) {
-        Ok(_) => Ok(()),
+    let mut spec = None;
+    match checked(&mut spec, earlier, line, columns) {
+        Ok(()) => Ok(()),
         Err(CardFault { code, columns }) => {
             found.push(UnreadableCard {
                 card: earlier.count + 1,

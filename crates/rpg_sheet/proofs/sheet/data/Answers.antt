@@ -8,8 +8,8 @@ returns-then-ends_source c = rw (sym c.ends_source.ensures ∙ c.if-ends_source.
 pub returns-then-begins_data : goal.returns-then-begins_data
 returns-then-begins_data c = rw (sym c.ends_source.ensures ∙ c.if-ends_source.false, sym c.begins_data.ensures ∙ c.if-begins_data.true) refl
 
-pub returns-then-data_begun : goal.returns-then-data_begun
-returns-then-data_begun c = rw (sym c.ends_source.ensures ∙ c.if-ends_source.false, sym c.begins_data.ensures ∙ c.if-begins_data.false, c.if-data_begun.true) (ap (λ (columns : List ℕ). Some (data_spec.Card columns)) (c.new.ensures ∙ c.as_slice.ensures.value))
+pub returns : goal.returns
+returns c = rw (sym c.ends_source.ensures ∙ c.if-ends_source.false, sym c.begins_data.ensures ∙ c.if-begins_data.false, c.if-not-data_begun.false) (ap (λ (columns : List ℕ). Some (data_spec.Card columns)) (c.new.ensures ∙ c.as_slice.ensures.value))
 
-pub returns-else-data_begun : goal.returns-else-data_begun
-returns-else-data_begun c = rw (sym c.ends_source.ensures ∙ c.if-ends_source.false, sym c.begins_data.ensures ∙ c.if-begins_data.false, c.if-data_begun.false) refl
+pub returns-then-not-data_begun : goal.returns-then-not-data_begun
+returns-then-not-data_begun c = rw (sym c.ends_source.ensures ∙ c.if-ends_source.false, sym c.begins_data.ensures ∙ c.if-begins_data.false, c.if-not-data_begun.true) refl

@@ -20,7 +20,7 @@ returns-then-earlier-ge-CARDS-clause-code c =
 pub returns-clause-valid : goal.returns-clause-valid
 returns-clause-valid c =
     let e = c.args.earlier in
-    code_if_read e.count e.latest e.data_begun c.args.line.now c.args.columns.now (λ spec. spec ≡ spec_of e.data_begun c.args.columns.now) c.read.result (omega arith) c.requires
+    code_if_read e.count e.latest e.data_begun c.args.line.now c.args.columns.now (c.read.new.spec ≡ spec_of e.data_begun c.args.columns.now) c.read.result (omega arith) c.requires
     (sym c.has_only_characters.ensures ∙ c.if-not-has_only_characters.false) (omega arith) (rw c.of-card.ensures at c.read.ensures.ok)
 
 pub returns-clause-code : goal.returns-clause-code
