@@ -56,6 +56,7 @@ impl Card {
     }
 
     /// Reads blanks as None, else a factor.
+    #[inline(always)]
     pub(crate) fn optional_factor(&self, columns: CardColumns<10>) -> Read<Option<Factor>>
         ensures { result ≡ (line_from columns.first 10 (values.blank_or values.factor)).reading self.now }
     {
@@ -182,6 +183,7 @@ impl Card {
 }
 
 /// Reads three conditions.
+#[inline(always)]
 pub(crate) fn conditions(card: &Card, columns: CardColumns<9>) -> Read<Three<Option<ConditionSpec>>>
     ensures { result ≡ (conditions_from columns.first).reading card.now }
 {

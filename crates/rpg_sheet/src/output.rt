@@ -12,7 +12,7 @@ use rpg_sheet_specs::{
     ColumnFault, ConditionSpec, Movement, OutputField, OutputRecord, OutputSpec, Three, ranges,
 };
 
-#[inline(never)]
+#[inline(always)]
 pub(crate) fn output_card(card: &Card) -> Result<OutputSpec, ColumnFault>
     ensures { result ≡ tables.output_card.reading card.now }
 {

@@ -6,6 +6,7 @@ ghost use Rattle.rpg_sheet.specs.Readable.{has_bad_column};
 ghost use Rattle.rpg_sheet_specs.specs.Columns.{IsLeastColumn};
 ghost use Rattle.rpg_sheet_specs.specs.Specs.{card_on};
 
+use crate::calculation::calculation_card;
 use crate::card::Card;
 use crate::input::input_card;
 use crate::output::output_card;
@@ -28,7 +29,7 @@ impl Card {
             FormType::File => *spec = Some(Spec::File(self.f()?)),
             FormType::Extension => *spec = Some(Spec::Extension(self.e()?)),
             FormType::Input => *spec = Some(Spec::Input(input_card(self)?)),
-            FormType::Calculation => *spec = Some(Spec::Calculation(self.c()?)),
+            FormType::Calculation => *spec = Some(Spec::Calculation(calculation_card(self)?)),
             FormType::Output => *spec = Some(Spec::Output(output_card(self)?)),
         }
         Ok(())
