@@ -63,11 +63,24 @@ fn put_body(out: &mut Vec<u8>, rows: &Rows) -> Result<(), AllocError>
     Ok(())
 }
 
+/// Returns for how many bytes to make room: those of fields and instructions, with 8 for the values of a field. More bytes are made room
+/// for as they are written.
+fn room_for(rows: &Rows) -> usize {
+    let instructions = rows.detail.len().saturating_add(rows.total.len());
+    let fields = rows.fields.len().saturating_mul(16);
+    instructions
+        .saturating_mul(20)
+        .saturating_add(fields)
+        .saturating_add(1_024)
+}
+
 /// Encodes a program. Each program has exactly one encoding.
 pub fn encode(alloc: Global, program: &Program) -> Result<Vec<u8>, AllocError>
     ensures { IfOk result (λ v. v.items ≡ spelling program.now) }
 {
-    let mut out = Vec::from_slice(alloc, b"RPGOBJ")?;
-    put_body(&mut out, program.rows())?;
+    let rows = program.rows();
+    let mut out = Vec::with_capacity(alloc, room_for(rows))?;
+    out.extend_from_slice(b"RPGOBJ")?;
+    put_body(&mut out, rows)?;
     Ok(out)
 }

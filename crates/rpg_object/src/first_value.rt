@@ -1,7 +1,7 @@
 //! First values of fields, each in as many bytes as its field has digits or characters.
 
-ghost use Rattle.std.specs.Prelude.{◌≡◌, ◌++◌, ◌≤◌, All, length, map, OnOk};
-ghost use Rattle.rpg_decimal_words.specs.Zoned.{number_in};
+ghost use Rattle.std.specs.Prelude.{◌≡◌, ◌++◌, ◌<◌, ◌≤◌, ◌^◌, unsigned_abs, All, length, map, OnOk};
+ghost use Rattle.rpg_decimal_words.specs.Zoned.{number_in, zoned_text};
 ghost use Rattle.rpg_program.specs.declared.form.Kind.TheVariants as kinds;
 ghost use Rattle.rpg_program.specs.Values.{held};
 ghost use Rattle.rpg_object_format.specs.Reading.{ReadsAs};
@@ -19,6 +19,9 @@ use std::alloc::{AllocError, Global};
 
 /// The most digits that a number has.
 const DIGITS: usize = 15;
+
+/// The bytes that are copied for a number: a power of 2, which takes one instruction.
+const PLACES: usize = 16;
 
 /// Returns the number that a text encodes. The text has no blank for a zero, no letter for a plus sign, and no minus sign on a zero.
 fn number_written(text: &[u8]) -> Result<i64, Code>
@@ -121,6 +124,20 @@ pub fn values_at<'a>(
     Ok((values, rest))
 }
 
+/// Writes a number in `length` bytes. Copying a fixed number of bytes and taking back the rest is cheaper than copying `length` bytes.
+fn put_number(out: &mut Vec<u8>, number: i64, length: u16) -> Result<(), AllocError>
+    requires low { 1 ≤ length }
+    requires high { length ≤ 15 }
+    requires fits { unsigned_abs number < 10 ^ length }
+    ensures { OnOk result (out.new.items ≡ out.old.items ++ zoned_text length number) }
+{
+    let mut places = [0u8; PLACES];
+    write_zoned(number, &mut places[..length as usize]);
+    out.extend_from_slice(&places)?;
+    out.truncate(out.len() - (PLACES - length as usize));
+    Ok(())
+}
+
 /// Writes a value in as many bytes as its field is long.
 fn put_value(out: &mut Vec<u8>, value: &Value, form: FieldForm) -> Result<(), AllocError>
     requires length { HasLength form }
@@ -128,13 +145,7 @@ fn put_value(out: &mut Vec<u8>, value: &Value, form: FieldForm) -> Result<(), Al
     ensures { OnOk result (out.new.items ≡ out.old.items ++ value_text form.length (held value.now)) }
 {
     match value {
-        Value::Number(number) => {
-            let mut places = [0u8; DIGITS];
-            let written = &mut places[..form.length as usize];
-            write_zoned(*number, written);
-            out.extend_from_slice(written)?;
-            Ok(())
-        }
+        Value::Number(number) => put_number(out, *number, form.length),
         Value::Text(text) => {
             out.extend_from_slice(text)?;
             Ok(())
