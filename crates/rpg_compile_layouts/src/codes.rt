@@ -20,7 +20,8 @@ pub(crate) fn codes_of(
     ensures codes { IfOk result (λ v. v.items ≡ types.codes_of first ++ codes_after following.now) }
     ensures kept { IfOk result (λ v. All IsCodeRow v.items) }
 {
-    let mut codes = Vec::new(alloc);
+    let room = if first.first.is_some() { 6 } else { 0 };
+    let mut codes = Vec::with_capacity(alloc, room)?;
     push_codes(&mut codes, first)?;
     push_further(&mut codes, following)?;
     Ok(codes)

@@ -1,6 +1,7 @@
 //! The constants of a program.
 
 ghost use Rattle.std.specs.Prelude.{◌≡◌, ◌++◌, All, map, IfOk, OnOk};
+ghost use Rattle.std.specs.Option.{option_and_then, option_to_list};
 ghost use Rattle.rpg_cards.specs.Insertions.{insert_all};
 ghost use Rattle.rpg_cards.specs.Constants as known;
 ghost use Rattle.rpg_program.specs.Values.{held};
@@ -8,10 +9,10 @@ ghost use Rattle.rpg_compile_layouts.specs.Held.{held_values};
 ghost use Rattle.rpg_compile_program.specs.Data.{constant_value, constant_values};
 
 use indexmap::IndexSet;
-use rpg_cards::{Constant, SpecCard};
+use rpg_cards::{Constant, SpecCard, factor_constant};
 use rpg_program::form::FieldForm;
 use rpg_program::value::Value;
-use rpg_sheet_specs::Few;
+use rpg_sheet_specs::{Factor, OutputField, OutputSpec, Spec};
 use std::alloc::{AllocError, Global};
 
 /// Returns the constants of cards without duplicates, in the order of their first uses.
@@ -21,19 +22,46 @@ pub(crate) fn constants_of(
 ) -> Result<IndexSet<Constant>, AllocError>
     ensures { IfOk result (λ set. set.keys ≡ known.constants cards.now) }
 {
-    let mut constants = IndexSet::with_capacity(alloc, cards.len())?;
+    // A C card has up to two.
+    let mut constants = IndexSet::with_capacity(alloc, cards.len().saturating_mul(2))?;
     for card in cards {
-        add(&mut constants, &card.constants())?;
+        add_on(&mut constants, card)?;
     }
     Ok(constants)
 }
 
-/// Adds each constant that isn't in the set yet.
-fn add(constants: &mut IndexSet<Constant>, items: &Few<Constant>) -> Result<(), AllocError>
-    ensures { OnOk result (constants.new.keys ≡ insert_all known.is_same constants.old.keys items.now) }
+/// Adds each constant of a card that isn't in the set yet.
+fn add_on(constants: &mut IndexSet<Constant>, card: &SpecCard) -> Result<(), AllocError>
+    ensures { OnOk result (constants.new.keys ≡ insert_all known.is_same constants.old.keys (known.constants_on card.now.spec)) }
 {
-    for constant in items.as_slice() {
-        constants.insert(constant.copied())?;
+    match &card.spec {
+        Spec::Calculation(calculation) => {
+            add_factor(constants, &calculation.factor_1)?;
+            add_factor(constants, &calculation.factor_2)
+        }
+        Spec::Output(OutputSpec::Field(field)) => add_text(constants, field),
+        _ => Ok(()),
+    }
+}
+
+fn add_factor(constants: &mut IndexSet<Constant>, factor: &Option<Factor>) -> Result<(), AllocError>
+    ensures { OnOk result (constants.new.keys ≡ insert_all known.is_same constants.old.keys (option_to_list (option_and_then known.factor_constant factor.now))) }
+{
+    let Some(factor) = factor else {
+        return Ok(());
+    };
+    if let Some(constant) = factor_constant(factor) {
+        constants.insert(constant)?;
+    }
+    Ok(())
+}
+
+/// A text beside an edit code is its fill, not a constant.
+fn add_text(constants: &mut IndexSet<Constant>, field: &OutputField) -> Result<(), AllocError>
+    ensures { OnOk result (constants.new.keys ≡ insert_all known.is_same constants.old.keys (option_to_list (known.text_constant field.now))) }
+{
+    if let (None, Some(text)) = (&field.code, &field.text) {
+        constants.insert(Constant::of_text(text))?;
     }
     Ok(())
 }
@@ -49,6 +77,8 @@ pub(crate) fn add_constants(
     ensures values { OnOk result (held_values values.new.items ≡ held_values values.old.items ++ map constant_values constants.now) }
     ensures kept { OnOk result (All known.IsConstant constants.now) }
 {
+    forms.reserve(constants.len())?;
+    values.reserve(constants.len())?;
     let mut rest = constants;
     while let Some((constant, following)) = rest.split_first() {
         constant.keeps_limits();
@@ -71,10 +101,6 @@ fn value_of(alloc: Global, constant: &Constant) -> Result<Value, AllocError>
 {
     match constant {
         Constant::Number(number) => Ok(Value::Number(number.value())),
-        Constant::Text(text) => {
-            let mut characters = Vec::new(alloc);
-            characters.extend_from_slice(text.as_slice())?;
-            Ok(Value::Text(characters))
-        }
+        Constant::Text(text) => Ok(Value::Text(Vec::from_slice(alloc, text.as_slice())?)),
     }
 }

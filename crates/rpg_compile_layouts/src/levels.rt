@@ -12,56 +12,48 @@ use rpg_program::input::ControlField;
 use rpg_sheet_specs::{InputFieldSpec, InputSpec, Within};
 use std::alloc::{AllocError, Global};
 
-/// Returns a control field for each field card with a control level, up to the next type card.
+/// Returns a control field for each field card with a control level, and a match field for each with a match level, up to the next type
+/// card. `count` is how many field cards there are.
 #[tactic(auto, using(crate::proofs::Followers::next_input))]
 pub(crate) fn levels_of(
     alloc: Global,
+    count: usize,
     following: &[SpecCard],
-) -> Result<Vec<ControlField>, AllocError>
-    ensures levels { IfOk result (λ v. v.items ≡ levels_after control_level following.now) }
-    ensures kept { IfOk result (λ v. All IsControlRow v.items) }
+) -> Result<(Vec<ControlField>, Vec<ControlField>), AllocError>
+    ensures levels { IfOk result (λ r. r.0.items ≡ levels_after control_level following.now) }
+    ensures matches { IfOk result (λ r. r.1.items ≡ levels_after match_level following.now) }
+    ensures levels_kept { IfOk result (λ r. All IsControlRow r.0.items) }
+    ensures matches_kept { IfOk result (λ r. All IsControlRow r.1.items) }
 {
     let mut levels = Vec::new(alloc);
-    for card in following {
-        let field = match card.input() {
-            Some(InputSpec::Type(_)) => return Ok(levels),
-            Some(InputSpec::Field(field)) => field,
-            Some(InputSpec::And(_)) | None => continue,
-        };
-        push_level(&mut levels, level_of(field))?;
-    }
-    Ok(levels)
-}
-
-/// Returns a match field for each field card with a match level, up to the next type card.
-#[tactic(auto, using(crate::proofs::Followers::next_input))]
-pub(crate) fn matches_of(
-    alloc: Global,
-    following: &[SpecCard],
-) -> Result<Vec<ControlField>, AllocError>
-    ensures matches { IfOk result (λ v. v.items ≡ levels_after match_level following.now) }
-    ensures kept { IfOk result (λ v. All IsControlRow v.items) }
-{
     let mut matches = Vec::new(alloc);
     for card in following {
         let field = match card.input() {
-            Some(InputSpec::Type(_)) => return Ok(matches),
+            Some(InputSpec::Type(_)) => return Ok((levels, matches)),
             Some(InputSpec::Field(field)) => field,
             Some(InputSpec::And(_)) | None => continue,
         };
-        push_level(&mut matches, match_of(field))?;
+        push_level(&mut levels, count, level_of(field))?;
+        push_level(&mut matches, count, match_of(field))?;
     }
-    Ok(matches)
+    Ok((levels, matches))
 }
 
-/// Appends the level of a field, if it has one.
-fn push_level(levels: &mut Vec<ControlField>, level: Option<ControlField>) -> Result<(), AllocError>
+/// Appends the level of a field, if it has one. Before the first it makes room for `count`.
+fn push_level(
+    levels: &mut Vec<ControlField>,
+    count: usize,
+    level: Option<ControlField>,
+) -> Result<(), AllocError>
     requires rows { All IsControlRow levels.old.items }
     requires row { IfSome level IsControlRow }
     ensures levels { OnOk result (levels.new.items ≡ levels.old.items ++ option_to_list level) }
     ensures kept { OnOk result (All IsControlRow levels.new.items) }
 {
     if let Some(level) = level {
+        if levels.is_empty() {
+            levels.reserve(count)?;
+        }
         levels.push(level)?;
     }
     Ok(())

@@ -11,6 +11,7 @@ use crate::loaded::Loaded;
 use rpg_cards::{Definition, SpecCard};
 use rpg_program::form::FieldForm;
 use rpg_program::value::Value;
+use rpg_sheet_specs::Spec;
 use rpg_symbols::{DefineFault, Name, Symbols};
 use std::alloc::{AllocError, Global};
 
@@ -36,6 +37,8 @@ impl NameTable {
         ensures values { IfOk result (λ t. held_values t.values.items ≡ map (field_values loaded.now) (fields.defined_fields cards.now)) }
     {
         let mut table = NameTable::given(alloc, loaded)?;
+        table.forms.reserve(cards.len())?;
+        table.values.reserve(cards.len())?;
         for card in cards {
             table.define_on(alloc, loaded, card)?;
         }
@@ -77,7 +80,10 @@ impl NameTable {
         ensures forms { OnOk result (self.new.forms.items ≡ fields.name_forms self.new.symbols) }
         ensures values { OnOk result (held_values self.new.values.items ≡ map (field_values loaded.now) self.new.symbols) }
     {
-        self.define_all(alloc, loaded, card.definitions().as_slice())
+        match &card.spec {
+            Spec::Output(_) | Spec::Data(_) => Ok(()),
+            _ => self.define_all(alloc, loaded, card.definitions().as_slice()),
+        }
     }
 
     fn define_all(

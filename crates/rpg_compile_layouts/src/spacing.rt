@@ -7,8 +7,7 @@ ghost use Rattle.rpg_compile_program.specs.Lines as lines;
 use rpg_program::line::{File, Spacing};
 use rpg_sheet_specs::{Movement, Within};
 
-/// Returns the movements that are given; without any, the printer spaces one
-/// after.
+/// Returns the movements that are given; without any, the printer spaces one after.
 pub(crate) fn spacing_of(file: File, movement: &Movement) -> Spacing
     ensures value { result ≡ lines.spacing_of file movement.now }
     ensures kept { IsSpacingRow result }

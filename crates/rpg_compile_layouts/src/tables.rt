@@ -7,7 +7,6 @@ ghost use Rattle.rpg_decimal_words.specs.Zoned.{number_in};
 ghost use Rattle.rpg_faults_data.specs.Data.{entry_on};
 ghost use Rattle.rpg_compile_program.specs.Data.{entry_value};
 
-use crate::values::text_value;
 use rpg_cards::SpecCard;
 use rpg_decimal::read_zoned;
 use rpg_program::value::Value;
@@ -36,7 +35,7 @@ impl TableData<'_> {
     pub(crate) fn values(self, alloc: Global) -> Result<Vec<Value>, AllocError>
         ensures { IfOk result (λ v. map held v.items ≡ values_on self.entry) }
     {
-        let mut values = Vec::new(alloc);
+        let mut values = Vec::with_capacity(alloc, self.entries as usize)?;
         let mut left = self.entries;
         for card in self.deck {
             match card.data() {
@@ -95,7 +94,7 @@ fn value_of(alloc: Global, table: &TableSpec, text: &[u8]) -> Result<Value, Allo
     ensures { IfOk result (λ v. held v ≡ entry_value table.now text.now) }
 {
     match table.decimals {
-        None => text_value(alloc, text),
+        None => Ok(Value::Text(Vec::from_slice(alloc, text)?)),
         Some(_) => Ok(Value::Number(number_or_zero(text))),
     }
 }

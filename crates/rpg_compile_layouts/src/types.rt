@@ -12,7 +12,7 @@ ghost use Rattle.rpg_compile_program.specs.Types as types;
 use crate::FieldTable;
 use crate::codes::codes_of;
 use crate::files::{own_or, read_from};
-use crate::levels::{levels_of, matches_of};
+use crate::levels::levels_of;
 use rpg_cards::{SpecCard, number_of, shows_of};
 use rpg_program::input::{InputField, InputFile};
 use rpg_program::operation::Shows;
@@ -58,27 +58,45 @@ fn type_of(
     ensures row { IfOk result (λ t. type_row t ≡ renamed_type (key_number table.now) (type_following file record_type.now following.now)) }
     ensures kept { IfOk result (λ t. IsTypeRow (type_row t)) }
 {
+    let codes = codes_of(alloc, record_type.codes, following)?;
+    let count = count_fields(following);
+    let (levels, matches) = levels_of(alloc, count, following)?;
+    let inputs = inputs_of(alloc, count, table, following)?;
     Ok(RecordType {
         file,
         indicator: number_of(record_type.indicator),
-        codes: codes_of(alloc, record_type.codes, following)?,
-        levels: levels_of(alloc, following)?,
-        inputs: inputs_of(alloc, table, following)?,
-        matches: matches_of(alloc, following)?,
+        codes,
+        levels,
+        inputs,
+        matches,
     })
+}
+
+/// Counts the field cards up to the next type card.
+fn count_fields(following: &[SpecCard]) -> usize {
+    let mut count = 0usize;
+    for card in following {
+        match card.input() {
+            Some(InputSpec::Type(_)) => return count,
+            Some(InputSpec::Field(_)) => count = count.saturating_add(1),
+            Some(InputSpec::And(_)) | None => {}
+        }
+    }
+    count
 }
 
 /// Returns an input field for each field card up to the next type card.
 #[tactic(auto, using(crate::proofs::Followers::next_input))]
 fn inputs_of(
     alloc: Global,
+    count: usize,
     table: &FieldTable,
     following: &[SpecCard],
 ) -> Result<Vec<InputField<u16>>, AllocError>
     ensures inputs { IfOk result (λ v. v.items ≡ map (renamed_input (key_number table.now)) (inputs_after following.now)) }
     ensures kept { IfOk result (λ v. All IsInputRow v.items) }
 {
-    let mut inputs = Vec::new(alloc);
+    let mut inputs = Vec::with_capacity(alloc, count)?;
     for card in following {
         let field = match card.input() {
             Some(InputSpec::Type(_)) => return Ok(inputs),

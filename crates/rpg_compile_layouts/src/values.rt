@@ -1,7 +1,7 @@
-//! Zeros and blanks, and copies of text.
+//! Zeros and blanks.
 
 ghost use Rattle.std.specs.Prelude.{◌≡◌, map, replicate, IfOk};
-ghost use Rattle.rpg_program.specs.Values.{Text, held};
+ghost use Rattle.rpg_program.specs.Values.{held};
 ghost use Rattle.rpg_compile_program.specs.Data.{first_of_kind};
 
 use rpg_program::form::{FieldForm, Kind};
@@ -26,12 +26,4 @@ fn empty_value(alloc: Global, form: &FieldForm) -> Result<Value, AllocError>
         Kind::Number => Ok(Value::Number(0)),
         Kind::Text => Ok(Value::Text(vec![in alloc; b' '; form.length as usize]?)),
     }
-}
-
-pub(crate) fn text_value(alloc: Global, text: &[u8]) -> Result<Value, AllocError>
-    ensures { IfOk result (λ v. held v ≡ Text text.now) }
-{
-    let mut characters = Vec::new(alloc);
-    characters.extend_from_slice(text)?;
-    Ok(Value::Text(characters))
 }
