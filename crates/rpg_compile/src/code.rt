@@ -1,6 +1,6 @@
 //! Instructions, as they are generated.
 
-ghost use Rattle.std.specs.Prelude.{◌≡◌, ◌++◌, ◌∷◌, [], All, OnOk};
+ghost use Rattle.std.specs.Prelude.{◌≡◌, ◌++◌, ◌∷◌, [], All, IfOk, OnOk};
 ghost use Rattle.rpg_compile.specs.Marked.{IsMarked};
 
 use rpg_program::operation::Instruction;
@@ -26,12 +26,13 @@ impl Model for Code {
 }
 
 impl Code {
-    pub fn new(alloc: Global) -> Self
-        ensures { result ≡ [] }
+    /// Returns no instructions, with room for so many.
+    pub(crate) fn with_capacity(alloc: Global, count: usize) -> Result<Self, AllocError>
+        ensures { IfOk result (λ code. code ≡ []) }
     {
-        Code {
-            instructions: Vec::new(alloc),
-        }
+        Ok(Code {
+            instructions: Vec::with_capacity(alloc, count)?,
+        })
     }
 
     pub(crate) fn push(&mut self, instruction: Instruction<u16>) -> Result<(), AllocError>

@@ -77,6 +77,21 @@ fn size_of(first: &CalculationSpec, cards: &[SpecCard]) -> u16
     waits + count_tests(cards) + 1
 }
 
+/// Returns the cards from the first C card on; none if there is no C card.
+pub(crate) fn from_calculations(cards: &[SpecCard]) -> &[SpecCard]
+    ensures same { calculations.calculations cards.now ≡ calculations.calculations result.now }
+    ensures within { length result.now ≤ length cards.now }
+{
+    let mut rest = cards;
+    while let Some((card, following)) = rest.split_first() {
+        if card.calculation().is_some() {
+            return rest;
+        }
+        rest = following;
+    }
+    rest
+}
+
 /// Returns the next group, and the cards after it.
 pub(crate) fn next_group(cards: &[SpecCard]) -> Option<(CardGroup<'_>, &[SpecCard])>
     ensures { MatchOption result (calculations.calculations cards.now ≡ [])

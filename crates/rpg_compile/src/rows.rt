@@ -15,6 +15,7 @@ ghost use Rattle.rpg_compile_program.specs.Table.{key_number};
 
 use crate::calls::levels_of;
 use crate::code::Code;
+use crate::group::from_calculations;
 use crate::instruction::Section;
 use crate::numbers::NameNumbers;
 use crate::part::{Part, next_subroutine};
@@ -35,6 +36,24 @@ pub struct SectionRows {
 
 /// Compiles the calculations of cards, whose names are numbered by the table.
 pub fn section_rows(
+    alloc: Global,
+    table: &FieldTable,
+    cards: &[SpecCard],
+) -> Result<SectionRows, AllocError>
+    requires few { length cards.now ≤ 2000 }
+    requires plain { ArePlain (sections_of (calculations cards.now)) }
+    ensures detail { IfOk result (λ r. r.detail.items ≡ whole.detail_code (key_number table.now) (sections_of (calculations cards.now))) }
+    ensures total { IfOk result (λ r. r.total.items ≡ whole.total_code (key_number table.now) (sections_of (calculations cards.now))) }
+    ensures subroutines { IfOk result (λ r. map subroutine_row r.subroutines.items ≡ rows_of_subroutines table.now cards.now) }
+    ensures detail_kept { IfOk result (λ r. All IsMarked r.detail.items) }
+    ensures total_kept { IfOk result (λ r. All IsMarked r.total.items) }
+    ensures subroutines_kept { IfOk result (λ r. All IsMarkedRow (map subroutine_row r.subroutines.items)) }
+{
+    rows_from(alloc, table, from_calculations(cards))
+}
+
+/// Compiles the calculations of cards that begin with them. The cards are read seven times.
+fn rows_from(
     alloc: Global,
     table: &FieldTable,
     cards: &[SpecCard],
@@ -99,7 +118,7 @@ impl Writer<'_> {
             subroutines: &self.subroutines,
             own,
         };
-        let mut code = Code::new(self.alloc);
+        let mut code = Code::with_capacity(self.alloc, (end - first) as usize)?;
         push_section(&mut code, &section, part, cards, first)?;
         Ok((code.into_vec(), end))
     }

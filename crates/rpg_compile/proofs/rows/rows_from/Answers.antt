@@ -6,7 +6,7 @@ use Rattle.rpg_compile_program.specs.Levels.{subroutine_level}
 use Rattle.rpg_compile_program.specs.Whole.{called_number}
 use Rattle.rpg_compile.proofs.Sizes.{all_sizes}
 use Rattle.rpg_compile.proofs.Written.{same_levels}
-use Rattle.rpg_compile.proofs.rows.section_rows.Goals as goal
+use Rattle.rpg_compile.proofs.rows.rows_from.Goals as goal
 use Rattle.rpg_compile.specs.Called.{level_at}
 use Rattle.rpg_compile.specs.Numbers.{number_by}
 use Rattle.rpg_compile_program.specs.Table.{key_number}

@@ -13,5 +13,5 @@ returns-clause-code c =
     let called = number_by c.args.self.now.subroutines in
     let places : number_by c.note_section.new.self ≡ (λ l. label_place l gs c.args.first) = λ i l. c.in_ok-end.ensures.places l i in
     c.into_vec.ensures.value ∙ c.in_ok-push_section.ensures
-    ∙ ap (λ is. is ++ code_from number (number_by c.note_section.new.self) called c.args.own c.args.first gs) c.new-code.ensures
+    ∙ ap (λ is. is ++ code_from number (number_by c.note_section.new.self) called c.args.own c.args.first gs) c.in_ok-code.ensures
     ∙ ap (λ place_of. code_from number place_of called c.args.own c.args.first gs) places
