@@ -10,6 +10,7 @@ use rpg_cli_values::WarningCode;
 use rpg_cli_words::FileArgument;
 use rpg_engine::{ObjectFault, Report, RunFault};
 use rpg_faults::SourceFault;
+use std::alloc::AllocError;
 
 /// How a command ended. What makes a command fail is passed on as it is.
 #[derive(Clone, Copy)]
@@ -135,6 +136,14 @@ impl From<ObjectFault> for Answer {
 
     fn from(fault: ObjectFault) -> Answer {
         Answer::Object(fault)
+    }
+}
+
+impl From<AllocError> for Answer {
+    ghost from_gives = { λ error answer. answer ≡ answers.NoMemory };
+
+    fn from(_error: AllocError) -> Answer {
+        Answer::NoMemory
     }
 }
 

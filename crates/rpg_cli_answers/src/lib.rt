@@ -19,7 +19,7 @@ pub use formed::{Form, FormedListener};
 pub use json::{JsonLine, json_line};
 pub use objects::source_object;
 pub use reading::{source_bytes, system_path};
-pub use rpg_cli_files::Listener;
+pub use rpg_cli_files::{Listener, report_message};
 pub use sharing::{NamedFile, refuse_same_file};
 pub use stop::{CommandStop, Reasons};
 pub use text::line;

@@ -3,6 +3,7 @@
 use crate::answer::Answer;
 use rpg_cli_files::Reason;
 use rpg_cli_words::SameFile;
+use std::alloc::AllocError;
 
 /// What ends a command before its work is done.
 #[derive(Clone, Copy)]
@@ -37,6 +38,12 @@ impl Reasons {
 impl From<Answer> for CommandStop {
     fn from(answer: Answer) -> CommandStop {
         CommandStop::Answer(answer)
+    }
+}
+
+impl From<AllocError> for CommandStop {
+    fn from(error: AllocError) -> CommandStop {
+        CommandStop::Answer(Answer::from(error))
     }
 }
 

@@ -1,6 +1,7 @@
 //! Where a command prints its text, apart from the line of its answer.
 
 use crate::reason::Reason;
+use std::alloc::AllocError;
 
 /// Writes diagnostics to standard error and texts to standard output.
 pub trait Listener {
@@ -9,4 +10,11 @@ pub trait Listener {
 
     /// Prints a text before the line. The error is why it couldn't be written completely.
     fn show(&mut self, text: &str) -> Result<(), Reason>;
+}
+
+/// Prints a diagnostic, unless memory ran out for it: then only the line of the answer is printed.
+pub fn report_message<L: Listener>(listener: &mut L, message: Result<String, AllocError>) {
+    if let Ok(message) = message {
+        listener.report(message.as_str());
+    }
 }
