@@ -1,8 +1,8 @@
 //! The date of a job: today's or a given one, which may not be a real date.
 
-use rpg_cli_answers::{Answer, CommandStop, Listener};
+use rpg_cli_answers::{Answer, CommandStop, Listener, report_message};
 use rpg_cli_text::TextWriter;
-use rpg_cli_values::{DateOrder, may_be_date};
+use rpg_cli_values::{DateOrder, are_no_date};
 use rpg_cli_words::{DateArgument, RunArguments};
 use rpg_engine::RunFault;
 use rpg_today::today;
@@ -50,34 +50,6 @@ impl JobDate {
     }
 }
 
-/// Returns the value of a digit.
-fn digit(byte: u8) -> Option<u8> {
-    byte.is_ascii_digit().then_some(byte.saturating_sub(b'0'))
-}
-
-/// Returns the two-digit number at a place.
-fn two_digits(text: &[u8], place: usize) -> Option<u8> {
-    let tens = digit(*text.get(place)?)?;
-    let ones = digit(*text.get(place.saturating_add(1))?)?;
-    Some(tens.saturating_mul(10).saturating_add(ones))
-}
-
-/// Whether six digits aren't a date in any order.
-fn is_impossible(text: &str) -> bool {
-    let text = text.as_bytes();
-    if text.len() != 6 {
-        return false;
-    }
-    match (
-        two_digits(text, 0),
-        two_digits(text, 2),
-        two_digits(text, 4),
-    ) {
-        (Some(first), Some(second), Some(third)) => !may_be_date(first, second, third),
-        _ => false,
-    }
-}
-
 fn odd_date_message(alloc: Global, text: &str) -> Result<String, AllocError> {
     let mut out = TextWriter::new(alloc);
     out.fill(
@@ -90,10 +62,8 @@ fn odd_date_message(alloc: Global, text: &str) -> Result<String, AllocError> {
 /// Warns about six digits that aren't a calendar date.
 pub(crate) fn warn_of_date<L: Listener>(alloc: Global, arguments: &RunArguments, listener: &mut L) {
     if let Some(DateArgument::Written(text)) = arguments.date {
-        if is_impossible(text) {
-            if let Ok(message) = odd_date_message(alloc, text) {
-                listener.report(message.as_str());
-            }
+        if are_no_date(text) {
+            report_message(listener, odd_date_message(alloc, text));
         }
     }
 }

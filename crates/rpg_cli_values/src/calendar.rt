@@ -30,8 +30,41 @@ fn is_day(month: u8, day: u8) -> bool
 }
 
 /// Whether three numbers are a date: in the order of month and day, of day and month, or of year, month and day.
-pub fn may_be_date(first: u8, second: u8, third: u8) -> bool
+fn may_be_date(first: u8, second: u8, third: u8) -> bool
     ensures { result ≡ words.may_be_date first second third }
 {
     is_day(first, second) || is_day(second, first) || is_day(second, third)
+}
+
+/// Whether a text is six digits.
+pub fn are_six_digits(text: &str) -> bool {
+    text.len() == 6 && text.bytes().all(|b| b.is_ascii_digit())
+}
+
+/// Returns the value of a digit.
+fn digit(byte: u8) -> Option<u8> {
+    byte.is_ascii_digit().then_some(byte.saturating_sub(b'0'))
+}
+
+/// Returns the two-digit number at a place.
+fn two_digits(text: &[u8], place: usize) -> Option<u8> {
+    let tens = digit(*text.get(place)?)?;
+    let ones = digit(*text.get(place.saturating_add(1))?)?;
+    Some(tens.saturating_mul(10).saturating_add(ones))
+}
+
+/// Whether a text is six digits that aren't a date in any order.
+pub fn are_no_date(text: &str) -> bool {
+    let text = text.as_bytes();
+    if text.len() != 6 {
+        return false;
+    }
+    match (
+        two_digits(text, 0),
+        two_digits(text, 2),
+        two_digits(text, 4),
+    ) {
+        (Some(first), Some(second), Some(third)) => !may_be_date(first, second, third),
+        _ => false,
+    }
 }

@@ -57,4 +57,15 @@ impl WarningCodes {
             WarningCode::W7 => WarningCodes { w7: true, ..self },
         }
     }
+
+    /// Returns the set of the codes that these texts name.
+    pub fn named(texts: &[&str]) -> WarningCodes {
+        let mut codes = WarningCodes::NONE;
+        for text in texts {
+            if let Some(code) = WarningCode::named(text) {
+                codes = codes.with(code);
+            }
+        }
+        codes
+    }
 }
