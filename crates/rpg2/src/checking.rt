@@ -82,10 +82,8 @@ fn show_source<L: Listener>(
     if let Answer::File { fault, .. } = answer {
         report_source_fault(alloc, path, *fault, listener);
     }
-    match shown_answer(alloc, format, path, answer) {
-        Ok(text) => Ok(listener.show(text.as_str())?),
-        Err(_) => Err(Answer::NoMemory.into()),
-    }
+    let text = shown_answer(alloc, format, path, answer)?;
+    Ok(listener.show(text.as_str())?)
 }
 
 /// The results of the sources so far.
@@ -132,8 +130,8 @@ fn check_each<R: Files + Input + AllocGlobal, L: Listener>(
     for path in &arguments.sources {
         let answer = answer_of(rt, path, arguments.warnings, listener);
         let status = line(&answer).status;
-        if status != 0 || !arguments.is_quiet {
-            show_source(rt.alloc(), arguments.format, path, &answer, listener)?;
+        if status != 0 || !arguments.answer.is_quiet {
+            show_source(rt.alloc(), arguments.answer.format, path, &answer, listener)?;
         }
         tally = tally.with(status);
     }
@@ -142,20 +140,12 @@ fn check_each<R: Files + Input + AllocGlobal, L: Listener>(
 
 /// Returns standard input, if two of the sources name it.
 fn shared_input(sources: &[&str]) -> Option<SameFile> {
-    let mut is_taken = false;
-    for source in sources {
-        if is_standard(source) {
-            if is_taken {
-                return Some(SameFile {
-                    earlier: FileArgument::Source,
-                    written: FileArgument::Source,
-                    shared: Shared::StandardInput,
-                });
-            }
-            is_taken = true;
-        }
-    }
-    None
+    let standard = sources.iter().filter(|path| is_standard(path)).count();
+    (standard > 1).then_some(SameFile {
+        earlier: FileArgument::Source,
+        written: FileArgument::Source,
+        shared: Shared::StandardInput,
+    })
 }
 
 /// Checks one source, or several.

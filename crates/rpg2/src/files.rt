@@ -100,10 +100,7 @@ fn shown_text<R: Files + AllocGlobal, L: Listener>(
 ) -> Result<String, Answer> {
     let program = decode_object(rt.alloc(), object)?;
     let source = own_source(rt, arguments.source, object, listener)?;
-    match program_shown(rt.alloc(), arguments, program, source.as_ref()) {
-        Ok(text) => Ok(text),
-        Err(_) => Err(Answer::NoMemory),
-    }
+    Ok(program_shown(rt.alloc(), arguments, program, source.as_ref())?)
 }
 
 /// Like `shown_text`, but reports what is wrong with the bytes.
@@ -128,7 +125,7 @@ fn report_as_object<R: Files + AllocGlobal, L: Listener>(
     bound: Result<u64, Answer>,
     listener: &mut L,
 ) {
-    if let (Format::Json, Err(Answer::Object(fault))) = (arguments.format, bound) {
+    if let (Format::Json, Err(Answer::Object(fault))) = (arguments.answer.format, bound) {
         report_object(rt.alloc(), arguments.object, object, fault, listener);
     }
 }

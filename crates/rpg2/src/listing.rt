@@ -15,7 +15,7 @@ fn report_as_objects<L: Listener>(
     source: &[u8],
     listener: &mut L,
 ) {
-    if arguments.format == Format::Json {
+    if arguments.answer.format == Format::Json {
         report_faults(alloc, arguments.source, source, u16::MAX, listener);
     }
 }
@@ -31,7 +31,7 @@ fn show_listing<L: Listener>(
     if let Some(SourceFault::NoMemory) = fault {
         return Err(Answer::NoMemory.into());
     }
-    let text = listing(alloc, arguments.source, source)?;
+    let text = source_listing(alloc, arguments.source, source)?;
     report_as_objects(alloc, arguments, source, listener);
     listener.show(text.as_str())?;
     match fault {
@@ -49,11 +49,4 @@ pub(crate) fn list_file<R: Files + Input + AllocGlobal, L: Listener>(
 ) -> Result<(), CommandStop> {
     let source = named(FileArgument::Source, source_bytes(rt, arguments.source))?;
     show_listing(rt.alloc(), arguments, &source, listener)
-}
-
-fn listing(alloc: Global, path: &str, source: &[u8]) -> Result<String, Answer> {
-    match source_listing(alloc, path, source) {
-        Ok(text) => Ok(text),
-        Err(_) => Err(Answer::NoMemory),
-    }
 }

@@ -30,7 +30,7 @@ fn uncoded_severity(request: &Request) -> Severity {
 
 /// Returns the form that the arguments ask for.
 pub(crate) fn form_of(request: &Request) -> Form {
-    match request.format() {
+    match request.answer().format {
         Format::Text => Form::Text,
         Format::Json => Form::Objects {
             uncoded: uncoded_severity(request),
@@ -56,7 +56,7 @@ pub(crate) fn files_of<'a>(
     request: &'a Request<'a>,
 ) -> Result<Vec<&'a str>, AllocError> {
     let mut files = Vec::new(alloc);
-    if request.format() == Format::Text {
+    if request.answer().format == Format::Text {
         return Ok(files);
     }
     for argument in &ARGUMENTS {

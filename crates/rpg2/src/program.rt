@@ -18,7 +18,8 @@ use rpg_cli_conversions::{fit_file, records_file};
 use rpg_cli_files::{Reason, send_line};
 use rpg_cli_run::{go_files, run_files};
 use rpg_cli_words::{
-    Format, GoArguments, Refusal, Request, RunArguments, refuse_bytes, refuse_same_file, request_of,
+    AnswerArguments, Format, GoArguments, Refusal, Request, RunArguments, refuse_bytes,
+    refuse_same_file, request_of,
 };
 use std::alloc::Global;
 use std::io::{Error, ErrorKind, Write};
@@ -194,8 +195,8 @@ fn conclude<W: Write, L: Listener>(
     ensures { PrintsALine (W.contents out.old) (W.contents out.new) result }
 {
     let outlet = Outlet::of(request);
-    let format = request.format();
-    let status = say_if_wanted(out, outlet, request.is_quiet(), format, answer, listener);
+    let AnswerArguments { is_quiet, format } = request.answer();
+    let status = say_if_wanted(out, outlet, is_quiet, format, answer, listener);
     report_answer(alloc, request, answer, reasons, listener);
     status
 }

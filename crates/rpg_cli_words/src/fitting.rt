@@ -1,9 +1,10 @@
 //! The arguments of the command that rewrites an old deck.
 
-use crate::format::{Format, format_of};
+use crate::format::{AnswerArguments, answer_arguments};
 use crate::given::needed;
 use crate::request::{FileArgument, Request, may_be_standard};
 use clap::ArgMatches;
+use rpg_cli_values::are_switches;
 use std::alloc::{AllocError, Global};
 
 /// A table file: its name on F and E cards, and the path of its records.
@@ -24,7 +25,7 @@ pub struct FitArguments<'a> {
     pub switches: Option<&'a str>,
     /// Whether each form keeps at most the lines of its L card.
     pub keeps_forms: bool,
-    pub format: Format,
+    pub answer: AnswerArguments,
 }
 
 impl<'a> FitArguments<'a> {
@@ -52,12 +53,6 @@ impl<'a> FitArguments<'a> {
 fn table_of(text: &str) -> Option<TableArgument<'_>> {
     let (name, path) = text.split_once('=')?;
     (!name.is_empty()).then_some(TableArgument { name, path })
-}
-
-/// Whether a text has a digit 0 or 1 for each switch.
-fn are_switches(text: &str) -> bool {
-    let mut digits = text.as_bytes().iter();
-    text.len() == 8 && digits.all(|digit| matches!(*digit, b'0' | b'1'))
 }
 
 /// Whether one of these arguments names a table file by this name.
@@ -124,6 +119,6 @@ pub(crate) fn fit_arguments<'a>(
         tables,
         switches: given.get_str("switches"),
         keeps_forms: given.get_flag("forms"),
-        format: format_of(given),
+        answer: answer_arguments(given),
     }))
 }

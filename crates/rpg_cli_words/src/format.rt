@@ -1,4 +1,4 @@
-//! The argument for the form of diagnostics and of the answer.
+//! The arguments about the answer and the diagnostics.
 
 use clap::ArgMatches;
 
@@ -11,9 +11,30 @@ pub enum Format {
     Json,
 }
 
-pub(crate) fn format_of(given: &ArgMatches<'_>) -> Format {
-    match given.get_str("format") {
-        Some("json") => Format::Json,
-        _ => Format::Text,
+/// How a command reports its end.
+#[derive(Clone, Copy)]
+pub struct AnswerArguments {
+    /// Whether no line is printed if the exit status is 0.
+    pub is_quiet: bool,
+    /// The form of diagnostics and of the answer.
+    pub format: Format,
+}
+
+impl AnswerArguments {
+    /// Those of a command that has no such arguments.
+    pub(crate) const PLAIN: AnswerArguments = AnswerArguments {
+        is_quiet: false,
+        format: Format::Text,
+    };
+}
+
+/// Returns these arguments. A command without the flag is never quiet.
+pub(crate) fn answer_arguments(given: &ArgMatches<'_>) -> AnswerArguments {
+    AnswerArguments {
+        is_quiet: given.get_flag("quiet"),
+        format: match given.get_str("format") {
+            Some("json") => Format::Json,
+            _ => Format::Text,
+        },
     }
 }

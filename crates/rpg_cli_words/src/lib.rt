@@ -14,7 +14,7 @@ mod request;
 mod warned;
 
 pub use fitting::{FitArguments, TableArgument};
-pub use format::Format;
+pub use format::{AnswerArguments, Format};
 pub use going::GoArguments;
 pub use listing::{CardsArguments, CardsWanted, ListArguments};
 pub use looks::LookArguments;

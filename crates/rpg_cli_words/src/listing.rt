@@ -1,6 +1,6 @@
 //! The arguments of the commands that print a source.
 
-use crate::format::{Format, format_of};
+use crate::format::{AnswerArguments, answer_arguments};
 use crate::given::needed;
 use crate::request::Request;
 use clap::ArgMatches;
@@ -9,7 +9,7 @@ use clap::ArgMatches;
 #[derive(Clone, Copy)]
 pub struct ListArguments<'a> {
     pub source: &'a str,
-    pub format: Format,
+    pub answer: AnswerArguments,
 }
 
 /// The arguments of `cards`.
@@ -32,7 +32,7 @@ pub enum CardsWanted {
 pub(crate) fn list_arguments<'a>(given: &ArgMatches<'a>) -> Request<'a> {
     Request::List(ListArguments {
         source: needed(given, "SRC"),
-        format: format_of(given),
+        answer: answer_arguments(given),
     })
 }
 

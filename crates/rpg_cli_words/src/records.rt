@@ -1,9 +1,10 @@
 //! The arguments of the command that converts records.
 
-use crate::format::{Format, format_of};
+use crate::format::{AnswerArguments, answer_arguments};
 use crate::given::needed;
 use crate::request::{FileArgument, Request, may_be_standard};
 use clap::ArgMatches;
+use rpg_cli_values::byte_of;
 
 /// The direction of the conversion.
 #[derive(Clone, Copy, PartialEq, Eq)]
@@ -45,7 +46,7 @@ pub struct RecordsArguments<'a> {
     pub dropped: Option<u8>,
     /// Where the deck goes that reads the lines, if the arguments name it.
     pub new_deck: Option<&'a str>,
-    pub format: Format,
+    pub answer: AnswerArguments,
 }
 
 impl<'a> RecordsArguments<'a> {
@@ -86,20 +87,6 @@ fn deck<'a>(given: &ArgMatches<'a>) -> (&'a str, RecordsWay) {
     }
 }
 
-/// Returns the byte that two hexadecimal digits stand for.
-fn byte_of(text: &str) -> Option<u8> {
-    match text.as_bytes() {
-        [b'+', _] => None,
-        [_, _] => u8::from_str_radix(text, 16).ok(),
-        _ => None,
-    }
-}
-
-/// Returns the first byte of records that are left out.
-fn dropped(given: &ArgMatches) -> Option<u8> {
-    byte_of(given.get_str("drop")?)
-}
-
 /// Returns what is wrong with a value that clap accepts.
 pub(crate) fn fault_of(given: &ArgMatches) -> Option<&'static str> {
     if may_be_standard(given.get_str("OUT")) {
@@ -130,8 +117,8 @@ pub(crate) fn records_arguments<'a>(given: &ArgMatches<'a>) -> Request<'a> {
         framing: framing(given),
         is_ascii: given.get_flag("ascii"),
         low_blank: given.get_flag("low-blank"),
-        dropped: dropped(given),
+        dropped: given.get_str("drop").and_then(byte_of),
         new_deck: given.get_str("deck"),
-        format: format_of(given),
+        answer: answer_arguments(given),
     })
 }

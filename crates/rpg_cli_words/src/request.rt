@@ -5,7 +5,7 @@ ghost use Rattle.std.specs.Prelude.{◌<◌, ◌≤◌, IfOk};
 use crate::building::{fault, matches_of};
 use crate::commands::cut;
 use crate::fitting::{self, FitArguments, fit_arguments};
-use crate::format::{Format, format_of};
+use crate::format::{AnswerArguments, answer_arguments};
 use crate::given::{is_whole, needed};
 use crate::going::{GoArguments, go_arguments};
 use crate::listing::{CardsArguments, ListArguments, cards_arguments, list_arguments};
@@ -53,9 +53,7 @@ pub struct CompileArguments<'a> {
     /// How many backward branches and calls a cycle may take.
     pub allowance: u16,
     pub warnings: WarningArguments,
-    /// Whether no line is printed if the exit status is 0.
-    pub is_quiet: bool,
-    pub format: Format,
+    pub answer: AnswerArguments,
     ghost positive: { 0 < allowance },
 }
 
@@ -64,18 +62,14 @@ pub struct CompileArguments<'a> {
 pub struct CheckArguments<'a> {
     pub sources: Vec<&'a str>,
     pub warnings: WarningArguments,
-    /// Whether no line is printed if the exit status is 0.
-    pub is_quiet: bool,
-    pub format: Format,
+    pub answer: AnswerArguments,
 }
 
 /// The arguments of `verify`.
 #[derive(Clone, Copy)]
 pub struct VerifyArguments<'a> {
     pub object: &'a str,
-    /// Whether no line is printed if the exit status is 0.
-    pub is_quiet: bool,
-    pub format: Format,
+    pub answer: AnswerArguments,
 }
 
 /// The arguments of `show`.
@@ -86,7 +80,7 @@ pub struct ShowArguments<'a> {
     pub source: Option<&'a str>,
     /// Whether all rows are printed: if the arguments ask for them, or name the source, whose names appear in them.
     pub rows: bool,
-    pub format: Format,
+    pub answer: AnswerArguments,
 }
 
 /// The arguments of `run`.
@@ -113,9 +107,7 @@ pub struct RunArguments<'a> {
     /// The source of the object program, if the arguments name it.
     pub source: Option<&'a str>,
     pub looks: LookArguments,
-    /// Whether no line is printed if the exit status is 0.
-    pub is_quiet: bool,
-    pub format: Format,
+    pub answer: AnswerArguments,
 }
 
 /// The arguments of `explain`.
@@ -224,80 +216,39 @@ impl Shared {
     }
 }
 
-/// Returns the file of an argument, for a command that has a source, an object program, or both.
-fn program_path<'a>(
-    argument: FileArgument,
-    source: Option<&'a str>,
-    object: Option<&'a str>,
-) -> Option<&'a str> {
-    match argument {
-        FileArgument::Source => source,
-        FileArgument::Object => object,
-        _ => None,
-    }
-}
-
-impl<'a> ShowArguments<'a> {
-    fn path(&self, argument: FileArgument) -> Option<&'a str> {
-        match argument {
-            FileArgument::Object => Some(self.object),
-            FileArgument::OwnSource => self.source,
-            _ => None,
-        }
-    }
-}
-
 impl<'a> Request<'a> {
     /// Returns the file that an argument names, if it is there.
     pub fn path(&self, argument: FileArgument) -> Option<&'a str> {
-        match self {
-            Request::Compile(arguments) => program_path(
-                argument,
-                Some(arguments.source),
-                Some(arguments.object),
-            ),
-            Request::Check(arguments) => program_path(
-                argument,
-                arguments.sources.first().copied(),
-                None,
-            ),
-            Request::List(arguments) => program_path(argument, Some(arguments.source), None),
-            Request::Cards(arguments) => program_path(argument, Some(arguments.source), None),
-            Request::Verify(arguments) => program_path(argument, None, Some(arguments.object)),
-            Request::Show(arguments) => arguments.path(argument),
-            Request::Run(arguments) => arguments.path(argument),
-            Request::Go(arguments) => arguments.run.path(argument),
-            Request::Records(arguments) => arguments.path(argument),
-            Request::Fit(arguments) => arguments.path(argument),
-            Request::Explain(_) => None,
+        match (self, argument) {
+            (Request::Compile(arguments), FileArgument::Source) => Some(arguments.source),
+            (Request::Compile(arguments), FileArgument::Object) => Some(arguments.object),
+            (Request::Check(arguments), FileArgument::Source) => arguments.sources.first().copied(),
+            (Request::List(arguments), FileArgument::Source) => Some(arguments.source),
+            (Request::Cards(arguments), FileArgument::Source) => Some(arguments.source),
+            (Request::Verify(arguments), FileArgument::Object) => Some(arguments.object),
+            (Request::Show(arguments), FileArgument::Object) => Some(arguments.object),
+            (Request::Show(arguments), FileArgument::OwnSource) => arguments.source,
+            (Request::Run(arguments), _) => arguments.path(argument),
+            (Request::Go(arguments), _) => arguments.run.path(argument),
+            (Request::Records(arguments), _) => arguments.path(argument),
+            (Request::Fit(arguments), _) => arguments.path(argument),
+            _ => None,
         }
     }
 
-    /// Whether no line is printed if the exit status is 0.
-    pub fn is_quiet(&self) -> bool {
+    /// Returns how the command reports its end.
+    pub fn answer(&self) -> AnswerArguments {
         match self {
-            Request::Compile(arguments) => arguments.is_quiet,
-            Request::Check(arguments) => arguments.is_quiet,
-            Request::Verify(arguments) => arguments.is_quiet,
-            Request::Run(arguments) => arguments.is_quiet,
-            Request::Go(arguments) => arguments.run.is_quiet,
-            _ => false,
-        }
-    }
-
-    /// Returns the form of diagnostics and of the answer.
-    pub fn format(&self) -> Format {
-        match self {
-            Request::Compile(arguments) => arguments.format,
-            Request::Check(arguments) => arguments.format,
-            Request::List(arguments) => arguments.format,
-            Request::Records(arguments) => arguments.format,
-            Request::Fit(arguments) => arguments.format,
-            Request::Verify(arguments) => arguments.format,
-            Request::Show(arguments) => arguments.format,
-            Request::Run(arguments) => arguments.format,
-            Request::Go(arguments) => arguments.run.format,
-            Request::Cards(_) | Request::Explain(_) => Format::Text,
+            Request::Compile(arguments) => arguments.answer,
+            Request::Check(arguments) => arguments.answer,
+            Request::List(arguments) => arguments.answer,
+            Request::Records(arguments) => arguments.answer,
+            Request::Fit(arguments) => arguments.answer,
+            Request::Verify(arguments) => arguments.answer,
+            Request::Show(arguments) => arguments.answer,
+            Request::Run(arguments) => arguments.answer,
+            Request::Go(arguments) => arguments.run.answer,
+            Request::Cards(_) | Request::Explain(_) => AnswerArguments::PLAIN,
         }
     }
 
@@ -355,37 +306,32 @@ impl<'a> RunArguments<'a> {
         is_standard(self.print) || may_be_standard(self.disk)
     }
 
-    /// Returns the first two arguments that name standard input.
-    fn shared_input(&self) -> Option<SameFile> {
-        let (earlier, written) = match (
-            is_standard(self.object),
-            is_standard(self.input),
-            may_be_standard(self.secondary),
-        ) {
-            (true, true, _) => (self.program, FileArgument::Input),
-            (true, false, true) => (self.program, FileArgument::Secondary),
-            (false, true, true) => (FileArgument::Input, FileArgument::Secondary),
-            _ => return None,
-        };
-        Some(SameFile {
-            earlier,
-            written,
-            shared: Shared::StandardInput,
-        })
-    }
-
-    /// Returns two arguments that name standard output.
-    fn shared_output(&self) -> Option<SameFile> {
-        (is_standard(self.print) && may_be_standard(self.disk)).then_some(SameFile {
-            earlier: FileArgument::Print,
-            written: FileArgument::Disk,
-            shared: Shared::StandardOutput,
-        })
-    }
-
     /// Returns two arguments that name standard input, or standard output: their data would be mixed.
     pub fn shared_stream(&self) -> Option<SameFile> {
-        self.shared_input().or(self.shared_output())
+        let inputs = [self.program, FileArgument::Input, FileArgument::Secondary];
+        let outputs = [FileArgument::Print, FileArgument::Disk];
+        self.share(&inputs, Shared::StandardInput)
+            .or(self.share(&outputs, Shared::StandardOutput))
+    }
+
+    /// Returns the first two of these arguments that name a standard stream.
+    fn share(&self, arguments: &[FileArgument], shared: Shared) -> Option<SameFile> {
+        let mut found = None;
+        for argument in arguments {
+            if may_be_standard(self.path(*argument)) {
+                match found {
+                    None => found = Some(*argument),
+                    Some(earlier) => {
+                        return Some(SameFile {
+                            earlier,
+                            written: *argument,
+                            shared,
+                        });
+                    }
+                }
+            }
+        }
+        None
     }
 
     fn path(&self, argument: FileArgument) -> Option<&'a str> {
@@ -483,8 +429,7 @@ fn compile_arguments<'a>(given: &ArgMatches<'a>) -> Request<'a> {
         object: needed(given, "OBJ"),
         allowance: allowance_of(given),
         warnings: warning_arguments(given),
-        is_quiet: given.get_flag("quiet"),
-        format: format_of(given),
+        answer: answer_arguments(given),
     })
 }
 
@@ -493,16 +438,14 @@ fn check_arguments<'a>(alloc: Global, given: &ArgMatches<'a>) -> Result<Request<
     Ok(Request::Check(CheckArguments {
         sources,
         warnings: warning_arguments(given),
-        is_quiet: given.get_flag("quiet"),
-        format: format_of(given),
+        answer: answer_arguments(given),
     }))
 }
 
 fn verify_arguments<'a>(given: &ArgMatches<'a>) -> Request<'a> {
     Request::Verify(VerifyArguments {
         object: needed(given, "OBJ"),
-        is_quiet: given.get_flag("quiet"),
-        format: format_of(given),
+        answer: answer_arguments(given),
     })
 }
 
@@ -512,7 +455,7 @@ fn show_arguments<'a>(given: &ArgMatches<'a>) -> Request<'a> {
         object: needed(given, "OBJ"),
         source,
         rows: given.get_flag("rows") || source.is_some(),
-        format: format_of(given),
+        answer: answer_arguments(given),
     })
 }
 
@@ -530,8 +473,7 @@ pub(crate) fn run_arguments<'a>(given: &ArgMatches<'a>, program: FileArgument) -
         keeps: given.get_flag("keep"),
         source: given.get_str("source"),
         looks: look_arguments(given),
-        is_quiet: given.get_flag("quiet"),
-        format: format_of(given),
+        answer: answer_arguments(given),
     }
 }
 

@@ -1,7 +1,7 @@
 //! The arguments about warnings, and arguments with several values.
 
 use clap::ArgMatches;
-use rpg_cli_values::{WarningCode, WarningCodes};
+use rpg_cli_values::WarningCodes;
 use std::alloc::{AllocError, Global};
 
 /// How many faults or warnings are listed by default.
@@ -18,20 +18,10 @@ pub struct WarningArguments {
     pub most: u16,
 }
 
-fn codes_of(texts: &[&str]) -> WarningCodes {
-    let mut codes = WarningCodes::NONE;
-    for text in texts {
-        if let Some(code) = WarningCode::named(text) {
-            codes = codes.with(code);
-        }
-    }
-    codes
-}
-
 pub(crate) fn warning_arguments(given: &ArgMatches<'_>) -> WarningArguments {
     WarningArguments {
         denies: given.get_flag("deny"),
-        allowed: codes_of(given.get_strs("allow").unwrap_or(&[])),
+        allowed: WarningCodes::named(given.get_strs("allow").unwrap_or(&[])),
         most: given.get_one::<u16>("faults").unwrap_or(MOST),
     }
 }
