@@ -8,28 +8,7 @@ use rpg_cli_answers::{Answer, CommandStop, Listener, named, source_bytes};
 use rpg_cli_words::{FileArgument, GoArguments};
 use rpg_engine::Report;
 use rpg_meaning::CompiledSource;
-use std::alloc::Global;
 use std::rt::Files;
-
-/// Rejects a source that has a warning, if the arguments deny it. Otherwise its warnings aren't reported.
-fn deny_warned<L: Listener>(
-    alloc: Global,
-    arguments: &GoArguments,
-    text: &[u8],
-    listener: &mut L,
-) -> Result<(), Answer> {
-    if arguments.warnings.denies {
-        deny_warnings(
-            alloc,
-            arguments.run.object,
-            text,
-            arguments.warnings,
-            listener,
-        )
-    } else {
-        Ok(())
-    }
-}
 
 /// Runs a compiled source, unless a warning rejects it. The diagnostic of a halt has cards and names.
 fn run_compiled<R: Files + Input + Print + AllocGlobal, L: Listener>(
@@ -39,12 +18,13 @@ fn run_compiled<R: Files + Input + Print + AllocGlobal, L: Listener>(
     listener: &mut L,
 ) -> Result<Report, CommandStop> {
     let path = arguments.run.object;
-    deny_warned(rt.alloc(), arguments, compiled.text(), listener)?;
+    let (warnings, text) = (arguments.warnings, compiled.text());
+    deny_warnings(rt.alloc(), path, text, warnings, listener)?;
     let source = OwnSource::of(rt.alloc(), path, compiled)?;
     let ran = run_own(rt, &arguments.run, &source, listener);
     if let Err(CommandStop::Answer(answer)) = ran {
         let program = source.compiled.program().program();
-        report_wanted(rt.alloc(), path, program, answer, listener);
+        report_wanted(rt.alloc(), &arguments.run, program, answer, listener);
     }
     ran
 }

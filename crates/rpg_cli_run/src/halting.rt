@@ -1,6 +1,6 @@
 //! The diagnostic for a job that halted.
 
-use rpg_cli_answers::Listener;
+use rpg_cli_answers::{Listener, report_message};
 use rpg_cli_files::{identity_at, input_file};
 use rpg_cli_halts::{
     HaltedCycle, HaltedRecord, HaltedSource, InputNames, halt_message, record_again,
@@ -78,7 +78,6 @@ pub(crate) fn report_halt<R: Files + AllocGlobal, L: Listener>(
     let Some(halted) = halt_of(report) else {
         return;
     };
-    if let Ok(message) = halted_message(rt, arguments, program, halted, source) {
-        listener.report(message.as_str());
-    }
+    let message = halted_message(rt, arguments, program, halted, source);
+    report_message(listener, message);
 }

@@ -9,7 +9,6 @@ ghost use Rattle.rpg_engine.specs.Objects.{HasObjectFault, SpellsProgram};
 use crate::dating::has_date;
 use crate::halting::report_halt;
 use crate::keeping::Kept;
-use crate::limiting::report_limit;
 use crate::looking::run_as_asked;
 use crate::refusing::report_refused;
 use crate::running::{run_over, run_source_over};
@@ -23,6 +22,7 @@ use rpg_cli_files::{
 };
 use rpg_cli_halts::HaltedSource;
 use rpg_cli_show_fields::SourceRows;
+use rpg_cli_values::are_six_digits;
 use rpg_cli_words::{FileArgument, RunArguments, is_standard};
 use rpg_engine::{
     ObjectFault, Program, Readers, Report, RunFault, Verified, Watcher, Writers, accept,
@@ -73,17 +73,12 @@ impl<'a> WantedFiles<'a> {
     }
 }
 
-/// Whether a text is a date: six digits.
-fn is_date(text: &str) -> bool {
-    text.len() == 6 && text.bytes().all(|b| b.is_ascii_digit())
-}
-
 /// Checks whether an accepted program may run: first the date, then its bound.
 fn keeps_bound(program: &Verified, date: &str, most: u64) -> Result<(), Answer>
     ensures kept { OnOk result (bound program.now ≤ most) }
     ensures refused { IfErr result (λ answer. BreaksBound answer program.now most) }
 {
-    if !is_date(date) {
+    if !are_six_digits(date) {
         return Err(Answer::Run(RunFault::BadDate));
     }
     if program.bound() > most {
@@ -436,20 +431,9 @@ pub(crate) fn run_own<R: Files + Input + Print + AllocGlobal, L: Listener>(
     source: &OwnSource<'_>,
     listener: &mut L,
 ) -> Result<Report, CommandStop> {
-    let wanted = match source_files(arguments, &source.compiled) {
-        Ok(wanted) => wanted,
-        Err(answer) => {
-            report_limit(rt.alloc(), arguments, answer, listener);
-            return Err(answer.into());
-        }
-    };
-    run_accepted(
-        rt,
-        arguments,
-        Ok(Runnable::Source(source)),
-        wanted,
-        listener,
-    )
+    let wanted = source_files(arguments, &source.compiled)?;
+    let runnable = Ok(Runnable::Source(source));
+    run_accepted(rt, arguments, runnable, wanted, listener)
 }
 
 /// Runs the object program in these bytes. Rules and date are checked after its files are opened, unless the arguments name a limit or keep
@@ -460,13 +444,7 @@ fn run_object<R: Files + Input + Print + AllocGlobal, L: Listener>(
     object: &[u8],
     listener: &mut L,
 ) -> Result<Report, CommandStop> {
-    let (accepted, wanted) = match program_of(rt.alloc(), arguments, object) {
-        Ok(program) => program,
-        Err(answer) => {
-            report_limit(rt.alloc(), arguments, answer, listener);
-            return Err(answer.into());
-        }
-    };
+    let (accepted, wanted) = program_of(rt.alloc(), arguments, object)?;
     let runnable = match &accepted {
         Ok(program) => Ok(Runnable::Object(program)),
         Err(fault) => Err(*fault),
@@ -499,7 +477,7 @@ pub fn run_files<R: Files + Input + Print + AllocGlobal, L: Listener>(
     let object = named(FileArgument::Object, file_bytes(rt, arguments.object))?;
     let ran = run_named(rt, arguments, &object, listener);
     if let Err(CommandStop::Answer(answer)) = ran {
-        report_refused(rt.alloc(), arguments.object, &object, answer, listener);
+        report_refused(rt.alloc(), arguments, &object, answer, listener);
     }
     ran
 }

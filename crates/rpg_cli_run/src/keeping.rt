@@ -3,7 +3,7 @@
 ghost use Rattle.std.specs.Prelude.{◌≡◌, IfErr};
 ghost use Rattle.rpg_cli_run.specs.Keeping.{IsOfFile, KeepsAnswer, disposition_of};
 
-use rpg_cli_answers::{Answer, CommandStop, Listener, NamedFile, refuse_same_file};
+use rpg_cli_answers::{Answer, CommandStop, Listener, NamedFile, refuse_same_file, report_message};
 use rpg_cli_files::{FileFault, Pending, Replaces};
 use rpg_cli_text::TextWriter;
 use rpg_cli_words::{FileArgument, SameFile, Shared};
@@ -87,19 +87,6 @@ fn kept_message(
     out.finish()
 }
 
-/// Reports what happened to a file. If memory runs out for the message, nothing is printed.
-fn report_kept<L: Listener>(
-    alloc: Global,
-    argument: FileArgument,
-    file: &Pending<'_>,
-    part: Option<&str>,
-    listener: &mut L,
-) {
-    if let Ok(message) = kept_message(alloc, argument, file, part) {
-        listener.report(message.as_str());
-    }
-}
-
 /// Leaves a new file, if there is one, beside its place, and reports where.
 fn leave_part<R: Files + AllocGlobal, L: Listener>(
     rt: &R,
@@ -109,7 +96,8 @@ fn leave_part<R: Files + AllocGlobal, L: Listener>(
 ) {
     if let Some(pending) = file {
         let part = pending.leave_part(rt);
-        report_kept(rt.alloc(), argument, pending, Some(part), listener);
+        let message = kept_message(rt.alloc(), argument, pending, Some(part));
+        report_message(listener, message);
     }
 }
 
@@ -180,10 +168,9 @@ impl<'a> Kept<'a> {
         let (Some(print), Some(disk)) = (&self.print, &self.disk) else {
             return Ok(());
         };
-        match shared_place(rt, print, disk) {
-            Ok(None) => Ok(()),
-            Ok(Some(same)) => Err(CommandStop::SameFile(same)),
-            Err(_) => Err(CommandStop::Answer(Answer::NoMemory)),
+        match shared_place(rt, print, disk)? {
+            None => Ok(()),
+            Some(same) => Err(CommandStop::SameFile(same)),
         }
     }
 
@@ -204,7 +191,8 @@ impl<'a> Kept<'a> {
         }
         if let Err(fault) = put_in_place(rt, &self.disk) {
             if let Some(print) = &self.print {
-                report_kept(rt.alloc(), FileArgument::Print, print, None, listener);
+                let message = kept_message(rt.alloc(), FileArgument::Print, print, None);
+                report_message(listener, message);
             }
             leave_part(rt, FileArgument::Disk, &self.disk, listener);
             return Err(Answer::File {

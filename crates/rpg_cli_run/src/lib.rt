@@ -8,7 +8,6 @@ mod halting;
 mod jobs;
 mod judging;
 mod keeping;
-mod limiting;
 mod looking;
 mod matching;
 mod refusing;

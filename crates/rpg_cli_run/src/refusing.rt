@@ -1,8 +1,10 @@
-//! Diagnostics for an object program that is rejected, or that needs a file. If memory runs out for one, only the line is printed.
+//! Diagnostics for an object program that is rejected, that needs a file, or whose bound is greater than the arguments allow. If memory runs
+//! out for one, only the line is printed.
 
-use rpg_cli_answers::{Answer, Listener};
+use rpg_cli_answers::{Answer, Listener, report_message};
 use rpg_cli_refusals::{bytes_message, rule_message};
 use rpg_cli_text::TextWriter;
+use rpg_cli_words::RunArguments;
 use rpg_engine::{ObjectFault, Program, decode_object};
 use std::alloc::{AllocError, Global};
 
@@ -31,19 +33,36 @@ fn wanted_message(
     out.finish()
 }
 
-/// Reports which file or date a program needs but the arguments don't name, if that is the answer.
+fn limit_message(alloc: Global, path: &str, bound: u64, most: u64) -> Result<String, AllocError> {
+    let mut out = TextWriter::new(alloc);
+    let steps = if bound == 1 { "step" } else { "steps" };
+    out.fill(
+        "{}: a cycle may take {} {}, more than --most {}\n",
+        &[
+            path.as_bytes().into(),
+            bound.into(),
+            steps.into(),
+            most.into(),
+        ],
+    );
+    out.finish()
+}
+
+/// Reports which file or date a program needs but the arguments don't name, or that its bound is over their limit, if that is the answer.
 pub(crate) fn report_wanted<L: Listener>(
     alloc: Global,
-    path: &str,
+    arguments: &RunArguments,
     program: &Program,
     answer: Answer,
     listener: &mut L,
 ) {
-    match answer {
-        Answer::DiskFileWanted | Answer::SecondaryFileWanted | Answer::DateWanted => {
-            if let Ok(message) = wanted_message(alloc, path, program, answer) {
-                listener.report(message.as_str());
-            }
+    let path = arguments.object;
+    match (answer, arguments.most) {
+        (Answer::DiskFileWanted | Answer::SecondaryFileWanted | Answer::DateWanted, _) => {
+            report_message(listener, wanted_message(alloc, path, program, answer))
+        }
+        (Answer::OverLimit { bound }, Some(most)) => {
+            report_message(listener, limit_message(alloc, path, bound, most))
         }
         _ => {}
     }
@@ -52,15 +71,15 @@ pub(crate) fn report_wanted<L: Listener>(
 /// Reports what is wrong with the bytes of a rejected object program, or what it needs.
 pub(crate) fn report_refused<L: Listener>(
     alloc: Global,
-    path: &str,
+    arguments: &RunArguments,
     object: &[u8],
     answer: Answer,
     listener: &mut L,
 ) {
     if let Answer::Object(fault) = answer {
-        report_object(alloc, path, object, fault, listener);
+        report_object(alloc, arguments.object, object, fault, listener);
     } else if let Ok(program) = decode_object(alloc, object) {
-        report_wanted(alloc, path, &program, answer, listener);
+        report_wanted(alloc, arguments, &program, answer, listener);
     }
 }
 
@@ -90,7 +109,5 @@ pub fn report_object<L: Listener>(
     fault: ObjectFault,
     listener: &mut L,
 ) {
-    if let Ok(message) = object_message(alloc, path, object, fault) {
-        listener.report(message.as_str());
-    }
+    report_message(listener, object_message(alloc, path, object, fault));
 }

@@ -1,7 +1,7 @@
 //! The source of an object program that is shown or run, if the arguments name it.
 
 use crate::judging::matched;
-use rpg_cli_answers::{Answer, Listener, named};
+use rpg_cli_answers::{Answer, Listener, named, report_message};
 use rpg_cli_files::file_bytes;
 use rpg_cli_halts::HaltedSource;
 use rpg_cli_messages::source_messages;
@@ -51,10 +51,7 @@ impl OwnSource<'_> {
 
 fn rows_of(alloc: Global, text: &[u8]) -> Result<SourceRows, Answer> {
     let source = faultless_cards(alloc, text)?;
-    match SourceRows::of_cards(alloc, &source.cards) {
-        Ok(rows) => Ok(rows),
-        Err(_) => Err(Answer::NoMemory),
-    }
+    Ok(SourceRows::of_cards(alloc, &source.cards)?)
 }
 
 /// Returns the source that an argument names, if it compiles to the object. Reports its faults, if it has any.
@@ -93,7 +90,6 @@ pub fn report_faults<L: Listener>(
     if faults.is_empty() {
         return;
     }
-    if let Ok(messages) = source_messages(alloc, path, source, &faults, most) {
-        listener.report(messages.as_str());
-    }
+    let messages = source_messages(alloc, path, source, &faults, most);
+    report_message(listener, messages);
 }

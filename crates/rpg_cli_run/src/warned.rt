@@ -3,7 +3,7 @@
 ghost use Rattle.std.specs.Prelude.{IfErr, OnOk};
 ghost use Rattle.rpg_cli_run.specs.Warned.{IsDenied, PassesWarnings};
 
-use rpg_cli_answers::{Answer, Listener};
+use rpg_cli_answers::{Answer, Listener, report_message};
 use rpg_cli_warnings::{Warning, wanted_warnings, warning_messages};
 use rpg_cli_words::WarningArguments;
 use rpg_faults::{FaultlessCards, SourceFault, faultless_cards};
@@ -29,20 +29,6 @@ fn judged(arguments: WarningArguments, warnings: &[Warning]) -> Result<(), Answe
     }
 }
 
-/// Reports warnings. If memory runs out for them, nothing is printed.
-fn report_warnings<L: Listener>(
-    alloc: Global,
-    path: &str,
-    source: &[u8],
-    arguments: WarningArguments,
-    warnings: &[Warning],
-    listener: &mut L,
-) {
-    if let Ok(messages) = warning_messages(alloc, path, source, warnings, arguments.most) {
-        listener.report(messages.as_str());
-    }
-}
-
 /// Reports the warnings of a source without faults, given its text, and rejects it if it has one and the arguments deny it.
 ///
 /// If memory runs out while looking for them, the source is rejected only if the arguments deny warnings.
@@ -57,7 +43,8 @@ pub fn judge_warnings<L: Listener>(
     let (cards, index) = source.into_parts();
     match wanted_warnings(alloc, &index.over(&cards), arguments.allowed) {
         Ok(warnings) => {
-            report_warnings(alloc, path, text, arguments, &warnings, listener);
+            let messages = warning_messages(alloc, path, text, &warnings, arguments.most);
+            report_message(listener, messages);
             judged(arguments, &warnings)
         }
         Err(_) if arguments.denies => Err(Answer::NoMemory),
@@ -65,7 +52,8 @@ pub fn judge_warnings<L: Listener>(
     }
 }
 
-/// Like `judge_warnings`, but reads the source's cards first. A source with a fault has no warnings.
+/// Rejects a source that has a warning, if the arguments deny it, and reports its warnings. Otherwise they aren't reported. A source with
+/// a fault has none.
 pub(crate) fn deny_warnings<L: Listener>(
     alloc: Global,
     path: &str,
@@ -73,9 +61,12 @@ pub(crate) fn deny_warnings<L: Listener>(
     arguments: WarningArguments,
     listener: &mut L,
 ) -> Result<(), Answer> {
+    if !arguments.denies {
+        return Ok(());
+    }
     match faultless_cards(alloc, source) {
         Ok(faultless) => judge_warnings(alloc, path, source, faultless, arguments, listener),
-        Err(SourceFault::NoMemory) if arguments.denies => Err(Answer::NoMemory),
+        Err(SourceFault::NoMemory) => Err(Answer::NoMemory),
         Err(_) => Ok(()),
     }
 }
