@@ -1,6 +1,6 @@
 //! The command that converts shorthand to cards, and cards to shorthand.
 
-use rpg_cli_answers::{Answer, CommandStop, Listener, named, source_bytes};
+use rpg_cli_answers::{Answer, CommandStop, Listener, named, report_message, source_bytes};
 use rpg_cli_messages::card_message;
 use rpg_cli_shorthand::{RULER, ShorthandFault, deck_of, line_message, shorthand_of};
 use rpg_cli_words::{CardsArguments, CardsWanted, FileArgument};
@@ -18,9 +18,7 @@ fn deck_text<L: Listener>(
     match deck_of(alloc, shorthand) {
         Ok(text) => Ok(text),
         Err(ShorthandFault::At { line, fault }) => {
-            if let Ok(message) = line_message(alloc, path, line, fault) {
-                listener.report(message.as_str());
-            }
+            report_message(listener, line_message(alloc, path, line, fault));
             Err(Answer::NoCard { line })
         }
         Err(ShorthandFault::NoMemory) => Err(Answer::NoMemory),
@@ -63,9 +61,7 @@ fn report_card<L: Listener>(
         code,
         columns,
     };
-    if let Ok(message) = card_message(alloc, path, source, fault) {
-        listener.report(message.as_str());
-    }
+    report_message(listener, card_message(alloc, path, source, fault));
 }
 
 /// Converts a file to cards or shorthand, as the arguments ask.

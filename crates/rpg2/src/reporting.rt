@@ -1,7 +1,7 @@
 //! Diagnostics about failed files and bad dates. If memory runs out for one, only the line is printed.
 
 use crate::outlet::Outlet;
-use rpg_cli_answers::{Answer, Listener, Reasons};
+use rpg_cli_answers::{Answer, Listener, Reasons, report_message};
 use rpg_cli_files::{FileFault, Reason};
 use rpg_cli_text::TextWriter;
 use rpg_cli_words::{DateArgument, FileArgument, Request, RunArguments};
@@ -183,9 +183,7 @@ pub(crate) fn report_source_fault<L: Listener>(
     fault: FileFault,
     listener: &mut L,
 ) {
-    if let Ok(message) = source_fault_message(alloc, path, fault) {
-        listener.report(message.as_str());
-    }
+    report_message(listener, source_fault_message(alloc, path, fault));
 }
 
 /// Reports which file failed and why.
@@ -196,9 +194,8 @@ pub(crate) fn report_answer<L: Listener>(
     reasons: Reasons,
     listener: &mut L,
 ) {
-    if let Ok(message) = answer_message(alloc, request, answer, reasons) {
-        listener.report(message.as_str());
-    }
+    let message = answer_message(alloc, request, answer, reasons);
+    report_message(listener, message);
 }
 
 /// Reports that a text couldn't be written completely, unless its reader closed the pipe on purpose.

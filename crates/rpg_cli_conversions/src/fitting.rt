@@ -2,7 +2,9 @@
 
 use crate::changes::{change_messages, long_deck_message, refusal_message, too_many_message};
 use crate::new_deck::new_deck_messages;
-use rpg_cli_answers::{Answer, CommandStop, Listener, NamedFile, named, refuse_same_file};
+use rpg_cli_answers::{
+    Answer, CommandStop, Listener, NamedFile, named, refuse_same_file, report_message,
+};
 use rpg_cli_files::{FileFault, Opened, Reason, file_bytes, lines, write_bytes};
 use rpg_cli_words::{FileArgument, FitArguments, is_standard};
 use rpg_faults::{CardFault, SourceCode, SourceFault};
@@ -94,9 +96,7 @@ fn refuse_long<L: Listener>(
     } else {
         too_many_message(alloc, arguments.source)
     };
-    if let Ok(message) = message {
-        listener.report(message.as_str());
-    }
+    report_message(listener, message);
     Answer::NewDeck(SourceFault::At {
         card: PAST_LIMIT,
         code: SourceCode::Sheet(SheetCode::S6),
@@ -114,9 +114,8 @@ fn refuse<L: Listener>(
 ) -> Answer {
     match fault {
         FitFault::Refused(refusal) => {
-            if let Ok(message) = refusal_message(alloc, arguments.source, source, refusal) {
-                listener.report(message.as_str());
-            }
+            let message = refusal_message(alloc, arguments.source, source, refusal);
+            report_message(listener, message);
             Answer::FitRefused {
                 card: refusal.card as u64,
                 rule: refusal.rule.number(),
@@ -178,12 +177,10 @@ fn report_fit<L: Listener>(
     fit: &FittedDeck,
     listener: &mut L,
 ) {
-    if let Ok(messages) = change_messages(alloc, arguments.source, source, fit) {
-        listener.report(messages.as_str());
-    }
-    if let Ok(messages) = new_deck_messages(alloc, arguments.new_name(), arguments.source, fit) {
-        listener.report(messages.as_str());
-    }
+    let changes = change_messages(alloc, arguments.source, source, fit);
+    report_message(listener, changes);
+    let faults = new_deck_messages(alloc, arguments.new_name(), arguments.source, fit);
+    report_message(listener, faults);
 }
 
 /// Returns the answer for a rewritten deck: its changes, or the first fault of the new one.

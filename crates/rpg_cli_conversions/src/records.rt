@@ -1,7 +1,9 @@
 //! The command that converts records to lines, and such lines to records.
 
 use crate::refused::{deck_message, record_message};
-use rpg_cli_answers::{Answer, CommandStop, Listener, NamedFile, named, refuse_same_file};
+use rpg_cli_answers::{
+    Answer, CommandStop, Listener, NamedFile, named, refuse_same_file, report_message,
+};
 use rpg_cli_files::{
     FileFault, KeptFile, LineTarget, Opened, Pending, Reason, RecordSource, file_bytes, input_file,
     kept_file, lines, records, write_bytes,
@@ -46,9 +48,7 @@ fn layout<L: Listener>(
     match layout_of(alloc, source, deck_arguments) {
         Ok(layout) => Ok(layout),
         Err(fault) => {
-            if let Ok(message) = deck_message(alloc, arguments.deck, fault) {
-                listener.report(message.as_str());
-            }
+            report_message(listener, deck_message(alloc, arguments.deck, fault));
             Err(refusal(fault))
         }
     }
@@ -87,10 +87,7 @@ fn is_shared<R: Files + AllocGlobal>(
     pending: &Option<Pending<'_>>,
 ) -> Result<bool, Answer> {
     match (pending, arguments.new_deck) {
-        (Some(pending), Some(path)) => match pending.goes_to(rt, path) {
-            Ok(is_shared) => Ok(is_shared),
-            Err(_) => Err(Answer::NoMemory),
-        },
+        (Some(pending), Some(path)) => Ok(pending.goes_to(rt, path)?),
         _ => Ok(false),
     }
 }
@@ -138,9 +135,8 @@ fn early_answer<L: Listener>(
             offset,
             fault,
         } => {
-            if let Ok(message) = record_message(alloc, arguments.input, number, offset, fault) {
-                listener.report(message.as_str());
-            }
+            let message = record_message(alloc, arguments.input, number, offset, fault);
+            report_message(listener, message);
             Answer::RecordRefused { number }
         }
         ConversionFault::Read => Answer::File {
