@@ -1,6 +1,5 @@
-//! The form of a command's diagnostics, and the files that they may name.
+//! The files that a command's diagnostics may name.
 
-use rpg_cli_answers::{Form, Severity};
 use rpg_cli_words::{FileArgument, FitArguments, Format, Request};
 use std::alloc::{AllocError, Global};
 
@@ -18,25 +17,6 @@ const ARGUMENTS: [FileArgument; 12] = [
     FileArgument::To,
     FileArgument::NewDeck,
 ];
-
-/// Returns the severity of diagnostics without a code: `records` has no codes, and its diagnostics say why
-/// it stops.
-fn uncoded_severity(request: &Request) -> Severity {
-    match request {
-        Request::Records(_) => Severity::Error,
-        _ => Severity::Note,
-    }
-}
-
-/// Returns the form that the arguments ask for.
-pub(crate) fn form_of(request: &Request) -> Form {
-    match request.answer().format {
-        Format::Text => Form::Text,
-        Format::Json => Form::Objects {
-            uncoded: uncoded_severity(request),
-        },
-    }
-}
 
 /// Adds an old deck's new deck and table files.
 fn push_fitted<'a>(

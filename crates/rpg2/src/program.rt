@@ -9,7 +9,7 @@ use crate::decks::cards_file;
 use crate::explaining::explain;
 use crate::files::{compile_files, show_file, verify_file};
 use crate::listing::list_file;
-use crate::naming::{files_of, form_of};
+use crate::naming::files_of;
 use crate::outlet::Outlet;
 use crate::reported::{StandardError, StandardStreams};
 use crate::reporting::{report_answer, report_unwritten};
@@ -212,8 +212,8 @@ fn obey<R: Clock + Env + Files + Input + Print + Eprint + AllocGlobal, W: Write,
 {
     match files_of(rt.alloc(), request) {
         Ok(files) => {
-            let form = form_of(request);
-            let mut listener = FormedListener::new(rt.alloc(), listener, files, form);
+            let format = request.answer().format;
+            let mut listener = FormedListener::new(rt.alloc(), listener, files, format);
             obey_as_asked(rt, request, out, &mut listener)
         }
         Err(_) => conclude(

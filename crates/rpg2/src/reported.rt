@@ -31,6 +31,10 @@ impl<R: Print + Eprint + AllocGlobal> Listener for StandardStreams<'_, R> {
         let _reported = self.rt.eprint(text);
     }
 
+    fn report_error(&mut self, text: &str) {
+        self.report(text);
+    }
+
     fn show(&mut self, text: &str) -> Result<(), Reason> {
         send_text(&mut io::writer(self.rt), text)
     }

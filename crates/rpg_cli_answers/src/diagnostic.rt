@@ -28,24 +28,18 @@ impl<'f, 't> Diagnostic<'f, 't> {
     }
 }
 
-/// The start of the message about a card that can't be rewritten.
-const REFUSED: &str = "can't be rewritten: ";
-
-/// The start of the message about a program that may take more steps than the arguments allow.
-const OVER_LIMIT: &str = "a cycle may take ";
-
 #[derive(Clone, Copy)]
-pub enum Severity {
+pub(crate) enum Severity {
     Error,
     Warning,
     Note,
 }
 
-/// The files that diagnostics may name, and the severity of those without a code.
+/// The files that diagnostics may name, and the severity of those whose code doesn't determine it.
 #[derive(Clone, Copy)]
 pub(crate) struct Known<'f, 'k> {
     pub files: &'k [&'f str],
-    pub uncoded: Severity,
+    pub severity: Severity,
 }
 
 impl Severity {
@@ -57,13 +51,12 @@ impl Severity {
         }
     }
 
-    /// A change of an old deck is a note; a card that can't be rewritten, and a program over the limit, are errors.
-    fn of(topic: Option<Topic>, message: &str, uncoded: Severity) -> Severity {
+    /// Returns the severity of a diagnostic with this code: this one, if it has none, or that of a rule for rewriting old decks, which
+    /// changes a card or rejects it.
+    fn of(self, topic: Option<Topic>) -> Severity {
         match topic {
-            None if message.starts_with(OVER_LIMIT) => Severity::Error,
-            None => uncoded,
+            None | Some(Topic::Rewriting(_)) => self,
             Some(Topic::Warning(_)) => Severity::Warning,
-            Some(Topic::Rewriting(_)) if !message.starts_with(REFUSED) => Severity::Note,
             Some(_) => Severity::Error,
         }
     }
@@ -147,7 +140,7 @@ fn place_of(text: &str) -> (Option<&str>, Option<&str>, &str) {
 }
 
 /// Parses a message about a file, or a place in it.
-fn placed<'f, 't>(file: &'f str, rest: &'t str, uncoded: Severity) -> Diagnostic<'f, 't> {
+fn placed<'f, 't>(file: &'f str, rest: &'t str, severity: Severity) -> Diagnostic<'f, 't> {
     let (line, column, rest) = place_of(rest);
     let (code, topic, message) = code_of(rest.trim_start());
     Diagnostic {
@@ -155,7 +148,7 @@ fn placed<'f, 't>(file: &'f str, rest: &'t str, uncoded: Severity) -> Diagnostic
         line,
         column,
         code,
-        severity: Severity::of(topic, message, uncoded),
+        severity: severity.of(topic),
         message,
         topic,
     }
@@ -184,7 +177,7 @@ pub(crate) fn diagnostic_of<'f, 't>(line: &'t str, known: Known<'f, '_>) -> Diag
     match file_of(line, known.files) {
         None => plain(None, Severity::Note, line),
         Some((file, rest)) => match rest.strip_prefix(':') {
-            Some(rest) => placed(file, rest, known.uncoded),
+            Some(rest) => placed(file, rest, known.severity),
             None => plain(Some(file), Severity::Error, rest.trim_start()),
         },
     }

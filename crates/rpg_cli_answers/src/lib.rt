@@ -14,12 +14,11 @@ mod string;
 mod text;
 
 pub use answer::{Answer, Line, named};
-pub use diagnostic::Severity;
-pub use formed::{Form, FormedListener};
+pub use formed::FormedListener;
 pub use json::{JsonLine, json_line};
 pub use objects::source_object;
 pub use reading::{source_bytes, system_path};
-pub use rpg_cli_files::{Listener, report_message};
+pub use rpg_cli_files::{Listener, report_message, report_refusal};
 pub use sharing::{NamedFile, refuse_same_file};
 pub use stop::{CommandStop, Reasons};
 pub use text::line;

@@ -4,6 +4,7 @@ use crate::changes::{change_messages, long_deck_message, refusal_message, too_ma
 use crate::new_deck::new_deck_messages;
 use rpg_cli_answers::{
     Answer, CommandStop, Listener, NamedFile, named, refuse_same_file, report_message,
+    report_refusal,
 };
 use rpg_cli_files::{FileFault, Opened, Reason, file_bytes, lines, write_bytes};
 use rpg_cli_words::{FileArgument, FitArguments, is_standard};
@@ -115,7 +116,7 @@ fn refuse<L: Listener>(
     match fault {
         FitFault::Refused(refusal) => {
             let message = refusal_message(alloc, arguments.source, source, refusal);
-            report_message(listener, message);
+            report_refusal(listener, message);
             Answer::FitRefused {
                 card: refusal.card as u64,
                 rule: refusal.rule.number(),

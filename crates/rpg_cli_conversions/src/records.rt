@@ -2,7 +2,7 @@
 
 use crate::refused::{deck_message, record_message};
 use rpg_cli_answers::{
-    Answer, CommandStop, Listener, NamedFile, named, refuse_same_file, report_message,
+    Answer, CommandStop, Listener, NamedFile, named, refuse_same_file, report_refusal,
 };
 use rpg_cli_files::{
     FileFault, KeptFile, LineTarget, Opened, Pending, Reason, RecordSource, file_bytes, input_file,
@@ -48,7 +48,7 @@ fn layout<L: Listener>(
     match layout_of(alloc, source, deck_arguments) {
         Ok(layout) => Ok(layout),
         Err(fault) => {
-            report_message(listener, deck_message(alloc, arguments.deck, fault));
+            report_refusal(listener, deck_message(alloc, arguments.deck, fault));
             Err(refusal(fault))
         }
     }
@@ -136,7 +136,7 @@ fn early_answer<L: Listener>(
             fault,
         } => {
             let message = record_message(alloc, arguments.input, number, offset, fault);
-            report_message(listener, message);
+            report_refusal(listener, message);
             Answer::RecordRefused { number }
         }
         ConversionFault::Read => Answer::File {

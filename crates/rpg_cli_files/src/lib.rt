@@ -14,7 +14,7 @@ pub use files::{
     FileFault, FileIdentity, file_bytes, flush_device, identity, identity_at, input_file,
     output_file,
 };
-pub use listener::{Listener, report_message};
+pub use listener::{Listener, report_message, report_refusal};
 pub use pending::{KeptFile, Pending, kept_file};
 pub use reason::Reason;
 pub use replacing::{Replaces, write_bytes};

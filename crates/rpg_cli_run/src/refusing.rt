@@ -1,7 +1,7 @@
 //! Diagnostics for an object program that is rejected, that needs a file, or whose bound is greater than the arguments allow. If memory runs
 //! out for one, only the line is printed.
 
-use rpg_cli_answers::{Answer, Listener, report_message};
+use rpg_cli_answers::{Answer, Listener, report_message, report_refusal};
 use rpg_cli_refusals::{bytes_message, rule_message};
 use rpg_cli_text::TextWriter;
 use rpg_cli_words::RunArguments;
@@ -62,7 +62,7 @@ pub(crate) fn report_wanted<L: Listener>(
             report_message(listener, wanted_message(alloc, path, program, answer))
         }
         (Answer::OverLimit { bound }, Some(most)) => {
-            report_message(listener, limit_message(alloc, path, bound, most))
+            report_refusal(listener, limit_message(alloc, path, bound, most))
         }
         _ => {}
     }
