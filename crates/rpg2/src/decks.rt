@@ -1,7 +1,7 @@
 //! The command that converts shorthand to cards, and cards to shorthand.
 
 use rpg_cli_answers::{Answer, CommandStop, Listener, named, report_message, source_bytes};
-use rpg_cli_messages::card_message;
+use rpg_cli_messages::{card_message, is_object, object_message};
 use rpg_cli_shorthand::{RULER, ShorthandFault, deck_of, line_message, shorthand_of};
 use rpg_cli_words::{CardsArguments, CardsWanted, FileArgument};
 use rpg_faults::{CardFault, SourceFault};
@@ -18,7 +18,12 @@ fn deck_text<L: Listener>(
     match deck_of(alloc, shorthand) {
         Ok(text) => Ok(text),
         Err(ShorthandFault::At { line, fault }) => {
-            report_message(listener, line_message(alloc, path, line, fault));
+            let message = if is_object(shorthand) {
+                object_message(alloc, path)
+            } else {
+                line_message(alloc, path, line, fault)
+            };
+            report_message(listener, message);
             Err(Answer::NoCard { line })
         }
         Err(ShorthandFault::NoMemory) => Err(Answer::NoMemory),

@@ -7,8 +7,9 @@ use rpg_cli_answers::{
     report_refusal,
 };
 use rpg_cli_files::{FileFault, Opened, Reason, file_bytes, lines, write_bytes};
+use rpg_cli_messages::{is_object, source_messages};
 use rpg_cli_words::{FileArgument, FitArguments, is_standard};
-use rpg_faults::{CardFault, SourceCode, SourceFault};
+use rpg_faults::{CardFault, SourceCode, SourceFault, source_faults};
 use rpg_fit::{FitFault, FittedDeck, Settings, Switches, TableFile, fit};
 use rpg_sheet::SheetCode;
 use std::alloc::{AllocError, Global};
@@ -184,23 +185,43 @@ fn report_fit<L: Listener>(
     report_message(listener, faults);
 }
 
+/// Returns the first of a deck's faults.
+fn first_fault(faults: &[CardFault]) -> Option<SourceFault> {
+    let CardFault {
+        card,
+        code,
+        columns,
+    } = *faults.first()?;
+    Some(SourceFault::At {
+        card,
+        code,
+        columns,
+    })
+}
+
 /// Returns the answer for a rewritten deck: its changes, or the first fault of the new one.
 fn answer_of(fit: &FittedDeck) -> Answer {
-    match fit.faults.first() {
+    match first_fault(&fit.faults) {
         None => Answer::Fitted {
             changes: fit.fitted.changes() as u64,
         },
-        Some(
-            CardFault {
-                card,
-                code,
-                columns,
-            },
-        ) => Answer::NewDeck(SourceFault::At {
-            card: *card,
-            code: *code,
-            columns: *columns,
-        }),
+        Some(fault) => Answer::NewDeck(fault),
+    }
+}
+
+/// Reports that an object program is given in place of a deck, as for any source, and returns the answer.
+fn refuse_object<L: Listener>(
+    alloc: Global,
+    arguments: &FitArguments,
+    object: &[u8],
+    listener: &mut L,
+) -> Result<Answer, Answer> {
+    let faults = source_faults(alloc, object)?;
+    let messages = source_messages(alloc, arguments.source, object, &faults, 1);
+    report_message(listener, messages);
+    match first_fault(&faults) {
+        None => Ok(Answer::Faultless),
+        Some(fault) => Err(Answer::Source(fault)),
     }
 }
 
@@ -217,14 +238,17 @@ fn conclude<R: Files + Print + AllocGlobal, L: Listener>(
     Ok(answer_of(fit))
 }
 
-/// Rewrites an old deck. The new one is written once it is complete, even if it has faults; if a rule rejects the old one, nothing is
-/// written.
+/// Rewrites an old deck. The new one is written once it is complete, even if it has faults; if a rule rejects the old one, or it is an
+/// object program, nothing is written.
 pub fn fit_file<R: Files + Print + AllocGlobal, L: Listener>(
     rt: &R,
     arguments: &FitArguments,
     listener: &mut L,
 ) -> Result<Answer, CommandStop> {
     let source = named(FileArgument::Source, file_bytes(rt, arguments.source))?;
+    if is_object(&source) {
+        return Ok(refuse_object(rt.alloc(), arguments, &source, listener)?);
+    }
     let records = table_records(rt, arguments)?;
     match rewrite(rt.alloc(), arguments, &source, records.as_slice()) {
         Ok(fit) => conclude(rt, arguments, &source, &fit, listener),

@@ -8,6 +8,7 @@ use rpg_cli_files::{
     FileFault, KeptFile, LineTarget, Opened, Pending, Reason, RecordSource, file_bytes, input_file,
     kept_file, lines, records, write_bytes,
 };
+use rpg_cli_messages::{is_object, object_message};
 use rpg_cli_words::{
     FileArgument, RecordFraming, RecordsArguments, RecordsWay, SameFile, Shared, is_standard,
 };
@@ -48,7 +49,12 @@ fn layout<L: Listener>(
     match layout_of(alloc, source, deck_arguments) {
         Ok(layout) => Ok(layout),
         Err(fault) => {
-            report_refusal(listener, deck_message(alloc, arguments.deck, fault));
+            let message = if is_object(source) {
+                object_message(alloc, arguments.deck)
+            } else {
+                deck_message(alloc, arguments.deck, fault)
+            };
+            report_refusal(listener, message);
             Err(refusal(fault))
         }
     }

@@ -70,7 +70,8 @@ fn is_text(line: &[u8]) -> bool {
 /// What an object program begins with: its name, and the higher byte of its version.
 const OBJECT_NAME: &[u8; 7] = b"RPGOBJ\0";
 
-pub(crate) fn is_object(bytes: &[u8]) -> bool {
+/// Whether a source is an object program, by its first bytes.
+pub fn is_object(bytes: &[u8]) -> bool {
     bytes.starts_with(OBJECT_NAME)
 }
 

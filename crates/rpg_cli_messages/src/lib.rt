@@ -12,9 +12,9 @@ mod picture;
 mod shorthand;
 mod unmarked;
 
-pub use bytes::write_byte_cause;
+pub use bytes::{is_object, write_byte_cause};
 pub use card_lines::CardLines;
-pub use message::{card_message, source_messages, write_place, write_reported};
+pub use message::{card_message, object_message, source_messages, write_place, write_reported};
 pub use note::write_note;
 pub use picture::{write_first, write_picture};
 pub use rpg_cli_causes::{AnalyzedCards, SourceCards};

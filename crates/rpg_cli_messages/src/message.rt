@@ -221,6 +221,13 @@ pub fn write_place(
 const OBJECT: &str =
     "this is an object program: run it with rpg2 run, or look at it with rpg2 show";
 
+/// Returns the diagnostic for an object program in place of the source `path`, for a command that reads shorthand, or only some cards.
+pub fn object_message(alloc: Global, path: &str) -> Result<String, AllocError> {
+    let mut out = TextWriter::new(alloc);
+    out.fill("{}:1: {}\n", &[path.as_bytes().into(), OBJECT.into()]);
+    out.finish()
+}
+
 /// Writes what is wrong: the rule that is broken, and the numbers on the cards that break it. The first card of an object program is
 /// always at fault, and stands for all of it.
 pub(crate) fn write_sentence(
