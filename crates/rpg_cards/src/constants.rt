@@ -196,7 +196,7 @@ impl SpecCard {
     }
 
     /// Whether the card may have a constant. Most cards have none, and this test is cheaper than the list of their constants.
-    fn may_have_constants(&self) -> bool
+    pub fn may_have_constants(&self) -> bool
         ensures { OnFalse result (constants.constants_on self.now.spec ≡ []) }
     {
         match &self.spec {

@@ -132,7 +132,7 @@ impl SpecCard {
 
     /// Whether the card may define a name. Most cards don't, and this test is cheaper than the list of their
     /// definitions.
-    fn may_define(&self) -> bool
+    pub fn may_define(&self) -> bool
         ensures { OnFalse result (names.definitions_on self.now.spec ≡ []) }
     {
         match &self.spec {

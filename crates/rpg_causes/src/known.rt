@@ -63,7 +63,7 @@ pub(crate) fn limits_before(
         if place == count {
             return limits;
         }
-        limits = limits.with(cards, seen, next, following);
+        limits.pass(cards, seen, next, following);
         seen = with_card(cards, seen, next, following);
         rest = following;
     }

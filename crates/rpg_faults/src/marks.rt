@@ -79,7 +79,7 @@ fn missing_columns(
     requires { AreCardsSeen source.now (card.now ∷ after.now) seen.now }
     ensures { result ≡ marks.missing_columns seen.now.before.now card.now after.now }
 {
-    if rpg_faults_flow::bad_columns(seen.before, card, after) {
+    if rpg_faults_flow::bad_columns(seen.group_end, seen.before, card, after) {
         rpg_faults_flow::calculation_columns(card, after)
     } else if rpg_faults_operands::bad_columns(source, card, after) {
         rpg_faults_operands::missing_columns(card, after)

@@ -5,13 +5,17 @@ ghost use Rattle.rpg_faults.specs.Seen.{AreCardsSeen};
 
 use crate::Places;
 use rpg_cards::{IndexedCards, Sheets, SpecCard};
+use rpg_faults_flow::{first_group_end, next_group_end};
 use rpg_faults_limits::Limits;
 use rpg_faults_tree::{AnalyzedCards, Counts};
+use rpg_sheet_specs::CalculationSpec;
 
 /// The cards before a card, with the state after them.
 #[derive(Clone, Copy)]
 pub(crate) struct Seen<'a> {
     pub before: &'a [SpecCard],
+    /// The last card of the card's group, if the card is a calculation.
+    pub group_end: Option<&'a CalculationSpec>,
     pub sheets: Sheets,
     pub limits: Limits,
     pub counts: Counts,
@@ -27,6 +31,7 @@ impl<'a> Seen<'a> {
         let cards = source.cards;
         Seen {
             before: &cards.as_slice()[..0],
+            group_end: first_group_end(cards.as_slice()),
             sheets: Sheets::none(),
             limits: Limits::nothing(cards),
             counts: Counts::nothing(),
@@ -35,14 +40,15 @@ impl<'a> Seen<'a> {
     }
 
     /// Moves on to the next card, in place, since the state is large.
-    pub fn pass(&mut self, source: &IndexedCards<'a>, card: &SpecCard, after: &[SpecCard])
+    pub fn pass(&mut self, source: &IndexedCards<'a>, card: &SpecCard, after: &'a [SpecCard])
         requires { AreCardsSeen source.now (card.now ∷ after.now) self.old }
         ensures before { self.new.before.now ≡ self.old.before.now ++ card.now ∷ [] }
         ensures seen { AreCardsSeen source.now after.now self.new }
     {
         let before = self.before;
+        self.group_end = next_group_end(self.group_end, after);
         self.sheets = self.sheets.with(source, before, card);
-        self.limits = self.limits.with(source, before, card, after);
+        self.limits.pass(source, before, card, after);
         self.counts = self.counts.with(before, card, after);
         self.places.pass(source, before, card, after);
         self.before = with_card(source, before, card, after);

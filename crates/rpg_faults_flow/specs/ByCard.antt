@@ -47,13 +47,13 @@ bracket_at group c after = option_and_then (λ k. bracket_in (calculation_level 
 
 -- ---- F9
 
--- F9 of the conditions, given whether a group is open and whether the next card continues it
-abbrev pub bad_dependence : Bool → Bool → CalculationSpec → List SpecCard → Bool
-bad_dependence in_group on k after = ((on || (joins k.control_level && in_group)) && not (depends k)) || (depends k && not (may_depend (group_end k after)))
+-- F9 of the conditions, given whether a group is open, whether the next card continues it, and the group's last card
+abbrev pub bad_dependence : Bool → Bool → CalculationSpec → CalculationSpec → Bool
+bad_dependence in_group on k last = ((on || (joins k.control_level && in_group)) && not (depends k)) || (depends k && not (may_depend last))
 
 -- F9 of a C card, given whether a group is open
 abbrev pub bad_card : Bool → CalculationSpec → List SpecCard → Bool
-bad_card in_group k after = bad_dependence in_group (continues after) k after || ((is_some k.length && is_none k.result_field) || bad_by_end (continues after) k)
+bad_card in_group k after = bad_dependence in_group (continues after) k (group_end k after) || ((is_some k.length && is_none k.result_field) || bad_by_end (continues after) k)
 
 -- ---- F10
 

@@ -1,25 +1,33 @@
 //! F9 of calculation cards: columns that are missing or not allowed.
 
-ghost use Rattle.std.specs.Prelude.{◌≡◌, Option, is_some};
+ghost use Rattle.std.specs.Prelude.{◌≡◌, ◌∷◌, Option, is_some, option_copied};
 ghost use Rattle.std.specs.Option.{option_map};
-ghost use Rattle.rpg_cards.specs.Calculations.{open_calculation_group};
+ghost use Rattle.rpg_cards.specs.Calculations.{group_end, open_calculation_group};
+ghost use Rattle.rpg_faults_flow.specs.GroupEnd.{EndsGroup};
 ghost use Rattle.rpg_faults_flow.specs.Columns as spec;
 ghost use Rattle.rpg_faults_flow.specs.ByCard as by_card;
 ghost use Rattle.rpg_sheet_specs.specs.declared.literal.Factor.TheVariants as factor;
 
-use rpg_cards::{
-    Column, Content, Shown, SpecCard, columns, continues, depends, group_end, joins, plain_name,
-};
+use rpg_cards::{Column, Content, Shown, SpecCard, columns, continues, depends, joins, plain_name};
 use rpg_sheet_specs::{CalculationSpec, Entry, Factor, Indicator, Operation, Three};
 
-/// F9 of calculation cards, except for the sequence of what LOKUP searches.
-pub fn bad_columns(before: &[SpecCard], card: &SpecCard, after: &[SpecCard]) -> bool
+/// F9 of calculation cards, except for the sequence of what LOKUP searches. `group_end` is the last card of the card's group.
+pub fn bad_columns(
+    group_end: Option<&CalculationSpec>,
+    before: &[SpecCard],
+    card: &SpecCard,
+    after: &[SpecCard],
+) -> bool
+    requires { EndsGroup (card.now ∷ after.now) (option_copied group_end) }
     ensures { result ≡ spec.bad_calculation_columns before.now card.now after.now }
 {
     let Some(calculation) = card.calculation() else {
         return false;
     };
-    bad_card(is_in_group(before), calculation, after)
+    let Some(last) = group_end else {
+        return false;
+    };
+    bad_card(is_in_group(before), calculation, last, after)
 }
 
 /// Whether the previous card is a calculation card.
@@ -32,11 +40,17 @@ fn is_in_group(before: &[SpecCard]) -> bool
     }
 }
 
-fn bad_card(is_in_group: bool, calculation: &CalculationSpec, after: &[SpecCard]) -> bool
+fn bad_card(
+    is_in_group: bool,
+    calculation: &CalculationSpec,
+    last: &CalculationSpec,
+    after: &[SpecCard],
+) -> bool
+    requires { last.now ≡ group_end calculation.now after.now }
     ensures { result ≡ by_card.bad_card is_in_group calculation.now after.now }
 {
     let continues = continues(after);
-    bad_conditions(is_in_group, continues, calculation, after)
+    bad_conditions(is_in_group, continues, calculation, last)
         || (calculation.length.is_some() && calculation.result_field.is_none())
         || bad_by_end(continues, calculation)
 }
@@ -47,12 +61,12 @@ fn bad_conditions(
     is_in_group: bool,
     continues: bool,
     calculation: &CalculationSpec,
-    after: &[SpecCard],
+    last: &CalculationSpec,
 ) -> bool
-    ensures { result ≡ by_card.bad_dependence is_in_group continues calculation.now after.now }
+    ensures { result ≡ by_card.bad_dependence is_in_group continues calculation.now last.now }
 {
     if depends(calculation) {
-        !may_depend(group_end(calculation, after))
+        !may_depend(last)
     } else {
         continues || (joins(calculation) && is_in_group)
     }

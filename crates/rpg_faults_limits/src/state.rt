@@ -27,34 +27,34 @@ impl Limits {
         ensures { AreLimits source.now [] source.now result }
     {
         let storage = Storage::nothing(source);
+        let mut storage_with_next = storage;
+        storage_with_next.add_next(source, source.as_slice());
         Limits {
             storage,
-            storage_with_next: storage.with_next(source, source.as_slice()),
+            storage_with_next,
             calculations: Calculations::NONE,
             open_type: OpenType::NONE,
             open_line: OpenLine::NONE,
         }
     }
 
-    /// Returns the state before the next card.
-    pub fn with(
-        &self,
+    /// Moves on to the next card, in place, since the state is large.
+    pub fn pass(
+        &mut self,
         source: &IndexedCards,
         before: &[SpecCard],
         card: &SpecCard,
         after: &[SpecCard],
-    ) -> Self
+    )
         requires split { source.now ≡ before.now ++ card.now ∷ after.now }
         requires few { length source.now ≤ 2000 }
-        requires limits { AreLimits source.now before.now (card.now ∷ after.now) self.now }
-        ensures { AreLimits source.now (before.now ++ card.now ∷ []) after.now result }
+        requires limits { AreLimits source.now before.now (card.now ∷ after.now) self.old }
+        ensures { AreLimits source.now (before.now ++ card.now ∷ []) after.now self.new }
     {
-        Limits {
-            storage: self.storage_with_next,
-            storage_with_next: self.storage_with_next.with_next(source, after),
-            calculations: self.calculations.with(before, card, after),
-            open_type: self.open_type.with(before, card),
-            open_line: self.open_line.with(before, card),
-        }
+        self.storage = self.storage_with_next;
+        self.storage_with_next.add_next(source, after);
+        self.calculations = self.calculations.with(before, card, after);
+        self.open_type = self.open_type.with(before, card);
+        self.open_line = self.open_line.with(before, card);
     }
 }

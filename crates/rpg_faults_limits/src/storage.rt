@@ -28,28 +28,24 @@ impl Storage {
         }
     }
 
-    /// Returns the storage with the first of the rest, if there is one.
-    pub(crate) fn with_next(&self, source: &IndexedCards, rest: &[SpecCard]) -> Self
+    /// Adds the first of the rest, if there is one.
+    pub(crate) fn add_next(&mut self, source: &IndexedCards, rest: &[SpecCard])
         requires few { length source.now ≤ 2000 }
-        requires storage { (before : List SpecCard) × IsStorageBeforeRest source.now rest.now self.now before }
-        ensures { (before : List SpecCard) → IsStorageBeforeRest source.now rest.now self.now before → IsStorageWithNext source.now before rest.now result }
+        requires storage { (before : List SpecCard) × IsStorageBeforeRest source.now rest.now self.old before }
+        ensures { (before : List SpecCard) → IsStorageBeforeRest source.now rest.now self.old before → IsStorageWithNext source.now before rest.now self.new }
     {
-        match rest.split_first() {
-            None => *self,
-            Some((next, _)) => self.with(source, next),
+        if let Some((next, _)) = rest.split_first() {
+            self.add(source, next);
         }
     }
 
-    /// Returns the storage with one more card.
-    fn with(&self, source: &IndexedCards, card: &SpecCard) -> Self
+    /// Adds one more card.
+    fn add(&mut self, source: &IndexedCards, card: &SpecCard)
         requires few { length source.now ≤ 2000 }
-        requires storage { (before : List SpecCard) × IsStorageBeforeCard source.now card.now self.now before }
-        ensures { (before : List SpecCard) → IsStorageBeforeCard source.now card.now self.now before → IsStorage source.now (before ++ card.now ∷ []) result }
+        requires storage { (before : List SpecCard) × IsStorageBeforeCard source.now card.now self.old before }
+        ensures { (before : List SpecCard) → IsStorageBeforeCard source.now card.now self.old before → IsStorage source.now (before ++ card.now ∷ []) self.new }
     {
-        Storage {
-            names: names_with(self.names, source, card),
-            constants: constants_with(self.constants, source, card),
-            all_names: self.all_names,
-        }
+        self.names = names_with(self.names, source, card);
+        self.constants = constants_with(self.constants, source, card);
     }
 }

@@ -72,6 +72,9 @@ pub(crate) fn names_with(names: Totals, source: &IndexedCards, card: &SpecCard) 
     requires seen { (before : List SpecCard) × SeenBefore HasNames definitions source.now card.now names before }
     ensures { CountsCard HasNames definitions source.now card.now names result }
 {
+    if !card.may_define() {
+        return names;
+    }
     let defined = card.definitions();
     let items = defined.as_slice();
     let mut names = names;
@@ -105,6 +108,9 @@ pub(crate) fn constants_with(constants: Totals, source: &IndexedCards, card: &Sp
     requires seen { (before : List SpecCard) × SeenBefore HasConstants constants_in source.now card.now constants before }
     ensures { CountsCard HasConstants constants_in source.now card.now constants result }
 {
+    if !card.may_have_constants() {
+        return constants;
+    }
     let written = card.constants();
     let items = written.as_slice();
     let mut constants = constants;

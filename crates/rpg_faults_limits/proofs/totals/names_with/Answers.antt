@@ -1,6 +1,7 @@
-use Rattle.std.proofs.Common.{sym, ◌∙◌, subst, arith}
+use Rattle.std.proofs.Common.{◌≡◌, Bool, [], sym, ◌∙◌, subst, append-nil, arith}
+use Rattle.std.specs.Bool.{OnFalse}
 use Rattle.rpg_cards.proofs.ItemLemmas.{few_definitions, definitions-append}
-use Rattle.rpg_cards.specs.Names.{definitions}
+use Rattle.rpg_cards.specs.Names.{definitions, definitions_on}
 use Rattle.rpg_faults_limits.proofs.TotalLemmas.{all_seen, at_start, names_push, one_seen, some_in_front, within}
 use Rattle.rpg_faults_limits.specs.Totals.{HasNames}
 use Rattle.rpg_faults_limits.proofs.totals.names_with.Goals as goal
@@ -31,3 +32,9 @@ pub returns : goal.returns
 returns c before seen =
     all_seen HasNames (λ xs t has. has.count) definitions definitions-append c.args.source.now before c.args.card.now c.as_slice-items.result.now
     (names_push before c.args.card.now c.as_slice-items.result.now (c.as_slice-items.ensures.value ∙ c.definitions-defined.ensures)) c.args.names seen c.loop-definition.definition-index c.loop-definition.names c.loop-definition.invariant (omega arith)
+
+pub returns-then-not-may_define : goal.returns-then-not-may_define
+returns-then-not-may_define c before seen =
+    let card = c.args.card.now in
+    let none : definitions_on card.spec ≡ [] = subst (λ (b : Bool). OnFalse b (definitions_on card.spec ≡ [])) c.if-not-may_define.true c.may_define.ensures in
+    subst (λ l. HasNames l c.args.names) (sym (names_push before card [] (sym none) ∙ append-nil (definitions before))) seen.1
