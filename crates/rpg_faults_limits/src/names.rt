@@ -24,6 +24,9 @@ pub fn redefines(
     requires limits { AreLimits source.now before.now (card.now ∷ after.now) limits.now }
     ensures { result ≡ names.redefines before.now card.now }
 {
+    if !card.may_define() {
+        return false;
+    }
     are_other(
         source,
         limits.storage.names.items,
