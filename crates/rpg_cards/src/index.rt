@@ -264,6 +264,9 @@ fn note_names(
     ensures place { IfOk result (λ place. place ≡ start + length (definitions_on card.now.spec)) }
     ensures noted { OnOk result (NotesNames start (definitions_on card.now.spec) names.old.entries names.new.entries) }
 {
+    if !card.may_define() {
+        return Ok(start);
+    }
     let definitions = card.definitions();
     let mut place = start;
     for definition in definitions.as_slice() {
@@ -288,6 +291,9 @@ fn note_constants(
     ensures place { IfOk result (λ place. place ≡ start + length (constants_on card.now.spec)) }
     ensures noted { OnOk result (NotesConstants start (constants_on card.now.spec) constants.old.entries constants.new.entries) }
 {
+    if !card.may_have_constants() {
+        return Ok(start);
+    }
     let given = card.constants();
     let mut place = start;
     for constant in given.as_slice() {
