@@ -9,7 +9,7 @@ top=$(cd "$(dirname "$0")/.." && pwd)
 rpg2=${RPG2:-$top/crates/rpg2/out/rpg2}
 rounds=${ROUNDS:-5}
 kinds=${KINDS:-names literals both constants plain labels groups group calls entries levels data decks
-    no-files no-data no-labels no-ends SHEET-H SHEET-F SHEET-E SHEET-I SHEET-C SHEET-O SHEET-D}
+    no-files no-uses no-data no-labels no-ends SHEET-H SHEET-F SHEET-E SHEET-I SHEET-C SHEET-O SHEET-D}
 
 work=$(mktemp -d)
 trap 'rm -rf "$work"' EXIT

@@ -16,6 +16,7 @@ usage: bench/sources.py KIND CARDS > SOURCE
     group       one calculation of as many AN and OR cards as there is room for; then output fields
     decks       arrays, each with one card of data of its own; then output fields
     no-files    record types and lines that name files which no card has
+    no-uses     F cards with a new name each, of uses that are taken, and record types that name files which no card has
     no-data     arrays whose data are missing
     no-labels   jumps to labels that no card gives
     no-ends     subroutines without an end, each in the one before it
@@ -135,6 +136,14 @@ def no_files(cards):
         yield card("O", (7, name(number)), (15, "D"), (23, " 01"))
 
 
+def no_uses(cards):
+    """Further input files, and record types of files that aren't there."""
+    for number in range(cards // 2):
+        yield card("F", (7, name(number)), (15, "IPE"), (19, "F"), (24, "  80"), (40, "DISK40"))
+    for number in range(cards - cards // 2):
+        yield card("I", (7, name(number) + "X"), (15, "AA"), (19, "01"))
+
+
 def no_data(cards):
     """Arrays that need data."""
     for number in range(cards):
@@ -206,7 +215,7 @@ def output_field(kind, number):
 WHOLE = {"labels": labels, "groups": groups, "calls": calls, "entries": entries, "levels": levels, "group": group}
 
 # After two files, where nearly each card has a fault.
-FAULTY = {"no-files": no_files, "no-data": no_data, "no-labels": no_labels, "no-ends": no_ends}
+FAULTY = {"no-files": no_files, "no-uses": no_uses, "no-data": no_data, "no-labels": no_labels, "no-ends": no_ends}
 
 
 def extension(kind, cards):
