@@ -60,4 +60,4 @@ matches_up_to fs cards = valid_matches (fs ++ matched_fields (followers input_ro
 abbrev pub MakesOf : List InputFieldSpec → SpecCard → Option (List ℕ) → Further → Type 0
 MakesOf fs card found further.OtherType = (rest : List SpecCard) → found ≡ matches_up_to fs (card ∷ rest)
 MakesOf fs card found further.Bad = (rest : List SpecCard) → None ≡ matches_up_to fs (card ∷ rest)
-MakesOf fs card found (further.FlowFaults more) = (gs : List InputFieldSpec) × AreValid gs more × ((rest : List SpecCard) → matches_up_to gs rest ≡ matches_up_to fs (card ∷ rest))
+MakesOf fs card found (further.Lengths more) = (gs : List InputFieldSpec) × AreValid gs more × ((rest : List SpecCard) → matches_up_to gs rest ≡ matches_up_to fs (card ∷ rest))

@@ -42,7 +42,7 @@ enum Further {
     /// A level appears twice, or the columns are bad.
     Bad,
     /// The lengths including those of the card.
-    FlowFaults(Option<[u16; 9]>),
+    Lengths(Option<[u16; 9]>),
 }
 
 impl OpenMatches {
@@ -183,7 +183,7 @@ fn valid_matches(after: &[SpecCard]) -> Option<[u16; 9]>
         match matches_on(found, card) {
             Further::OtherType => return found,
             Further::Bad => return None,
-            Further::FlowFaults(lengths) => found = lengths,
+            Further::Lengths(lengths) => found = lengths,
         }
         rest = following;
     }
@@ -197,14 +197,14 @@ fn matches_on(found: Option<[u16; 9]>, card: &SpecCard) -> Further
     match card.input() {
         Some(InputSpec::Type(_)) => Further::OtherType,
         Some(InputSpec::Field(field)) => match field.match_level {
-            None => Further::FlowFaults(found),
+            None => Further::Lengths(found),
             Some(level) => match lengths_with(found, level.number(), columns_of(field)) {
                 None => Further::Bad,
-                Some(lengths) => Further::FlowFaults(Some(lengths)),
+                Some(lengths) => Further::Lengths(Some(lengths)),
             },
         },
-        Some(InputSpec::And(_)) => Further::FlowFaults(found),
-        None => Further::FlowFaults(found),
+        Some(InputSpec::And(_)) => Further::Lengths(found),
+        None => Further::Lengths(found),
     }
 }
 

@@ -28,7 +28,7 @@ cards-preserved c =
     let rest = c.in-Some.following.now in
     let split : c.cards.rest.now ≡ card ∷ rest = search rules in
     let so_far = c.cards.invariant in
-    let more = c.in-FlowFaults.ensures so_far.0 so_far.1 in
+    let more = c.in-Lengths.ensures so_far.0 so_far.1 in
     (more.0, more.1, more.2 rest ∙ ap (matches_up_to so_far.0) (sym split) ∙ so_far.2)
 
 pub returns : goal.returns
