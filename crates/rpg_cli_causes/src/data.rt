@@ -3,8 +3,8 @@
 use crate::forms::noun;
 use crate::spot::Spot;
 use rpg_causes::{DataCause, EntryCause, EntryFault, Need};
+use rpg_cli_explain::sentence_of;
 use rpg_cli_text::TextWriter;
-use rpg_faults::FaultCode;
 
 const WANTED: &str = ": {} {}, {} a card, {} {} {} of data, and ";
 
@@ -61,7 +61,7 @@ const SPARE: &str = ": it is ** card {}, and {} {}";
 
 /// F18: what is wrong with the data of a table.
 pub(crate) fn write_data(out: &mut TextWriter, spot: Spot<'_>, cause: &DataCause) {
-    out.write_str(FaultCode::F18.sentence());
+    out.write_str(sentence_of("F18"));
     match cause {
         DataCause::NoData => out.write_str(": a table has data, and 33-35 are blank"),
         DataCause::NoDeck => out.write_str(": no ** card is left for them"),

@@ -2,8 +2,8 @@
 
 use crate::forms::noun;
 use rpg_causes::{EditingCause, Mismatch};
+use rpg_cli_explain::sentence_of;
 use rpg_cli_text::TextWriter;
-use rpg_faults::FaultCode;
 
 /// Writes how many digits a number has.
 fn write_digits(out: &mut TextWriter, name: &[u8], length: u16, decimals: u8) {
@@ -17,7 +17,7 @@ fn write_digits(out: &mut TextWriter, name: &[u8], length: u16, decimals: u8) {
 /// F17: what the number has, and what its code or word allows.
 pub(crate) fn write_editing(out: &mut TextWriter, cause: &EditingCause) {
     let name = cause.name.as_slice();
-    out.write_str(FaultCode::F17.sentence());
+    out.write_str(sentence_of("F17"));
     match cause.mismatch {
         Mismatch::Fill => {}
         Mismatch::Text { length } => {

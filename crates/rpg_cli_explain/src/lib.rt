@@ -14,4 +14,4 @@ mod topic;
 mod warnings;
 
 pub use text::{all_pages, list_text, pages_text};
-pub use topic::{HALTS, Topic, topic_of};
+pub use topic::{HALTS, Topic, sentence_of, topic_of};

@@ -140,3 +140,11 @@ pub fn topic_of(code: &str) -> Option<Topic> {
     }
     None
 }
+
+/// Returns the sentence of a code, such as `F17` or `B3`; empty if there is no such code.
+pub fn sentence_of(code: &str) -> &'static str {
+    match topic_of(code) {
+        None => "",
+        Some(topic) => topic.sentence(),
+    }
+}

@@ -5,6 +5,7 @@ use crate::columns::{BadInput, bad_columns, columns_of};
 use crate::lines::write_indexed_fields;
 use crate::record::{bad_byte, write_too_long};
 use crate::source::{HaltedSource, write_source};
+use rpg_cli_explain::Topic;
 use rpg_cli_messages::write_byte_cause;
 use rpg_cli_refusals::write_instruction_at;
 use rpg_cli_text::TextWriter;
@@ -200,7 +201,9 @@ impl HaltContext<'_> {
                     lower.follows.into(),
                 ],
             ),
-            RecordProblem::Input(_, _) | RecordProblem::Nothing => out.write_str(halt.sentence()),
+            RecordProblem::Input(_, _) | RecordProblem::Nothing => {
+                out.write_str(Topic::Halt(usize::from(halt.number())).sentence());
+            }
         }
     }
 

@@ -10,6 +10,7 @@ use crate::unmarked::write_unmarked;
 use rpg_cards::IndexedCards;
 use rpg_cli_causes::{AnalyzedCards, Root, SourceCards, root_of, write_cause};
 use rpg_cli_columns::{character_at, write_bad_columns, write_form_type};
+use rpg_cli_explain::sentence_of;
 use rpg_cli_text::TextWriter;
 use rpg_faults::{CardFault, SourceCode};
 use rpg_sheet::{ColumnFault, SheetCode};
@@ -243,7 +244,7 @@ pub(crate) fn write_sentence(
     match fault.code {
         SourceCode::Fault(code) => {
             if !write_cause(out, source, line, fault.card, fault.columns, code) {
-                out.write_str(code.sentence());
+                out.write_str(sentence_of(code.text()));
             }
         }
         SourceCode::Sheet(SheetCode::S1) => write_long_line(out, line),

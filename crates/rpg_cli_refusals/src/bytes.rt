@@ -2,6 +2,7 @@
 
 use crate::fields::counted;
 use crate::spot::{Spot, spot_at};
+use rpg_cli_explain::sentence_of;
 use rpg_cli_text::{Piece, TextWriter};
 use rpg_object_format::fault::Code;
 use rpg_text::first_line;
@@ -87,7 +88,8 @@ pub fn bytes_message(
 ) -> Result<String, AllocError> {
     let mut out = TextWriter::new(alloc);
     let path = Piece::Outside(path.as_bytes());
-    let (text, sentence) = (code.text(), code.sentence());
+    let text = code.text();
+    let sentence = sentence_of(text);
     if matches!(code, Code::NoObject) && begins_source(bytes) {
         out.fill(SOURCE, &[path, text.into(), sentence.into()]);
         return out.finish();

@@ -2,6 +2,7 @@
 
 use crate::causes::write_cause;
 use crate::rows::write_row;
+use rpg_cli_explain::Topic;
 use rpg_cli_text::{Piece, TextWriter};
 use rpg_program::Program;
 use rpg_refusal_causes::refusal;
@@ -14,7 +15,8 @@ pub fn rule_message(alloc: Global, path: &str, program: &Program) -> Result<Stri
     if let Some(refusal) = refusal(program) {
         let broken = refusal.broken;
         let path = Piece::Outside(path.as_bytes());
-        let (number, sentence) = (broken.rule.number(), broken.rule.sentence());
+        let number = broken.rule.number();
+        let sentence = Topic::Rule(usize::from(number)).sentence();
         out.fill("{}: V{}: {}", &[path, number.into(), sentence.into()]);
         write_row(&mut out, program, broken);
         write_cause(&mut out, program.rows(), broken.row, refusal.cause);

@@ -1,5 +1,6 @@
 //! What the rows of a program are printed from, and what they share.
 
+use rpg_cli_explain::Topic;
 use rpg_cli_show_fields::{SourceRows, constant_of, name_text, write_card_operand, write_value};
 use rpg_cli_text::TextWriter;
 use rpg_program::operation::{Index, Operand};
@@ -40,11 +41,16 @@ fn table_of(rule: Rule) -> Table {
     }
 }
 
+/// Returns how a row breaks a rule, in words.
+fn sentence_of_rule(rule: Rule) -> &'static str {
+    Topic::Rule(usize::from(rule.number())).sentence()
+}
+
 const REFUSED: &str = "  refused  row {} by V{}: {}\n";
 
 /// Writes the row of a broken rule, the rule, and what is wrong.
 pub(crate) fn write_refusal(out: &mut TextWriter, broken: BrokenRule) {
-    let (number, sentence) = (broken.rule.number(), broken.rule.sentence());
+    let (number, sentence) = (broken.rule.number(), sentence_of_rule(broken.rule));
     out.fill_three(REFUSED, broken.row, number, sentence);
 }
 
@@ -67,7 +73,7 @@ impl Shown<'_> {
     pub fn write_broken(self, out: &mut TextWriter, table: Table, row: usize) {
         match self.broken {
             Some(broken) if broken.row == row && table_of(broken.rule) == table => {
-                let (number, sentence) = (broken.rule.number(), broken.rule.sentence());
+                let (number, sentence) = (broken.rule.number(), sentence_of_rule(broken.rule));
                 out.fill_two("        ^ V{}: {}\n", number, sentence);
             }
             _ => {}
