@@ -105,44 +105,4 @@ impl FaultCode {
             FaultCode::F18 => "F18",
         }
     }
-
-    /// Returns the rule that is broken, in words.
-    pub const fn sentence(self) -> &'static str {
-        match self {
-            FaultCode::F1 => "a name is used that no card defines",
-            FaultCode::F2 => "a name is defined again in another form",
-            FaultCode::F3 => {
-                "a length or decimals are past their limit, or decimals have no length"
-            }
-            FaultCode::F4 => {
-                "an operand is of the wrong kind, a result can't be written, or LOKUP's result has too few entries"
-            }
-            FaultCode::F5 => {
-                "an index is missing, not allowed, out of range, or not a plain whole number that is long enough"
-            }
-            FaultCode::F6 => "a limit is passed",
-            FaultCode::F7 => {
-                "a file is unknown, given twice, of the wrong use or length, or there is no input file"
-            }
-            FaultCode::F8 => "an indicator isn't allowed",
-            FaultCode::F9 => "a column is missing or isn't allowed",
-            FaultCode::F10 => "a label or a subroutine is missing",
-            FaultCode::F11 => {
-                "a label's or a subroutine's name is given twice, or is a field's too"
-            }
-            FaultCode::F12 => {
-                "sections are out of order, BEGSR and ENDSR aren't paired, or a card needs one before it"
-            }
-            FaultCode::F13 => "GOTO leads to another section",
-            FaultCode::F14 => "a subroutine calls itself, possibly through others",
-            FaultCode::F15 => "H isn't allowed, or MVR doesn't follow a division without H",
-            FaultCode::F16 => {
-                "a column is outside the record or the line, a field is wider than its end, or control or match fields don't agree"
-            }
-            FaultCode::F17 => "an edit code or an edit word doesn't fit",
-            FaultCode::F18 => {
-                "a table's data are missing, too few, too many, bad or out of sequence"
-            }
-        }
-    }
 }

@@ -27,14 +27,6 @@ impl SourceCode {
             SourceCode::Fault(code) => code.text(),
         }
     }
-
-    /// Returns what is wrong, in words.
-    pub const fn sentence(self) -> &'static str {
-        match self {
-            SourceCode::Sheet(code) => code.sentence(),
-            SourceCode::Fault(code) => code.sentence(),
-        }
-    }
 }
 
 /// A fault of a source at a card.

@@ -42,20 +42,6 @@ impl Code {
             Code::PastLimit => "B7",
         }
     }
-
-    /// What is wrong, in words.
-    pub const fn sentence(self) -> &'static str {
-        match self {
-            Code::NoObject => "the first six bytes aren't RPGOBJ, or are missing",
-            Code::Version => "the version is neither 1 nor 2",
-            Code::CutShort => "a number doesn't lie wholly inside the bytes",
-            Code::LeftOver => "bytes are left over after the last table",
-            Code::NotAllowed => "a value isn't among those that are allowed",
-            Code::Unused => "a number that isn't used is not 0",
-            Code::PastLimit =>
-                "a count, or the instructions or the storage in all, is past its limit",
-        }
-    }
 }
 
 impl fmt::Display for Code {

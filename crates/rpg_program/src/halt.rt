@@ -40,20 +40,4 @@ impl Halt {
             Halt::OutOfSequence => 8,
         }
     }
-
-    /// Returns what happened, in a sentence.
-    pub fn sentence(self) -> &'static str {
-        match self {
-            Halt::ZeroDivisor => "a calculation divides by zero",
-            Halt::BadIndex => "an index is outside its table or array",
-            Halt::NoRecordType => "the record fits no record type",
-            Halt::BadDigit => "a numeric field holds a character that isn't a digit",
-            Halt::AllowanceSpent =>
-                "the cycle has used up its allowance of backward branches and calls",
-            Halt::IndicatorOn => "a halt indicator is on",
-            Halt::BadRecord => "the record is too long, or a byte of it isn't a character",
-            Halt::OutOfSequence =>
-                "the record's match value is lower than the last one of its file",
-        }
-    }
 }

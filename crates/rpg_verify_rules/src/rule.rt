@@ -75,82 +75,6 @@ pub enum SubroutineRule {
     V24,
 }
 
-impl TypeRule {
-    const fn sentence(self) -> &'static str {
-        match self {
-            TypeRule::V3 => "a record type has a code at a position outside the record",
-            TypeRule::V4 => {
-                "a record type turns on an indicator other than 01 to 99, L1 to L9, LR and H1 to H9"
-            }
-            TypeRule::V5 => {
-                "a control field isn't columns of the record, or the fields of its level together have more than 256 columns, or not as many as in the first type that has it"
-            }
-            TypeRule::V6 => {
-                "an input field isn't columns of the record, or isn't for a plain field of the same length"
-            }
-            TypeRule::V7 => {
-                "an indicator of an input field can't be set, or a text has one for plus or minus"
-            }
-            TypeRule::V25 => "a record type is of a secondary file that the program doesn't have",
-            TypeRule::V26 => {
-                "a match field isn't columns of the record, or two are of one level, or a type's levels have other lengths than in the first type that has match fields, or more than 256 columns in all"
-            }
-        }
-    }
-}
-
-impl LineRule {
-    const fn sentence(self) -> &'static str {
-        match self {
-            LineRule::V2 => "a line is for a file that the program doesn't have",
-            LineRule::V8 => {
-                "a line spaces more than 3 lines or skips past line 66, or spaces or skips on the disk file"
-            }
-            LineRule::V9 => "an alternative is conditioned by MR",
-            LineRule::V10 => {
-                "what a line outputs isn't there or has a bad index, or PAGE isn't a plain number of 4 digits without decimals"
-            }
-            LineRule::V11 =>
-                "what is edited isn't a number that the code fits, or a fill isn't allowed there",
-            LineRule::V12 => {
-                "an edit word isn't a text constant of 1 to 24 characters that fits the number"
-            }
-            LineRule::V13 =>
-                "a field's text ends outside the line, or is longer than what is before its end",
-            LineRule::V14 => "blank after is given for a field that may not be written",
-            LineRule::V15 => "a field is conditioned by MR",
-        }
-    }
-}
-
-impl PlaceRule {
-    const fn sentence(self) -> &'static str {
-        match self {
-            PlaceRule::V16 => "an operand isn't there, or has a bad index or none that it needs",
-            PlaceRule::V17 => "an operand isn't of a kind that the operation takes",
-            PlaceRule::V18 => "a result may not be written",
-            PlaceRule::V19 => "an indicator is missing, or isn't one that may stand there",
-            PlaceRule::V20 => {
-                "the result of LOKUP isn't a table with enough entries, or factor 2's index can't hold the number of its entries"
-            }
-            PlaceRule::V21 => "a branch leads out of its section",
-            PlaceRule::V22 =>
-                "a call leads to no subroutine, or to one whose level isn't above the caller's",
-        }
-    }
-}
-
-impl SubroutineRule {
-    const fn sentence(self) -> &'static str {
-        match self {
-            SubroutineRule::V23 => {
-                "a subroutine doesn't end in its own RET, or a RET is somewhere else"
-            }
-            SubroutineRule::V24 => "a subroutine's level isn't 1 to 100",
-        }
-    }
-}
-
 /// A rule, by the table that its rows are in.
 #[derive(Clone, Copy)]
 pub enum Rule {
@@ -203,16 +127,6 @@ impl Rule {
             Rule::Subroutine(SubroutineRule::V24) => 24,
             Rule::Type(TypeRule::V25) => 25,
             Rule::Type(TypeRule::V26) => 26,
-        }
-    }
-    /// How a row breaks the rule, in words.
-    pub const fn sentence(self) -> &'static str {
-        match self {
-            Rule::Overflow => "there is an overflow indicator, but no printer",
-            Rule::Type(rule) => rule.sentence(),
-            Rule::Line(rule) => rule.sentence(),
-            Rule::Place(rule) => rule.sentence(),
-            Rule::Subroutine(rule) => rule.sentence(),
         }
     }
 }
