@@ -4,4 +4,3 @@ pub mod GroupLemmas
 pub mod IndexLemmas
 pub mod InsertLemmas
 pub mod ItemLemmas
-pub mod SheetLemmas

@@ -14,5 +14,4 @@ pub mod Names
 pub mod Plain
 pub mod SameConstants
 pub mod Sections
-pub mod Sheets
 pub mod Times

@@ -12,7 +12,6 @@ mod indicators;
 mod labels;
 mod levels;
 mod names;
-mod sheets;
 mod spec_card;
 mod statements;
 mod times;
@@ -30,7 +29,6 @@ pub use labels::{
 pub use levels::has_match_field;
 pub use names::{Defined, Definition, field_form, is_table, sized_form, table_form};
 pub use rpg_sheet_specs::{Column, Content, Kinds, OperationColumns, Shown, columns};
-pub use sheets::{GroupFile, Groups, Sheets};
 pub use spec_card::SpecCard;
 pub use statements::has_instruction;
 pub use times::{line_conditions_on, time_of};

@@ -5,14 +5,15 @@ ghost use Rattle.std.specs.Option.{option_map};
 ghost use Rattle.rpg_cards.specs.Cards.{output_record_on};
 ghost use Rattle.rpg_cards.specs.Files as known;
 ghost use Rattle.rpg_cards.specs.Groups.{open_file, output_role};
-ghost use Rattle.rpg_cards.specs.Sheets.{AreSheets};
+ghost use Rattle.rpg_faults_limits.specs.Sheets.{AreSheets};
 ghost use Rattle.rpg_cards.specs.declared.files.FileUse.{FileUse};
 ghost use Rattle.rpg_causes.specs.Files as causes;
 ghost use Rattle.rpg_causes.specs.Movements as movements;
 ghost use Rattle.rpg_causes.specs.declared.files.FileUser.TheVariants as user;
 ghost use Rattle.rpg_faults_limits.specs.Files as rules;
 
-use rpg_cards::{FileUse, IndexedCards, Sheets, SpecCard, file_for, use_of};
+use rpg_cards::{FileUse, IndexedCards, SpecCard, file_for, use_of};
+use rpg_faults_limits::Sheets;
 use rpg_sheet_specs::{FileSpec, Movement, Word};
 
 /// A file with the number of its F card.

@@ -1,12 +1,12 @@
 //! The state after the cards before a card, for the codes whose causes need it.
 
 ghost use Rattle.std.specs.Prelude.{◌≡◌, [], ◌∷◌, ◌++◌};
-ghost use Rattle.rpg_cards.specs.Sheets.{AreSheets};
+ghost use Rattle.rpg_faults_limits.specs.Sheets.{AreSheets};
 ghost use Rattle.rpg_faults_limits.specs.State.{AreLimits};
 
-use rpg_cards::{IndexedCards, Sheets, SpecCard};
+use rpg_cards::{IndexedCards, SpecCard};
 use rpg_causes_operands::with_card;
-use rpg_faults_limits::Limits;
+use rpg_faults_limits::{Limits, Sheets};
 use rpg_faults_tree::AnalyzedCards;
 
 /// Returns no cards, as before the first one.

@@ -1,11 +1,12 @@
 //! F12 of I and O cards: cards without the card that they continue or belong to.
 
 ghost use Rattle.std.specs.Prelude.{◌≡◌, is_some};
-ghost use Rattle.rpg_cards.specs.Sheets.{AreSheets};
+ghost use Rattle.rpg_faults_limits.specs.Sheets.{AreSheets};
 ghost use Rattle.rpg_causes_flow.specs.Strays as causes;
 ghost use Rattle.rpg_faults_flow.specs.Strays as rules;
 
-use rpg_cards::{IndexedCards, Sheets, SpecCard};
+use rpg_cards::{IndexedCards, SpecCard};
+use rpg_faults_limits::Sheets;
 use rpg_sheet_specs::{InputSpec, OutputSpec};
 
 /// What an I or O card lacks before it.

@@ -7,8 +7,8 @@ use Rattle.rpg_cards.specs.Cards.{input_on, output_field_on}
 use Rattle.rpg_cards.specs.Files.{file_by}
 use Rattle.rpg_cards.specs.Groups.{Group, followers, groups, input_role, open_file, open_group, output_role}
 use Rattle.rpg_cards.specs.Levels.{control_level, fields_at, fields_with, is_at, is_match_field, match_level}
-use Rattle.rpg_cards.specs.Sheets.{group_file}
-use Rattle.rpg_cards.specs.declared.sheets.GroupFile.{GroupFile}
+use Rattle.rpg_faults_limits.specs.Sheets.{group_file}
+use Rattle.rpg_faults_limits.specs.declared.sheets.GroupFile.{GroupFile}
 use Rattle.rpg_cards.specs.declared.spec_card.SpecCard.{SpecCard}
 use Rattle.rpg_faults_operands.specs.Editing.{width}
 use Rattle.rpg_sheet_specs.specs.declared.file.FileSpec.{FileSpec}

@@ -1,6 +1,6 @@
 -- The state after the cards before a card.
 use Rattle.std.specs.Prelude.{◌≡◌, ◌≤◌, ◌++◌, List, length, option_copied}
-use Rattle.rpg_cards.specs.Sheets.{AreSheets}
+use Rattle.rpg_faults_limits.specs.Sheets.{AreSheets}
 use Rattle.rpg_cards.specs.declared.spec_card.SpecCard.{SpecCard}
 use Rattle.rpg_faults.specs.declared.seen.Seen.{Seen}
 use Rattle.rpg_faults_flow.specs.GroupEnd.{EndsGroup}

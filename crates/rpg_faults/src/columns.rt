@@ -2,13 +2,14 @@
 
 ghost use Rattle.std.specs.Prelude.{◌≡◌, ◌≤◌, ◌∷◌, ◌++◌, Option, length};
 ghost use Rattle.std.specs.Option.{option_map};
-ghost use Rattle.rpg_cards.specs.Sheets.{AreSheets};
+ghost use Rattle.rpg_faults_limits.specs.Sheets.{AreSheets};
 ghost use Rattle.rpg_faults.specs.Places as rules;
 ghost use Rattle.rpg_faults.specs.State.{IsPlaces};
 ghost use Rattle.rpg_sheet_specs.specs.declared.file.FileSpec.{FileSpec};
 
 use crate::state::Places;
-use rpg_cards::{GroupFile, IndexedCards, Sheets, SpecCard};
+use rpg_cards::{IndexedCards, SpecCard};
+use rpg_faults_limits::{GroupFile, Sheets};
 use rpg_faults_operands::width;
 use rpg_sheet_specs::{InputFieldSpec, InputSpec, OutputField, RecordCode, Three};
 

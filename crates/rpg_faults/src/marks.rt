@@ -2,7 +2,7 @@
 
 ghost use Rattle.std.specs.Prelude.{◌≡◌, ◌∷◌, Option};
 ghost use Rattle.std.specs.Option.{option_map};
-ghost use Rattle.rpg_cards.specs.Sheets.{AreSheets};
+ghost use Rattle.rpg_faults_limits.specs.Sheets.{AreSheets};
 ghost use Rattle.rpg_faults.specs.Marks as marks;
 ghost use Rattle.rpg_faults.specs.Seen.{AreCardsSeen};
 ghost use Rattle.rpg_faults.specs.State.{IsPlaces};
@@ -13,7 +13,8 @@ use crate::columns::{is_outside, outside_record, own_length};
 use crate::lengths::JoinedLengths;
 use crate::seen::Seen;
 use crate::state::Places;
-use rpg_cards::{IndexedCards, Sheets, SpecCard};
+use rpg_cards::{IndexedCards, SpecCard};
+use rpg_faults_limits::Sheets;
 use rpg_faults_tree::AnalyzedCards;
 use rpg_sheet_specs::{ColumnFault, ColumnRange, InputFieldSpec, InputSpec, RecordCode, Three};
 

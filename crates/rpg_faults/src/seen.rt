@@ -4,9 +4,9 @@ ghost use Rattle.std.specs.Prelude.{◌≡◌, [], ◌∷◌, ◌++◌};
 ghost use Rattle.rpg_faults.specs.Seen.{AreCardsSeen};
 
 use crate::Places;
-use rpg_cards::{IndexedCards, Sheets, SpecCard};
+use rpg_cards::{IndexedCards, SpecCard};
 use rpg_faults_flow::{first_group_end, next_group_end};
-use rpg_faults_limits::Limits;
+use rpg_faults_limits::{Limits, Sheets};
 use rpg_faults_tree::{AnalyzedCards, Counts};
 use rpg_sheet_specs::CalculationSpec;
 

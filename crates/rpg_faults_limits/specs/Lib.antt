@@ -3,5 +3,6 @@ pub mod Files
 pub mod Limits
 pub mod Marks
 pub mod Names
+pub mod Sheets
 pub mod State
 pub mod Totals

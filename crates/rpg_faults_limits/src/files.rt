@@ -4,10 +4,11 @@ ghost use Rattle.std.specs.Prelude.{◌≡◌, ◌∷◌, ◌++◌, false, optio
 ghost use Rattle.std.specs.Option.{option_map_or, option_or};
 ghost use Rattle.rpg_cards.specs.Files as known;
 ghost use Rattle.rpg_cards.specs.Groups.{open_file, output_role};
-ghost use Rattle.rpg_cards.specs.Sheets.{AreSheets};
+ghost use Rattle.rpg_faults_limits.specs.Sheets.{AreSheets};
 ghost use Rattle.rpg_faults_limits.specs.Files as files;
 
-use rpg_cards::{FileUse, IndexedCards, Sheets, SpecCard, use_of};
+use crate::sheets::Sheets;
+use rpg_cards::{FileUse, IndexedCards, SpecCard, use_of};
 use rpg_sheet_specs::{FileSpec, Movement, OutputRecord, Word};
 
 /// F7, on a card: an F card whose name or use is taken, whose column 17 doesn't agree with the other input file's, or whose records are too

@@ -9,6 +9,7 @@ mod lines;
 mod marks;
 mod measures;
 mod names;
+mod sheets;
 mod state;
 mod storage;
 mod totals;
@@ -21,4 +22,5 @@ pub use marks::{
 };
 pub use measures::{Limit, LimitCause};
 pub use names::{bad_size, redefines};
+pub use sheets::{GroupFile, Groups, Sheets};
 pub use state::Limits;

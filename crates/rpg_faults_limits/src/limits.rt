@@ -3,7 +3,7 @@
 ghost use Rattle.std.specs.Prelude.{◌≡◌, [], ◌∷◌, ◌++◌, ◌≤◌, is_some, length, option_and_then};
 ghost use Rattle.rpg_cards.specs.Cards.{extension_on};
 ghost use Rattle.rpg_cards.specs.Groups.{input_role, open_group, output_role};
-ghost use Rattle.rpg_cards.specs.Sheets.{AreSheets};
+ghost use Rattle.rpg_faults_limits.specs.Sheets.{AreSheets};
 ghost use Rattle.rpg_faults_limits.specs.Causes as causes;
 ghost use Rattle.rpg_faults_limits.specs.Limits as rules;
 ghost use Rattle.rpg_faults_limits.specs.State.{AreCalculations, AreLimits, HasFewOnLine, HasFewOnType, IsOpenLine, IsOpenType, IsStorage};
@@ -11,9 +11,10 @@ ghost use Rattle.rpg_faults_limits.specs.State.{AreCalculations, AreLimits, HasF
 use crate::calculations::Calculations;
 use crate::lines::OpenLine;
 use crate::measures::{Limit, LimitCause, counted, first_past};
+use crate::sheets::Sheets;
 use crate::state::Limits;
 use crate::types::OpenType;
-use rpg_cards::{IndexedCards, Sheets, SpecCard};
+use rpg_cards::{IndexedCards, SpecCard};
 
 /// F6: a limit that is exceeded with the card.
 pub fn passes_limit(

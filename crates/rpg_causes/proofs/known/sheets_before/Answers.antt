@@ -1,6 +1,6 @@
 use Rattle.std.proofs.Common.{◌≡◌, ◌≤◌, ◌+◌, [], ◌∷◌, ◌++◌, ◌∙◌, length, ap, append_assoc, sym, subst, arith}
 use Rattle.std.proofs.lemmas.List.{length_push}
-use Rattle.rpg_cards.specs.Sheets.{AreSheets}
+use Rattle.rpg_faults_limits.specs.Sheets.{AreSheets}
 use Rattle.rpg_causes.proofs.Fronts.{not_all, nothing_left, same_front}
 use Rattle.rpg_causes.proofs.known.sheets_before.Goals as goal
 

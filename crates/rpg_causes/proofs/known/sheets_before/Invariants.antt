@@ -1,5 +1,5 @@
 use Rattle.std.proofs.Common.{◌≡◌, ◌++◌, ◌≤◌, length}
-use Rattle.rpg_cards.specs.Sheets.{AreSheets}
+use Rattle.rpg_faults_limits.specs.Sheets.{AreSheets}
 use Rattle.rpg_causes.proofs.known.sheets_before.Given as goal
 
 abbrev pub invariant-loop-next : goal.invariant-loop-next

@@ -4,12 +4,10 @@ ghost use Rattle.std.specs.Prelude.{◌≡◌, ◌+◌, ◌≤◌, [], ◌∷◌
 ghost use Rattle.std.specs.Option.{option_map};
 ghost use Rattle.rpg_cards.specs.Files as files;
 ghost use Rattle.rpg_cards.specs.Groups.{input_role, output_role};
-ghost use Rattle.rpg_cards.specs.Sheets.{AreSheets, file_or, group_file, with_role};
+ghost use Rattle.rpg_faults_limits.specs.Sheets.{AreSheets, file_or, group_file, with_role};
 ghost use Rattle.rpg_cards.specs.declared.spec_card.SpecCard.{SpecCard};
 
-use crate::files::{FileUse, use_of};
-use crate::index::IndexedCards;
-use crate::spec_card::SpecCard;
+use rpg_cards::{FileUse, IndexedCards, SpecCard, use_of};
 use rpg_sheet_specs::{InputSpec, OutputSpec, Word};
 
 /// What the cards of a group need from its file.

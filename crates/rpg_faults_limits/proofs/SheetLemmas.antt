@@ -4,9 +4,9 @@ use Rattle.std.specs.Option.{option_map, option_or}
 use Rattle.rpg_cards.proofs.GroupLemmas.{groups-push, one_if_heading, open_group-push}
 use Rattle.rpg_cards.specs.Files.{file_by}
 use Rattle.rpg_cards.specs.Groups.{Apart, Follower, Group, Heading, Role, file_of_group, open_group, with_card}
-use Rattle.rpg_cards.specs.Sheets.{HasGroups, IsOpen, file_or, group_file, with_role}
-use Rattle.rpg_cards.specs.declared.sheets.GroupFile.{GroupFile}
-use Rattle.rpg_cards.specs.declared.sheets.Groups.{Groups}
+use Rattle.rpg_faults_limits.specs.Sheets.{HasGroups, IsOpen, file_or, group_file, with_role}
+use Rattle.rpg_faults_limits.specs.declared.sheets.GroupFile.{GroupFile}
+use Rattle.rpg_faults_limits.specs.declared.sheets.Groups.{Groups}
 use Rattle.rpg_cards.specs.declared.spec_card.SpecCard.{SpecCard}
 use Rattle.rpg_sheet_specs.specs.declared.spec.Spec.{Spec}
 

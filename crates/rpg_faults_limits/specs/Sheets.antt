@@ -3,9 +3,9 @@ use Rattle.std.specs.Option.{option_map}
 use Rattle.std.specs.Prelude.{◌≡◌, ℕ, ◌+◌, ◌≤◌, true, List, length, Option, None, Some, is_some}
 use Rattle.rpg_cards.specs.Files.{file_by, file_named, file_use}
 use Rattle.rpg_cards.specs.Groups.{Apart, Follower, Group, Heading, Role, file_of_group, group_count, input_role, open_group, output_role}
-use Rattle.rpg_cards.specs.declared.sheets.GroupFile.{GroupFile}
-use Rattle.rpg_cards.specs.declared.sheets.Groups.{Groups}
-use Rattle.rpg_cards.specs.declared.sheets.Sheets.{Sheets}
+use Rattle.rpg_faults_limits.specs.declared.sheets.GroupFile.{GroupFile}
+use Rattle.rpg_faults_limits.specs.declared.sheets.Groups.{Groups}
+use Rattle.rpg_faults_limits.specs.declared.sheets.Sheets.{Sheets}
 use Rattle.rpg_cards.specs.declared.spec_card.SpecCard.{SpecCard}
 use Rattle.rpg_sheet_specs.specs.declared.file.FileSpec.{FileSpec}
 use Rattle.rpg_sheet_specs.specs.declared.input.InputSpec.{InputSpec}

@@ -1,8 +1,8 @@
 use Rattle.std.proofs.Common.{◌++◌, ◌∷◌, [], sym, subst}
 use Rattle.rpg_cards.specs.Groups.{input_role, output_role}
-use Rattle.rpg_cards.proofs.SheetLemmas.{groups_with}
-use Rattle.rpg_cards.specs.Sheets.{HasGroups}
-use Rattle.rpg_cards.proofs.sheets.Sheets.with.Goals as goal
+use Rattle.rpg_faults_limits.proofs.SheetLemmas.{groups_with}
+use Rattle.rpg_faults_limits.specs.Sheets.{HasGroups}
+use Rattle.rpg_faults_limits.proofs.sheets.Sheets.with.Goals as goal
 
 pub returns : goal.returns
 returns c =
