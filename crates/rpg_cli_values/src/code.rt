@@ -43,17 +43,4 @@ impl WarningCode {
             _ => None,
         }
     }
-
-    /// Returns what may be wrong, in words.
-    pub const fn sentence(self) -> &'static str {
-        match self {
-            WarningCode::W1 => "an indicator is tested, and nothing turns it on",
-            WarningCode::W2 => "an indicator is turned on, and no card tests it",
-            WarningCode::W3 => "a field overlaps another of the same line",
-            WarningCode::W4 => "a result has fewer digits before its point than a factor",
-            WarningCode::W5 => "a control level is tested, and no field has it",
-            WarningCode::W6 => "PAGE has conditions, and isn't set back to 1",
-            WarningCode::W7 => "SETON turns on a halt indicator, which ends the job",
-        }
-    }
 }

@@ -68,20 +68,6 @@ impl SheetCode {
             SheetCode::S6 => "S6",
         }
     }
-
-    /// Returns what is wrong, in words.
-    pub const fn sentence(self) -> &'static str {
-        match self {
-            SheetCode::S1 => "the card has more than 80 characters",
-            SheetCode::S2 => "the card has a byte that is no character",
-            SheetCode::S3 => "column 6 has no form type",
-            SheetCode::S4 => "the card's form type is earlier than one before",
-            SheetCode::S5 => {
-                "columns have a value that isn't allowed, or a column is filled that must be blank"
-            }
-            SheetCode::S6 => "it is card 2,001",
-        }
-    }
 }
 
 /// What is wrong with a card, with S5 also in which columns.
