@@ -189,7 +189,7 @@ fn on_calculations(
     None
 }
 
-/// Checks names and constants, and their bytes.
+/// Checks names and constants, and their bytes. Most cards have neither.
 fn on_storage(
     source: &IndexedCards,
     limits: &Limits,
@@ -200,6 +200,9 @@ fn on_storage(
     requires with_card { IsStorage source.now (before.now ++ card.now ∷ []) limits.now.storage_with_next }
     ensures { result ≡ causes.on_storage source.now before.now card.now }
 {
+    if !card.may_define() && !card.may_have_constants() {
+        return None;
+    }
     let storage = &limits.storage;
     let with = &limits.storage_with_next;
     let names = storage.names;

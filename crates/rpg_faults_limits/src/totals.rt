@@ -66,7 +66,8 @@ pub(crate) fn names_of(source: &IndexedCards) -> Totals
     names
 }
 
-/// Counts the names of one more card.
+/// Counts the names of one more card. Most cards define none.
+#[inline(always)]
 pub(crate) fn names_with(names: Totals, source: &IndexedCards, card: &SpecCard) -> Totals
     requires few { length source.now ≤ 2000 }
     requires seen { (before : List SpecCard) × SeenBefore HasNames definitions source.now card.now names before }
@@ -75,6 +76,15 @@ pub(crate) fn names_with(names: Totals, source: &IndexedCards, card: &SpecCard) 
     if !card.may_define() {
         return names;
     }
+    defined_names_with(names, source, card)
+}
+
+/// Like `names_with`, for a card that may define names.
+fn defined_names_with(names: Totals, source: &IndexedCards, card: &SpecCard) -> Totals
+    requires few { length source.now ≤ 2000 }
+    requires seen { (before : List SpecCard) × SeenBefore HasNames definitions source.now card.now names before }
+    ensures { CountsCard HasNames definitions source.now card.now names result }
+{
     let defined = card.definitions();
     let items = defined.as_slice();
     let mut names = names;
