@@ -31,7 +31,7 @@ loop-next-preserved c =
     record {
       split = here ∙ sym (append_assoc seen (next ∷ []) following) ∙ ap (λ b. b ++ following) (sym front);
       few = omega (arith, longer, c.if-place-count.false, c.loop-next.invariant.few);
-      limits = subst (λ b. AreLimits c.args.source.now.cards.now b following c.with-limits.result) (sym front) c.with-limits.ensures;
+      limits = subst (λ b. AreLimits c.args.source.now.cards.now b following c.pass.new.self) (sym front) c.pass.ensures;
     }
 
 pub returns-then-place-count : goal.returns-then-place-count
