@@ -13,7 +13,7 @@ or_known false true h = h refl
 or_known false false h = refl
 
 module _ {X : Type 0} (eq : X → X → Bool) (laws : IsEquivalence eq) where
-  alike : (known : List X) (x y : X) → eq x y ≡ true → list_any (eq x) known ≡ list_any (eq y) known
+  pub alike : (known : List X) (x y : X) → eq x y ≡ true → list_any (eq x) known ≡ list_any (eq y) known
   alike [] x y e = refl
   alike (z ∷ zs) x y e =
       let here = laws.congr x y z e in

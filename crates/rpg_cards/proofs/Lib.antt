@@ -1,6 +1,6 @@
-mod FileLemmas
+pub mod FieldLemmas
+pub mod FirstLemmas
 pub mod GroupEnds
 pub mod GroupLemmas
-pub mod IndexLemmas
 pub mod InsertLemmas
 pub mod ItemLemmas

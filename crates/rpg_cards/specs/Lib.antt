@@ -4,8 +4,8 @@ pub mod Cards
 pub mod Constants
 pub mod Statements
 pub mod Files
+pub mod First
 pub mod Groups
-pub mod Index
 pub mod Insertions
 pub mod Keys
 pub mod Labels

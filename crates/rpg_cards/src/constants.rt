@@ -1,9 +1,8 @@
 //! The constants on the cards themselves.
 
 ghost use Rattle.std.specs.Prelude.{◌≡◌, ◌≤◌, [], None, length, IsTrue};
-ghost use Rattle.std.specs.Bool.{OnFalse};
 ghost use Rattle.std.specs.List.{list_all};
-ghost use Rattle.std.specs.Option.{option_and_then};
+ghost use Rattle.std.specs.Option.{option_and_then, option_to_list};
 ghost use Rattle.rpg_text.specs.Texts.{is_character};
 ghost use Rattle.std.specs.Cmp.{partial_equiv_from_equiv};
 ghost use Rattle.rpg_cards.specs.Constants as constants;
@@ -185,58 +184,61 @@ impl SpecCard {
     pub fn constants(&self) -> Few<Constant>
         ensures { result ≡ constants.constants_on self.now.spec }
     {
-        if !self.may_have_constants() {
+        if self.constant_count() == 0 {
             return Few::new();
         }
         match &self.spec {
             Spec::Calculation(calculation) => of_factors(calculation),
-            Spec::Output(OutputSpec::Field(field)) => Few::of(of_field(field)),
+            Spec::Output(OutputSpec::Field(field)) => Few::of(text_constant(field)),
             _ => Few::new(),
         }
     }
 
-    /// Whether the card may have a constant. Most cards have none, and this test is cheaper than the list of their constants.
-    pub fn may_have_constants(&self) -> bool
-        ensures { OnFalse result (constants.constants_on self.now.spec ≡ []) }
+    /// Returns how many constants the card has.
+    pub fn constant_count(&self) -> usize
+        ensures { result ≡ length (constants.constants_on self.now.spec) }
     {
         match &self.spec {
             Spec::Calculation(calculation) => {
-                is_literal(&calculation.factor_1) || is_literal(&calculation.factor_2)
+                literal_count(&calculation.factor_1) + literal_count(&calculation.factor_2)
             }
-            Spec::Output(OutputSpec::Field(field)) => field.text.is_some(),
-            _ => false,
+            Spec::Output(OutputSpec::Field(field)) => {
+                usize::from(field.code.is_none() && field.text.is_some())
+            }
+            _ => 0,
         }
     }
 }
 
-fn is_literal(factor: &Option<Factor>) -> bool
-    ensures { OnFalse result (option_and_then constants.factor_constant factor.now ≡ None) }
+fn literal_count(factor: &Option<Factor>) -> usize
+    ensures { result ≡ length (option_to_list (option_and_then constants.factor_constant factor.now)) }
 {
     match factor {
-        None => false,
-        Some(Factor::Entry(_)) => false,
-        Some(Factor::Literal(_)) => true,
+        None => 0,
+        Some(Factor::Entry(_)) => 0,
+        Some(Factor::Literal(_)) => 1,
     }
 }
 
 fn of_factors(calculation: &CalculationSpec) -> Few<Constant>
     ensures { result ≡ constants.factor_constants calculation.now }
 {
-    let mut constants = Few::of(of_factor(&calculation.factor_1));
-    if let Some(constant) = of_factor(&calculation.factor_2) {
+    let mut constants = Few::of(constant_in(&calculation.factor_1));
+    if let Some(constant) = constant_in(&calculation.factor_2) {
         constants.push(constant);
     }
     constants
 }
 
-fn of_factor(factor: &Option<Factor>) -> Option<Constant>
+/// Returns the constant in a factor, if there is a factor and it is one.
+pub fn constant_in(factor: &Option<Factor>) -> Option<Constant>
     ensures { result ≡ option_and_then constants.factor_constant factor.now }
 {
     factor_constant(factor.as_ref()?)
 }
 
-/// A text beside an edit code is its fill, not a constant.
-fn of_field(field: &OutputField) -> Option<Constant>
+/// Returns the constant or the edit word of an output field. A text beside an edit code is its fill, not a constant.
+pub fn text_constant(field: &OutputField) -> Option<Constant>
     ensures { result ≡ constants.text_constant field.now }
 {
     if field.code.is_some() {

@@ -1,7 +1,6 @@
 //! The names that cards define, and their forms.
 
-ghost use Rattle.std.specs.Prelude.{◌≡◌, ◌≤◌, [], ◌∷◌, map, if◌then◌else◌};
-ghost use Rattle.std.specs.Bool.{OnFalse};
+ghost use Rattle.std.specs.Prelude.{◌≡◌, ◌≤◌, [], ◌∷◌, length, map, if◌then◌else◌};
 ghost use Rattle.std.specs.Option.{option_to_list};
 ghost use Rattle.rpg_cards.specs.Names as names;
 ghost use Rattle.rpg_symbols.specs.Fields as fields;
@@ -119,27 +118,28 @@ impl SpecCard {
     pub fn definitions(&self) -> Few<Definition>
         ensures { result ≡ names.definitions_on self.now.spec }
     {
-        if !self.may_define() {
+        if self.definition_count() == 0 {
             return Few::new();
         }
         match &self.spec {
             Spec::Extension(extension) => of_tables(extension),
-            Spec::Input(InputSpec::Field(field)) => Few::of(Some(of_field(field))),
-            Spec::Calculation(calculation) => Few::of(of_result(calculation)),
+            Spec::Input(InputSpec::Field(field)) => Few::of(Some(field_definition(field))),
+            Spec::Calculation(calculation) => Few::of(result_definition(calculation)),
             _ => Few::new(),
         }
     }
 
-    /// Whether the card may define a name. Most cards don't, and this test is cheaper than the list of their
-    /// definitions.
-    pub fn may_define(&self) -> bool
-        ensures { OnFalse result (names.definitions_on self.now.spec ≡ []) }
+    /// Returns how many names the card defines.
+    pub fn definition_count(&self) -> usize
+        ensures { result ≡ length (names.definitions_on self.now.spec) }
     {
         match &self.spec {
-            Spec::Extension(_) => true,
-            Spec::Input(InputSpec::Field(_)) => true,
-            Spec::Calculation(calculation) => calculation.length.is_some(),
-            _ => false,
+            Spec::Extension(extension) => 1 + usize::from(extension.alternating.is_some()),
+            Spec::Input(InputSpec::Field(_)) => 1,
+            Spec::Calculation(calculation) => {
+                usize::from(calculation.length.is_some() && calculation.result_field.is_some())
+            }
+            _ => 0,
         }
     }
 }
@@ -148,14 +148,15 @@ fn of_tables(extension: &ExtensionSpec) -> Few<Definition>
     ensures { result ≡ map (names.definition_in extension.now) (names.tables_on extension.now) }
 {
     let mut definitions = Few::new();
-    definitions.push(of_table(extension.entries, &extension.table));
+    definitions.push(table_definition(extension.entries, &extension.table));
     if let Some(table) = &extension.alternating {
-        definitions.push(of_table(extension.entries, table));
+        definitions.push(table_definition(extension.entries, table));
     }
     definitions
 }
 
-fn of_table(entries: u16, table: &TableSpec) -> Definition
+/// Returns what an E card defines by one of its tables or arrays.
+pub fn table_definition(entries: u16, table: &TableSpec) -> Definition
     ensures { result ≡ record { name = table.now.name; form = names.table_form entries table.now } }
 {
     Definition {
@@ -164,7 +165,8 @@ fn of_table(entries: u16, table: &TableSpec) -> Definition
     }
 }
 
-fn of_field(field: &InputFieldSpec) -> Definition
+/// Returns what an input field defines.
+pub fn field_definition(field: &InputFieldSpec) -> Definition
     ensures { result ≡ names.definition_of field.now }
 {
     Definition {
@@ -173,7 +175,8 @@ fn of_field(field: &InputFieldSpec) -> Definition
     }
 }
 
-fn of_result(calculation: &CalculationSpec) -> Option<Definition>
+/// Returns what a calculation defines: its result field, if it has a length.
+pub fn result_definition(calculation: &CalculationSpec) -> Option<Definition>
     ensures { result ≡ names.definition_by calculation.now }
 {
     let length = calculation.length?;
@@ -185,7 +188,7 @@ fn of_result(calculation: &CalculationSpec) -> Option<Definition>
 }
 
 /// Returns the form of a name that every program has.
-pub(crate) fn given_form(name: &Name) -> Option<FieldForm>
+pub fn given_form(name: &Name) -> Option<FieldForm>
     ensures { result ≡ fields.defined_form fields.given name.now }
 {
     if name.as_slice() == b"UDATE".as_slice() {

@@ -15,7 +15,8 @@ use crate::files::{FileCause, FileOnCard, file_cause, moved_disk};
 use crate::joins::{JoinCause, join_cause};
 use crate::known::{limits_before, no_cards, sheets_before};
 use crate::places::{PlaceCause, outside_cause};
-use rpg_cards::{IndexedCards, SpecCard};
+use rpg_card_index::IndexedCards;
+use rpg_cards::SpecCard;
 use rpg_causes_flow::{
     ColumnCause, NowhereCause, OrderCause, RoundingCause, StrayCause, Target, TwiceCause,
     apart_cause, nowhere_cause, on_calculation, order_cause, rounding_cause, stray_cause,

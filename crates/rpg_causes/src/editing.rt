@@ -6,7 +6,8 @@ ghost use Rattle.rpg_causes.specs.Editing as causes;
 ghost use Rattle.rpg_program.specs.LineFaults.{fits_word};
 ghost use Rattle.rpg_faults_operands.specs.Editing as rules;
 
-use rpg_cards::{Defined, IndexedCards, SpecCard};
+use rpg_card_index::IndexedCards;
+use rpg_cards::{Defined, SpecCard};
 use rpg_edit_marks::EditCode;
 use rpg_edit_widths::EditWord;
 use rpg_faults_operands::bad_editing;

@@ -12,7 +12,8 @@ ghost use Rattle.rpg_causes.specs.Movements as movements;
 ghost use Rattle.rpg_causes.specs.declared.files.FileUser.TheVariants as user;
 ghost use Rattle.rpg_faults_limits.specs.Files as rules;
 
-use rpg_cards::{FileUse, IndexedCards, SpecCard, file_for, use_of};
+use rpg_card_index::IndexedCards;
+use rpg_cards::{FileUse, SpecCard, file_for, use_of};
 use rpg_faults_limits::Sheets;
 use rpg_sheet_specs::{FileSpec, Movement, Word};
 

@@ -4,7 +4,8 @@ ghost use Rattle.std.specs.Prelude.{◌≡◌, [], ◌∷◌, ◌++◌};
 ghost use Rattle.rpg_faults_limits.specs.Sheets.{AreSheets};
 ghost use Rattle.rpg_faults_limits.specs.State.{AreLimits};
 
-use rpg_cards::{IndexedCards, SpecCard};
+use rpg_card_index::IndexedCards;
+use rpg_cards::SpecCard;
 use rpg_causes_operands::with_card;
 use rpg_faults_limits::{Limits, Sheets};
 use rpg_faults_tree::AnalyzedCards;
@@ -51,11 +52,11 @@ pub(crate) fn limits_before(
     after: &[SpecCard],
 ) -> Limits
     requires { source.now.cards.now ≡ before.now ++ card.now ∷ after.now }
-    ensures { AreLimits source.now.cards.now before.now (card.now ∷ after.now) result }
+    ensures { AreLimits before.now (card.now ∷ after.now) result }
 {
     let cards = source.cards;
     let count = before.len();
-    let mut limits = Limits::nothing(cards);
+    let mut limits = Limits::nothing();
     let mut seen = no_cards(cards);
     let mut rest = cards.as_slice();
     while let Some((next, following)) = rest.split_first() {
@@ -63,7 +64,7 @@ pub(crate) fn limits_before(
         if place == count {
             return limits;
         }
-        limits.pass(cards, seen, next, following);
+        limits.pass(seen, next, following);
         seen = with_card(cards, seen, next, following);
         rest = following;
     }

@@ -10,7 +10,8 @@ ghost use Rattle.rpg_faults.specs.Places as rules;
 ghost use Rattle.rpg_sheet_specs.specs.declared.file.FileSpec.{FileSpec};
 
 use crate::files::{FileOnCard, file_of_name, open_line_file};
-use rpg_cards::{IndexedCards, SpecCard};
+use rpg_card_index::IndexedCards;
+use rpg_cards::SpecCard;
 use rpg_faults_operands::width;
 use rpg_sheet_specs::{
     ColumnRange, InputFieldSpec, InputSpec, OutputField, RecordCode, Three, Word,

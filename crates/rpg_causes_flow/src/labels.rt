@@ -10,7 +10,8 @@ ghost use Rattle.rpg_causes_flow.specs.Labels as causes;
 ghost use Rattle.rpg_causes_operands.specs.Names as defined;
 ghost use Rattle.rpg_faults_flow.specs.Flow as rules;
 
-use rpg_cards::{Definition, IndexedCards, Named, SpecCard, defined_name, last_card, target_name};
+use rpg_card_index::IndexedCards;
+use rpg_cards::{Definition, Named, SpecCard, defined_name, last_card, target_name};
 use rpg_causes_operands::{first_defining, with_card};
 use rpg_sheet_specs::{CalculationSpec, Word};
 use rpg_symbols::Name;

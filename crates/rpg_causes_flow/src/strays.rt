@@ -5,7 +5,8 @@ ghost use Rattle.rpg_faults_limits.specs.Sheets.{AreSheets};
 ghost use Rattle.rpg_causes_flow.specs.Strays as causes;
 ghost use Rattle.rpg_faults_flow.specs.Strays as rules;
 
-use rpg_cards::{IndexedCards, SpecCard};
+use rpg_card_index::IndexedCards;
+use rpg_cards::SpecCard;
 use rpg_faults_limits::Sheets;
 use rpg_sheet_specs::{InputSpec, OutputSpec};
 

@@ -7,7 +7,8 @@ ghost use Rattle.rpg_causes_operands.specs.Fields as causes;
 ghost use Rattle.rpg_faults_operands.specs.Columns as operands;
 
 use crate::names::definer;
-use rpg_cards::{IndexedCards, OperationColumns, Shown, SpecCard, columns, last_card};
+use rpg_card_index::IndexedCards;
+use rpg_cards::{OperationColumns, Shown, SpecCard, columns, last_card};
 use rpg_faults_operands::factor_form;
 use rpg_program::form::{FieldForm, is_array, is_table};
 use rpg_sheet_specs::{CalculationSpec, Factor, OutputField, Word};

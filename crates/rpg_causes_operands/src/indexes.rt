@@ -7,7 +7,8 @@ ghost use Rattle.rpg_faults_operands.specs.Indexes as rules;
 ghost use Rattle.rpg_text.specs.Texts.{is_between};
 
 use crate::names::{definer, index_name};
-use rpg_cards::{Content, IndexedCards, SpecCard};
+use rpg_card_index::IndexedCards;
+use rpg_cards::{Content, SpecCard};
 use rpg_faults_operands::{Operand, entry_form, form_in, operands_ending, output_operand};
 use rpg_program::form::{FieldForm, Kind, fits_digits, is_array, is_plain, same_kind};
 use rpg_sheet_specs::{Entry, EntryIndex, Word};

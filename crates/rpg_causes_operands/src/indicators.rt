@@ -5,7 +5,8 @@ ghost use Rattle.std.specs.Option.{option_map_or};
 ghost use Rattle.rpg_causes_operands.specs.Indicators as causes;
 ghost use Rattle.rpg_faults_operands.specs.Indicators as rules;
 
-use rpg_cards::{IndexedCards, SpecCard};
+use rpg_card_index::IndexedCards;
+use rpg_cards::SpecCard;
 use rpg_sheet_specs::{
     CalculationSpec, ConditionSpec, Indicator, InputFieldSpec, InputSpec, OutputSpec, Spec, Three,
     Word,

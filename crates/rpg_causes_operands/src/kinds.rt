@@ -9,9 +9,8 @@ ghost use Rattle.rpg_faults_operands.specs.Kinds as rules;
 ghost use Rattle.rpg_faults_operands.specs.Operands.{factor_entry, field_content};
 
 use crate::names::definer;
-use rpg_cards::{
-    Column, Content, IndexedCards, Kinds, OperationColumns, SpecCard, columns, last_card,
-};
+use rpg_card_index::IndexedCards;
+use rpg_cards::{Column, Content, Kinds, OperationColumns, SpecCard, columns, last_card};
 use rpg_faults_operands::{entry_form, factor_form, field_content, result_form};
 use rpg_program::form::{FieldForm, Kind, is_array, is_table, is_writable, same_kind};
 use rpg_sheet_specs::{CalculationSpec, ColumnRange, Entry, Factor, OutputField, Word};

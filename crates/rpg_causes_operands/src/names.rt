@@ -9,7 +9,8 @@ ghost use Rattle.rpg_causes_operands.specs.Names.{StandAt};
 ghost use Rattle.rpg_faults_limits.specs.Names as redefinitions;
 ghost use Rattle.rpg_faults_operands.specs.Names as rules;
 
-use rpg_cards::{Defined, Definition, IndexedCards, SpecCard};
+use rpg_card_index::IndexedCards;
+use rpg_cards::{Defined, Definition, SpecCard};
 use rpg_faults_operands::{Operand, operands_ending, output_operand};
 use rpg_program::form::FieldForm;
 use rpg_sheet_specs::{Entry, EntryIndex, Word};

@@ -1,7 +1,8 @@
 //! Names similar to an undefined one, which may be a misspelling.
 
 use crate::spot::Spot;
-use rpg_cards::{IndexedCards, SpecCard};
+use rpg_card_index::IndexedCards;
+use rpg_cards::SpecCard;
 use rpg_cli_text::{TextWriter, is_near};
 
 /// How many similar names are listed.

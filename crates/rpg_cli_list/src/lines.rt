@@ -3,7 +3,8 @@
 use crate::chart::{Chart, first_place};
 use crate::files::{length_words, write_heading};
 use crate::picture::picture_of;
-use rpg_cards::{FileUse, IndexedCards, in_places, time_of, use_of};
+use rpg_card_index::IndexedCards;
+use rpg_cards::{FileUse, in_places, time_of, use_of};
 use rpg_cli_show_fields::{
     name_text, time_word, write_code, write_quoted, write_spacing, write_when,
 };

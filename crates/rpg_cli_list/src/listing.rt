@@ -6,7 +6,7 @@ use crate::files::write_files;
 use crate::lines::write_lines;
 use crate::records::write_records;
 use crate::tables::write_tables;
-use rpg_cards::IndexedCards;
+use rpg_card_index::IndexedCards;
 use rpg_cli_list_names::{Indicators, Labels, Names, write_constants};
 use rpg_cli_messages::{AnalyzedCards, SourceCards};
 use rpg_cli_text::TextWriter;

@@ -1,6 +1,7 @@
 //! What an output field prints, as far as its card shows.
 
-use rpg_cards::{Defined, IndexedCards};
+use rpg_card_index::IndexedCards;
+use rpg_cards::Defined;
 use rpg_decimal::fit;
 use rpg_edit::edit_at_end;
 use rpg_edit_widths::{EditWord, How, width};

@@ -3,7 +3,8 @@
 use crate::chart::{Chart, MOST_DRAWN};
 use crate::files::write_heading;
 use crate::tables::write_decimals;
-use rpg_cards::{IndexedCards, number_of, shows_of};
+use rpg_card_index::IndexedCards;
+use rpg_cards::{number_of, shows_of};
 use rpg_cli_show_fields::{name_text, write_named, write_quoted, write_shows};
 use rpg_cli_text::TextWriter;
 use rpg_deck::{Card, Tree};

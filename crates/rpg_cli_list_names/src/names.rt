@@ -2,7 +2,8 @@
 
 use crate::mentions::{By, Mentions};
 use indexmap::{IndexMap, IndexSet};
-use rpg_cards::{Column, Content, Defined, IndexedCards, SpecCard, columns, is_table};
+use rpg_card_index::IndexedCards;
+use rpg_cards::{Column, Content, Defined, SpecCard, columns, is_table};
 use rpg_cli_show_fields::{name_text, write_form};
 use rpg_cli_text::TextWriter;
 use rpg_sheet_specs::{

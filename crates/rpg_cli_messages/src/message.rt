@@ -7,7 +7,7 @@ use crate::order::{LaterCard, later_card, write_order};
 use crate::picture::write_picture;
 use crate::shorthand::write_shorthand;
 use crate::unmarked::write_unmarked;
-use rpg_cards::IndexedCards;
+use rpg_card_index::IndexedCards;
 use rpg_cli_causes::{AnalyzedCards, Root, SourceCards, root_of, write_cause};
 use rpg_cli_columns::{character_at, write_bad_columns, write_form_type};
 use rpg_cli_explain::sentence_of;

@@ -2,7 +2,8 @@
 
 ghost use Rattle.std.specs.Prelude.{◌≤◌, length};
 
-use rpg_cards::{IndexedCards, SpecCard, has_instruction, joins, level, test};
+use rpg_card_index::IndexedCards;
+use rpg_cards::{SpecCard, has_instruction, joins, level, test};
 use rpg_sheet_specs::{CalculationSpec, InputSpec, OutputSpec, Spec, Word};
 use std::alloc::{AllocError, Global};
 

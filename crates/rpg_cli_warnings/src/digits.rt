@@ -5,7 +5,8 @@ ghost use Rattle.std.specs.List.{filter_map};
 ghost use Rattle.rpg_cli_warnings.specs.Digits as digits;
 
 use crate::warning::{Warning, WarningKind};
-use rpg_cards::{Defined, IndexedCards, SpecCard};
+use rpg_card_index::IndexedCards;
+use rpg_cards::{Defined, SpecCard};
 use rpg_program::form::{FieldForm, Kind};
 use rpg_sheet_specs::{CalculationSpec, ColumnFault, Entry, Factor, Operation};
 use std::alloc::AllocError;

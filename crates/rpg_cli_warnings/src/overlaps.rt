@@ -4,7 +4,8 @@ ghost use Rattle.std.specs.Prelude.{◌≡◌, ◌++◌, OnOk, find};
 ghost use Rattle.rpg_cli_warnings.specs.Overlaps as overlaps;
 
 use crate::warning::{Warning, WarningKind};
-use rpg_cards::{IndexedCards, SpecCard};
+use rpg_card_index::IndexedCards;
+use rpg_cards::SpecCard;
 use rpg_faults_operands::width;
 use rpg_sheet_specs::{ColumnFault, OutputField};
 use std::alloc::AllocError;

@@ -10,7 +10,7 @@ use crate::indicators::put_indicators;
 use crate::overlaps::put_overlaps;
 use crate::pages::put_pages;
 use crate::warning::Warning;
-use rpg_cards::IndexedCards;
+use rpg_card_index::IndexedCards;
 use rpg_cli_values::{WarningCode, WarningCodes};
 use std::alloc::{AllocError, Global};
 

@@ -6,7 +6,7 @@ use Rattle.std.specs.Map.{lookup}
 use Rattle.std.specs.Option.{option_or}
 use Rattle.std.specs.Prelude.{is_some, nat_eq, unwrap_or}
 use Rattle.rpg_cards.specs.Plain.{Each}
-use Rattle.rpg_cards.proofs.IndexLemmas.{lookup_push}
+use Rattle.rpg_cards.proofs.FirstLemmas.{lookup_push}
 use Rattle.rpg_cards.specs.Constants.{constant_form, constants}
 use Rattle.rpg_cards.specs.Names.{definitions, form_in}
 use Rattle.rpg_cards.specs.declared.names.Definition.{Definition}

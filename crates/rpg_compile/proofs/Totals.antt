@@ -9,9 +9,10 @@ use Rattle.std.specs.List.{position_or_len}
 use Rattle.std.specs.Map.{keys_of}
 use Rattle.std.specs.Option.{option_map}
 use Rattle.std.specs.Prelude.{is_some, nat_eq, nat_lt, sum_by, unwrap_or}
+use Rattle.rpg_card_index.specs.Totals.{constant_size, definition_bytes}
 use Rattle.rpg_cards.specs.Insertions.{insert_all, insert_key}
 use Rattle.rpg_cards.specs.Plain.{Each}
-use Rattle.rpg_cards.proofs.IndexLemmas.{known_fields}
+use Rattle.rpg_cards.proofs.FieldLemmas.{known_fields}
 use Rattle.rpg_cards.specs.Constants.{constant_form, constants}
 use Rattle.rpg_cards.specs.Names.{defined_field, definitions, names, same_name}
 use Rattle.rpg_cards.specs.declared.constants.Constant.{Constant}
@@ -19,7 +20,7 @@ use Rattle.rpg_cards.specs.declared.names.Definition.{Definition}
 use Rattle.rpg_cards.specs.declared.spec_card.SpecCard.{SpecCard}
 use Rattle.rpg_program.specs.Forms.{size_of}
 use Rattle.rpg_program.specs.declared.form.FieldForm.{FieldForm}
-use Rattle.rpg_faults_limits.specs.Limits.{bytes_up_to, constant_bytes, constant_size, definition_bytes, fields_up_to, name_bytes, name_count}
+use Rattle.rpg_faults_limits.specs.Limits.{bytes_up_to, constant_bytes, fields_up_to, name_bytes, name_count}
 use Rattle.rpg_program.specs.Kept.{storage_of}
 use Rattle.rpg_compile.proofs.Walks.{unpassed}
 use Rattle.rpg_symbols.specs.Fields.{NamedForms, defined_form, given, storage}

@@ -8,7 +8,7 @@ use Rattle.std.specs.List.{cons_option}
 use Rattle.std.specs.Map.{lookup}
 use Rattle.std.specs.Option.{option_map, option_map_or, option_or, option_to_list}
 use Rattle.std.specs.Prelude.{is_some, nat_eq, replicate, unwrap_or}
-use Rattle.rpg_cards.proofs.IndexLemmas.{known_stays}
+use Rattle.rpg_cards.proofs.FirstLemmas.{known_stays}
 use Rattle.rpg_cards.specs.Cards.{calculation_on, extension_on, input_field_on}
 use Rattle.rpg_cards.specs.Groups.{data_role, followers}
 use Rattle.rpg_cards.specs.declared.spec_card.SpecCard.{SpecCard}

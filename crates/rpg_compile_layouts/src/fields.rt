@@ -9,10 +9,11 @@ ghost use Rattle.rpg_symbols.specs.Fields.{storage};
 ghost use Rattle.rpg_compile_program.specs.Data.{field_values, loaded, values_of};
 ghost use Rattle.rpg_compile_program.specs.Table as fields;
 
-use crate::constants::{add_constants, constants_of};
+use crate::constants::add_constants;
 use crate::loaded::Loaded;
 use crate::names::NameTable;
 use crate::table::FieldTable;
+use rpg_card_index::IndexedCards;
 use rpg_cards::SpecCard;
 use rpg_program::form::FieldForm;
 use rpg_program::value::Value;
@@ -20,33 +21,28 @@ use std::alloc::{AllocError, Global};
 
 /// The fields of a program in numeric order: names, then constants.
 #[derive(Drop)]
-pub struct Fields {
-    pub table: FieldTable,
+pub struct Fields<'a> {
+    pub table: FieldTable<'a>,
     pub forms: Vec<FieldForm>,
     /// Their values before the first cycle, entry by entry.
     pub values: Vec<Vec<Value>>,
 }
 
 /// Returns the fields of cards. Fails only if memory runs out.
-pub fn fields_of(alloc: Global, cards: &[SpecCard]) -> Result<Fields, AllocError>
-    requires fields { length (fields.defined_fields cards.now) + length (constants cards.now) ≤ 4000 }
-    requires storage { storage (fields.defined_fields cards.now) ≤ 65535 }
-    requires sizes { KeepsRule (λ before c after. bad_size c) cards.now }
-    ensures table { IfOk result (λ f. f.table ≡ fields.table_of cards.now) }
-    ensures forms { IfOk result (λ f. f.forms.items ≡ fields.forms (fields.table_of cards.now)) }
-    ensures values { IfOk result (λ f. held_values f.values.items ≡ values_of cards.now) }
-    ensures kept { IfOk result (λ f. All IsConstant (constants cards.now)) }
+pub fn fields_of<'a>(
+    alloc: Global,
+    source: &'a IndexedCards<'a>,
+) -> Result<Fields<'a>, AllocError>
 {
     let NameTable {
         symbols,
         mut forms,
         mut values,
-    } = names_of(alloc, cards)?;
+    } = names_of(alloc, source.as_slice())?;
     let names = forms.len() as u16;
-    let constants = constants_of(alloc, cards)?;
-    add_constants(alloc, constants.as_slice(), &mut forms, &mut values)?;
+    add_constants(alloc, source, &mut forms, &mut values)?;
     Ok(Fields {
-        table: FieldTable::new(symbols, names, constants),
+        table: FieldTable::new(symbols, names, source),
         forms,
         values,
     })

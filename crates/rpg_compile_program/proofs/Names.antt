@@ -10,7 +10,7 @@ use Rattle.std.proofs.lemmas.List.Folds.{list_any-append}
 use Rattle.rpg_compile_program.proofs.Definitions.{AreDefined, HasForm, IsForm}
 use Rattle.rpg_cards.specs.Keys.{Fixed, Named}
 use Rattle.rpg_cards.specs.Plain.{Each}
-use Rattle.rpg_cards.proofs.IndexLemmas.{known_stays, lookup_push, option_or_assoc}
+use Rattle.rpg_cards.proofs.FirstLemmas.{known_stays, lookup_push, option_or_assoc}
 use Rattle.rpg_cards.proofs.InsertLemmas.{among}
 use Rattle.rpg_cards.proofs.ItemLemmas.{constants_in-append}
 use Rattle.rpg_cards.specs.Constants.{constant_form, constants_in, constants_on, is_same}

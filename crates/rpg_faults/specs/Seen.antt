@@ -14,6 +14,6 @@ pub record AreCardsSeen (cards rest : List SpecCard) (s : Seen) : Type 0 where
   pub few : length cards ≤ 2000
   pub group_end : EndsGroup rest (option_copied s.group_end)
   pub sheets : AreSheets cards s.before.now s.sheets
-  pub limits : AreLimits cards s.before.now rest s.limits
+  pub limits : AreLimits s.before.now rest s.limits
   pub counts : AreCounts s.before.now rest s.counts
   pub places : IsPlaces cards s.before.now s.places

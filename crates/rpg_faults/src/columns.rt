@@ -8,7 +8,8 @@ ghost use Rattle.rpg_faults.specs.State.{IsPlaces};
 ghost use Rattle.rpg_sheet_specs.specs.declared.file.FileSpec.{FileSpec};
 
 use crate::state::Places;
-use rpg_cards::{IndexedCards, SpecCard};
+use rpg_card_index::IndexedCards;
+use rpg_cards::SpecCard;
 use rpg_faults_limits::{GroupFile, Sheets};
 use rpg_faults_operands::width;
 use rpg_sheet_specs::{InputFieldSpec, InputSpec, OutputField, RecordCode, Three};

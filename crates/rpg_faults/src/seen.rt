@@ -4,7 +4,8 @@ ghost use Rattle.std.specs.Prelude.{◌≡◌, [], ◌∷◌, ◌++◌};
 ghost use Rattle.rpg_faults.specs.Seen.{AreCardsSeen};
 
 use crate::Places;
-use rpg_cards::{IndexedCards, SpecCard};
+use rpg_card_index::IndexedCards;
+use rpg_cards::SpecCard;
 use rpg_faults_flow::{first_group_end, next_group_end};
 use rpg_faults_limits::{Limits, Sheets};
 use rpg_faults_tree::{AnalyzedCards, Counts};
@@ -33,7 +34,7 @@ impl<'a> Seen<'a> {
             before: &cards.as_slice()[..0],
             group_end: first_group_end(cards.as_slice()),
             sheets: Sheets::none(),
-            limits: Limits::nothing(cards),
+            limits: Limits::nothing(),
             counts: Counts::nothing(),
             places: Places::nothing(cards),
         }
@@ -48,7 +49,7 @@ impl<'a> Seen<'a> {
         let before = self.before;
         self.group_end = next_group_end(self.group_end, after);
         self.sheets = self.sheets.with(source, before, card);
-        self.limits.pass(source, before, card, after);
+        self.limits.pass(before, card, after);
         self.counts = self.counts.with(before, card, after);
         self.places.pass(source, before, card, after);
         self.before = with_card(source, before, card, after);

@@ -1,14 +1,15 @@
 //! Reads the text of a source to its cards.
 
 ghost use Rattle.std.specs.Prelude.{◌≡◌, IfOk, IfErr};
-ghost use Rattle.rpg_cards.specs.Index.{IsIndexOf};
+ghost use Rattle.rpg_card_index.specs.Index.{IsIndexOf};
 ghost use Rattle.rpg_faults.specs.Props.{IsIndexOf-prop};
 ghost use Rattle.rpg_faults.specs.Source as sources;
 
 use crate::cards::spec_cards;
 use crate::least::faultless_index;
 use crate::source_fault::{SourceCode, SourceFault};
-use rpg_cards::{CardIndex, SpecCard};
+use rpg_card_index::CardIndex;
+use rpg_cards::SpecCard;
 use std::alloc::Global;
 
 /// The cards of a source without faults that belong to a sheet, each with its number, and their index.
@@ -20,6 +21,14 @@ pub struct FaultlessCards {
 }
 
 impl FaultlessCards {
+    /// Joins cards and their index.
+    pub fn of_parts(cards: Vec<SpecCard>, index: CardIndex) -> Self
+        requires { IsIndexOf index cards.items }
+        ensures { result.cards ≡ cards }
+    {
+        FaultlessCards { cards, index }
+    }
+
     /// Returns the cards, and the index that `CardIndex::over` puts over them.
     pub fn into_parts(self) -> (Vec<SpecCard>, CardIndex)
         ensures cards { result.0.items ≡ self.cards.items }

@@ -5,7 +5,8 @@ ghost use Rattle.rpg_faults.specs.State.{IsPlaces};
 
 use crate::lengths::JoinedLengths;
 use crate::matches::Matches;
-use rpg_cards::{IndexedCards, SpecCard};
+use rpg_card_index::IndexedCards;
+use rpg_cards::SpecCard;
 use rpg_faults_data::Decks;
 
 /// The remaining decks of data, the joined lengths of control fields, and the match fields.

@@ -7,7 +7,7 @@ use Rattle.std.proofs.lemmas.List.FromFn.{length-map-range_with_len, take-map-ra
 use Rattle.std.proofs.lemmas.Simd.{map-map}
 use Rattle.std.specs.List.{flat_map, last_or, range_with_len}
 use Rattle.std.specs.Option.{is_some, option_or}
-use Rattle.rpg_cards.proofs.IndexLemmas.{option_or_assoc}
+use Rattle.rpg_cards.proofs.FirstLemmas.{option_or_assoc}
 use Rattle.rpg_cards.specs.Cards.{data_on}
 use Rattle.rpg_cards.specs.declared.spec_card.SpecCard.{SpecCard}
 use Rattle.rpg_faults_data.specs.Causes.{DataCard, PlacedEntry, data_card, deck_cards, first_wrong, placed_entries, placed_entry_on, with_data_card, wrong_entry}

@@ -10,7 +10,8 @@ use crate::data::{data_cards, data_columns, has_forms, has_table};
 use crate::decks::expects_data;
 use crate::layout::Layout;
 use crate::wrong_entry::{EntryCause, first_wrong};
-use rpg_cards::{IndexedCards, SpecCard};
+use rpg_card_index::IndexedCards;
+use rpg_cards::SpecCard;
 use rpg_sheet_specs::{DataSpec, ExtensionSpec, Spec};
 
 /// The cards of data that this many entries need.

@@ -10,7 +10,8 @@ ghost use Rattle.rpg_faults_data.specs.Decks.{AreDecks};
 use crate::decks::Decks;
 use crate::entries::bad_entries;
 use crate::layout::Layout;
-use rpg_cards::{IndexedCards, SpecCard, is_table, table_form};
+use rpg_card_index::IndexedCards;
+use rpg_cards::{SpecCard, is_table, table_form};
 use rpg_sheet_specs::{DataSpec, ExtensionSpec, Spec};
 
 /// Whether the data of a table is wrong, on its E card, or belongs to no table, on its `**` card.

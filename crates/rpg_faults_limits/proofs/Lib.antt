@@ -2,5 +2,6 @@ pub mod ApartLemmas
 pub mod CalculationLemmas
 pub mod LimitRule
 pub mod NameLemmas
+pub mod NewNames
 pub mod SheetLemmas
-pub mod TotalLemmas
+pub mod StorageLemmas

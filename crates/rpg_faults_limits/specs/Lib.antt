@@ -5,4 +5,3 @@ pub mod Marks
 pub mod Names
 pub mod Sheets
 pub mod State
-pub mod Totals

@@ -1,16 +1,14 @@
 -- F6: limits that are exceeded, at the card that puts a count or a sum over one.
 use Rattle.std.specs.Prelude.{ℕ, ◌+◌, ◌==◌, Bool, true, false, not, ◌&&◌, ◌||◌, nat_le, nat_lt, List, [], ◌∷◌, ◌++◌, length, sum_by, count_by, fold, Option, is_some}
 use Rattle.std.specs.Option.{option_map_or}
+use Rattle.rpg_card_index.specs.Totals.{constant_size, definition_bytes}
 use Rattle.rpg_cards.specs.Calculations.{calculation_ending, calculations_before}
 use Rattle.rpg_cards.specs.Labels.{begins_subroutine, begun_count}
 use Rattle.rpg_cards.specs.Cards.{calculation_on, extension_on, is_output_field}
-use Rattle.rpg_cards.specs.Constants.{constant_form, constants}
+use Rattle.rpg_cards.specs.Constants.{constants}
 use Rattle.rpg_cards.specs.Groups.{Group, group_count, input_role, open_group, output_role}
 use Rattle.rpg_cards.specs.Names.{names}
-use Rattle.rpg_cards.specs.declared.constants.Constant.{Constant}
-use Rattle.rpg_cards.specs.declared.names.Definition.{Definition}
 use Rattle.rpg_cards.specs.declared.spec_card.SpecCard.{SpecCard}
-use Rattle.rpg_program.specs.Forms.{size_of}
 use Rattle.rpg_sheet_specs.specs.Three.{filled_count}
 use Rattle.rpg_sheet_specs.specs.declared.extension.ExtensionSpec.{ExtensionSpec}
 use Rattle.rpg_sheet_specs.specs.declared.input.InputSpec.{InputSpec}
@@ -135,17 +133,9 @@ passes_on_calculations before c after = crosses calculation_count 1000 before c 
 abbrev pub name_count : List SpecCard → ℕ
 name_count cards = length (names cards)
 
--- the bytes that a defined name takes; 0 without a form
-abbrev pub definition_bytes : Definition → ℕ
-definition_bytes d = option_map_or size_of d.form 0
-
 -- the bytes of all names
 abbrev pub name_bytes : List SpecCard → ℕ
 name_bytes cards = sum_by definition_bytes (names cards)
-
--- the bytes of a constant
-abbrev pub constant_size : Constant → ℕ
-constant_size c = size_of (constant_form c)
 
 -- the bytes of all constants
 abbrev pub constant_bytes : List SpecCard → ℕ

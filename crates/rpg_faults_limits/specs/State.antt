@@ -1,5 +1,5 @@
 -- The state that is kept of the cards before a card.
-use Rattle.std.specs.Prelude.{◌≡◌, ℕ, ◌*◌, ◌≤◌, ⊤, Bool, false, List, [], ◌∷◌, ◌++◌, length, Option, is_some}
+use Rattle.std.specs.Prelude.{◌≡◌, ℕ, ◌*◌, ◌≤◌, Bool, false, List, ◌++◌, length, Option, is_some}
 use Rattle.std.specs.Option.{option_map_or}
 use Rattle.rpg_cards.specs.Calculations as calculations
 use Rattle.rpg_cards.specs.Calculations.{calculations_before}
@@ -9,12 +9,11 @@ use Rattle.rpg_cards.specs.Constants.{constants_in}
 use Rattle.rpg_cards.specs.Groups.{Group, input_role, open_group, output_role}
 use Rattle.rpg_cards.specs.Names.{definitions}
 use Rattle.rpg_cards.specs.declared.spec_card.SpecCard.{SpecCard}
-use Rattle.rpg_faults_limits.specs.Limits.{alternative_count, calculation_count, code_count, condition_count, field_count, in_open, level_count, output_field_count}
-use Rattle.rpg_faults_limits.specs.Totals.{BeginsWith, HasConstants, HasNames}
+use Rattle.rpg_faults_limits.specs.Limits.{alternative_count, bytes_up_to, calculation_count, code_count, condition_count, field_count, fields_up_to, in_open, level_count, output_field_count}
 use Rattle.rpg_faults_limits.specs.declared.calculations.Calculations.{Calculations}
 use Rattle.rpg_faults_limits.specs.declared.lines.OpenLine.{OpenLine}
 use Rattle.rpg_faults_limits.specs.declared.state.Limits.{Limits}
-use Rattle.rpg_faults_limits.specs.declared.storage.Storage.{Storage}
+use Rattle.rpg_faults_limits.specs.declared.items.Items.{Items}
 use Rattle.rpg_faults_limits.specs.declared.types.OpenType.{OpenType}
 use Rattle.rpg_sheet_specs.specs.declared.input.InputSpec.{InputSpec}
 use Rattle.rpg_sheet_specs.specs.declared.input.RecordType.{RecordType}
@@ -73,31 +72,25 @@ pub record AreCalculations (before rest : List SpecCard) (k : Calculations) : Ty
 
 -- ---- names and constants
 
--- the counts are those of names and constants: of the cards before, and the names of all cards
-pub record IsStorage (cards before : List SpecCard) (s : Storage) : Type 0 where
-  pub names : HasNames (definitions before) s.names
-  pub constants : HasConstants (constants_in before) s.constants
-  pub all_names : HasNames (definitions cards) s.all_names
+-- the counts are those of the definitions and of the constants of the cards before
+pub record AreItems (before : List SpecCard) (s : Items) : Type 0 where
+  pub names : s.names ≡ length (definitions before)
+  pub constants : s.constants ≡ length (constants_in before)
 
--- the counts with the first of the rest, if there is one
-abbrev pub IsStorageWithNext : List SpecCard → List SpecCard → List SpecCard → Storage → Type 0
-IsStorageWithNext cards before [] s = ⊤
-IsStorageWithNext cards before (c ∷ after) s = IsStorage cards (before ++ c ∷ []) s
+-- a source begins with these cards
+abbrev pub BeginsWith : List SpecCard → List SpecCard → Type 0
+BeginsWith cards front = (back : List SpecCard) × (cards ≡ front ++ back)
 
--- the counts are those before the first of the remaining cards, which follow these
-abbrev pub IsStorageBeforeRest : List SpecCard → List SpecCard → Storage → List SpecCard → Type 0
-IsStorageBeforeRest cards rest s before = (cards ≡ before ++ rest) × IsStorage cards before s
-
--- the counts are those before the card, which follows these
-abbrev pub IsStorageBeforeCard : List SpecCard → SpecCard → Storage → List SpecCard → Type 0
-IsStorageBeforeCard cards c s before = BeginsWith cards (before ++ c ∷ []) × IsStorage cards before s
+-- all names and constants are within the limits
+pub record KeepsStorage (cards : List SpecCard) : Type 0 where
+  pub fields : fields_up_to cards cards ≤ 4000
+  pub bytes : bytes_up_to cards cards ≤ 65535
 
 -- ---- the whole state before a card, which is the first of the rest
 
 -- all counts before a card are right
-pub record AreLimits (cards before rest : List SpecCard) (l : Limits) : Type 0 where
-  pub storage : IsStorage cards before l.storage
-  pub storage_with_next : IsStorageWithNext cards before rest l.storage_with_next
+pub record AreLimits (before rest : List SpecCard) (l : Limits) : Type 0 where
+  pub items : AreItems before l.items
   pub calculations : AreCalculations before rest l.calculations
   pub open_type : IsOpenType (open_group input_role before) l.open_type
   pub open_line : IsOpenLine (open_group output_role before) l.open_line

@@ -8,7 +8,8 @@ ghost use Rattle.rpg_faults_limits.specs.Sheets.{AreSheets};
 ghost use Rattle.rpg_faults_limits.specs.Files as files;
 
 use crate::sheets::Sheets;
-use rpg_cards::{FileUse, IndexedCards, SpecCard, use_of};
+use rpg_card_index::IndexedCards;
+use rpg_cards::{FileUse, SpecCard, use_of};
 use rpg_sheet_specs::{FileSpec, Movement, OutputRecord, Word};
 
 /// F7, on a card: an F card whose name or use is taken, whose column 17 doesn't agree with the other input file's, or whose records are too

@@ -4,6 +4,7 @@
 mod calculations;
 mod files;
 mod filled;
+mod items;
 mod limits;
 mod lines;
 mod marks;
@@ -12,7 +13,6 @@ mod names;
 mod sheets;
 mod state;
 mod storage;
-mod totals;
 mod types;
 
 pub use files::{breaks_files, lacks_input, moves_disk};

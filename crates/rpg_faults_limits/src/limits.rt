@@ -6,15 +6,18 @@ ghost use Rattle.rpg_cards.specs.Groups.{input_role, open_group, output_role};
 ghost use Rattle.rpg_faults_limits.specs.Sheets.{AreSheets};
 ghost use Rattle.rpg_faults_limits.specs.Causes as causes;
 ghost use Rattle.rpg_faults_limits.specs.Limits as rules;
-ghost use Rattle.rpg_faults_limits.specs.State.{AreCalculations, AreLimits, HasFewOnLine, HasFewOnType, IsOpenLine, IsOpenType, IsStorage};
+ghost use Rattle.rpg_faults_limits.specs.State.{AreCalculations, AreItems, AreLimits, HasFewOnLine, HasFewOnType, IsOpenLine, IsOpenType};
 
 use crate::calculations::Calculations;
+use crate::items::Items;
 use crate::lines::OpenLine;
 use crate::measures::{Limit, LimitCause, counted, first_past};
 use crate::sheets::Sheets;
 use crate::state::Limits;
+use crate::storage::{all_names, constants_in, keeps_storage, names_in, with_card};
 use crate::types::OpenType;
-use rpg_cards::{IndexedCards, SpecCard};
+use rpg_card_index::IndexedCards;
+use rpg_cards::SpecCard;
 
 /// F6: a limit that is exceeded with the card.
 pub fn passes_limit(
@@ -28,7 +31,7 @@ pub fn passes_limit(
     requires split { source.now ≡ before.now ++ card.now ∷ after.now }
     requires few { length source.now ≤ 2000 }
     requires sheets { AreSheets source.now before.now sheets.now }
-    requires limits { AreLimits source.now before.now (card.now ∷ after.now) limits.now }
+    requires limits { AreLimits before.now (card.now ∷ after.now) limits.now }
     ensures { result ≡ rules.passes_limit source.now before.now card.now after.now }
 {
     limit_cause(source, sheets, limits, before, card, after).is_some()
@@ -46,7 +49,7 @@ pub fn limit_cause(
     requires split { source.now ≡ before.now ++ card.now ∷ after.now }
     requires few { length source.now ≤ 2000 }
     requires sheets { AreSheets source.now before.now sheets.now }
-    requires limits { AreLimits source.now before.now (card.now ∷ after.now) limits.now }
+    requires limits { AreLimits before.now (card.now ∷ after.now) limits.now }
     ensures cause { result ≡ causes.limit_cause source.now before.now card.now after.now }
     ensures rule { is_some result ≡ rules.passes_limit source.now before.now card.now after.now }
 {
@@ -65,7 +68,7 @@ fn passed(
     requires split { source.now ≡ before.now ++ card.now ∷ after.now }
     requires few { length source.now ≤ 2000 }
     requires sheets { AreSheets source.now before.now sheets.now }
-    requires limits { AreLimits source.now before.now (card.now ∷ after.now) limits.now }
+    requires limits { AreLimits before.now (card.now ∷ after.now) limits.now }
     ensures { result ≡ causes.limit_cause source.now before.now card.now after.now }
 {
     let entries = of_entries(card);
@@ -84,7 +87,7 @@ fn passed(
     if calculations.is_some() {
         return calculations;
     }
-    on_storage(source, limits, before, card)
+    on_storage(source, limits.items, before, card, after)
 }
 
 /// Checks the number of entries.
@@ -189,31 +192,36 @@ fn on_calculations(
     None
 }
 
-/// Checks names and constants, and their bytes. Most cards have neither.
+/// Checks names and constants, and their bytes. If all of the source are within the limits, no card passes one.
 fn on_storage(
     source: &IndexedCards,
-    limits: &Limits,
+    items: Items,
     before: &[SpecCard],
     card: &SpecCard,
+    after: &[SpecCard],
 ) -> Option<LimitCause>
-    requires storage { IsStorage source.now before.now limits.now.storage }
-    requires with_card { IsStorage source.now (before.now ++ card.now ∷ []) limits.now.storage_with_next }
+    requires split { source.now ≡ before.now ++ card.now ∷ after.now }
+    requires few { length source.now ≤ 2000 }
+    requires items { AreItems before.now items }
     ensures { result ≡ causes.on_storage source.now before.now card.now }
 {
-    if !card.may_define() && !card.may_have_constants() {
+    if keeps_storage(source) {
         return None;
     }
-    let storage = &limits.storage;
-    let with = &limits.storage_with_next;
-    let names = storage.names;
-    let all = storage.all_names;
-    let bytes = all.bytes + storage.constants.bytes;
-    let bytes_with = all.bytes + with.constants.bytes;
-    let fields = all.number + storage.constants.number;
-    let fields_with = all.number + with.constants.number;
+    let front = with_card(source, before, card, after);
+    let with = items.with(before, card);
+    let all = all_names(source);
+    let names = names_in(source, items.names, before);
+    let names_with = names_in(source, with.names, front);
+    let constants = constants_in(source, items.constants, before);
+    let constants_with = constants_in(source, with.constants, front);
+    let bytes = all.bytes + constants.bytes;
+    let bytes_with = all.bytes + constants_with.bytes;
+    let fields = all.number + constants.number;
+    let fields_with = all.number + constants_with.number;
     first_past(&[
-        counted(Limit::Names, 4000, names.number, with.names.number),
-        counted(Limit::NameBytes, 65535, names.bytes, with.names.bytes),
+        counted(Limit::Names, 4000, names.number, names_with.number),
+        counted(Limit::NameBytes, 65535, names.bytes, names_with.bytes),
         counted(Limit::Bytes, 65535, bytes, bytes_with),
         counted(Limit::Fields, 4000, fields, fields_with),
     ])

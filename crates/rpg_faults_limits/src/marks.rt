@@ -10,7 +10,8 @@ use crate::files::ends_apart;
 use crate::limits::has_bad_entries;
 use crate::names::{is_bad_table, is_other};
 use crate::state::Limits;
-use rpg_cards::{Definition, FileUse, IndexedCards, SpecCard, sized_form, use_of};
+use rpg_card_index::IndexedCards;
+use rpg_cards::{Definition, FileUse, SpecCard, sized_form, use_of};
 use rpg_sheet_specs::{
     CalculationSpec, ColumnRange, ExtensionSpec, FileSpec, InputSpec, Movement, OutputSpec, Spec,
 };
@@ -25,7 +26,7 @@ pub fn redefined_columns(
 ) -> Option<ColumnRange>
     requires split { source.now ≡ before.now ++ card.now ∷ after.now }
     requires few { length source.now ≤ 2000 }
-    requires limits { AreLimits source.now before.now (card.now ∷ after.now) limits.now }
+    requires limits { AreLimits before.now (card.now ∷ after.now) limits.now }
     ensures { result ≡ marks.redefined_columns before.now card.now }
 {
     if redefines_first(source, limits, before, card, after) {
@@ -45,7 +46,7 @@ fn redefines_first(
 ) -> bool
     requires split { source.now ≡ before.now ++ card.now ∷ after.now }
     requires few { length source.now ≤ 2000 }
-    requires limits { AreLimits source.now before.now (card.now ∷ after.now) limits.now }
+    requires limits { AreLimits before.now (card.now ∷ after.now) limits.now }
     ensures { result ≡ marks.redefines_first before.now card.now }
 {
     match card.definitions().as_slice().first() {
@@ -65,10 +66,10 @@ fn is_other_here(
 ) -> bool
     requires split { source.now ≡ before.now ++ card.now ∷ after.now }
     requires few { length source.now ≤ 2000 }
-    requires limits { AreLimits source.now before.now (card.now ∷ after.now) limits.now }
+    requires limits { AreLimits before.now (card.now ∷ after.now) limits.now }
     ensures { result ≡ names.redefines_as (definitions before.now) definition.now }
 {
-    is_other(source, limits.storage.names.items, definition)
+    is_other(source, limits.items.names, definition)
 }
 
 /// Returns the columns of the first name that a card defines.

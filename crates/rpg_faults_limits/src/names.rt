@@ -1,13 +1,16 @@
 //! F2 and F3: names that are defined again in another form, and sizes over their limit.
 
-ghost use Rattle.std.specs.Prelude.{◌≡◌, List, ◌∷◌, ◌++◌, ◌≤◌, length, take};
+ghost use Rattle.std.specs.Prelude.{◌≡◌, List, ◌∷◌, ◌++◌, ◌≤◌, false, length, take};
+ghost use Rattle.std.specs.Bool.{OnTrue};
 ghost use Rattle.rpg_cards.specs.Names.{definitions};
 ghost use Rattle.rpg_cards.specs.declared.names.Definition.{Definition};
 ghost use Rattle.rpg_faults_limits.specs.Names as names;
 ghost use Rattle.rpg_faults_limits.specs.State.{AreLimits};
 
 use crate::state::Limits;
-use rpg_cards::{Defined, Definition, IndexedCards, SpecCard, field_form, sized_form};
+use crate::storage::{names_in, with_card};
+use rpg_card_index::IndexedCards;
+use rpg_cards::{Defined, Definition, SpecCard, field_form, sized_form};
 use rpg_sheet_specs::{ExtensionSpec, InputSpec, Spec, TableSpec};
 use rpg_symbols::is_same_form;
 
@@ -21,17 +24,37 @@ pub fn redefines(
 ) -> bool
     requires split { source.now ≡ before.now ++ card.now ∷ after.now }
     requires few { length source.now ≤ 2000 }
-    requires limits { AreLimits source.now before.now (card.now ∷ after.now) limits.now }
+    requires limits { AreLimits before.now (card.now ∷ after.now) limits.now }
     ensures { result ≡ names.redefines before.now card.now }
 {
-    if !card.may_define() {
+    let place = limits.items.names;
+    if are_new(source, place, before, card, after) {
         return false;
     }
-    are_other(
+    are_other(source, place, card.definitions().as_slice())
+}
+
+/// Whether all names that a card defines after the first `place` definitions are new, as most are.
+fn are_new(
+    source: &IndexedCards,
+    place: usize,
+    before: &[SpecCard],
+    card: &SpecCard,
+    after: &[SpecCard],
+) -> bool
+    requires split { source.now ≡ before.now ++ card.now ∷ after.now }
+    requires few { length source.now ≤ 2000 }
+    requires place { place ≡ length (definitions before.now) }
+    ensures { OnTrue result (names.redefines before.now card.now ≡ false) }
+{
+    let count = card.definition_count();
+    let known = names_in(source, place, before);
+    let with = names_in(
         source,
-        limits.storage.names.items,
-        card.definitions().as_slice(),
-    )
+        place + count,
+        with_card(source, before, card, after),
+    );
+    with.number == known.number + count as u64
 }
 
 /// Whether one of these, which follow the first `place` definitions, differs in form from those before it.

@@ -7,7 +7,8 @@ ghost use Rattle.rpg_cards.specs.Groups.{input_role, output_role};
 ghost use Rattle.rpg_faults_limits.specs.Sheets.{AreSheets, file_or, group_file, with_role};
 ghost use Rattle.rpg_cards.specs.declared.spec_card.SpecCard.{SpecCard};
 
-use rpg_cards::{FileUse, IndexedCards, SpecCard, use_of};
+use rpg_card_index::IndexedCards;
+use rpg_cards::{FileUse, SpecCard, use_of};
 use rpg_sheet_specs::{InputSpec, OutputSpec, Word};
 
 /// What the cards of a group need from its file.

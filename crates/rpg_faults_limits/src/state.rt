@@ -1,20 +1,19 @@
 //! The state that is kept of the cards before a card.
 
-ghost use Rattle.std.specs.Prelude.{◌≡◌, [], ◌∷◌, ◌++◌, ◌≤◌, length};
+ghost use Rattle.std.specs.Prelude.{◌∷◌, [], ◌++◌, ◌≤◌, List, length};
+ghost use Rattle.rpg_cards.specs.declared.spec_card.SpecCard.{SpecCard};
 ghost use Rattle.rpg_faults_limits.specs.State.{AreLimits};
 
 use crate::calculations::Calculations;
+use crate::items::Items;
 use crate::lines::OpenLine;
-use crate::storage::Storage;
 use crate::types::OpenType;
-use rpg_cards::{IndexedCards, SpecCard};
+use rpg_cards::SpecCard;
 
 /// What the limits need of the cards before a card.
 #[derive(Clone, Copy)]
 pub struct Limits {
-    pub(crate) storage: Storage,
-    /// The storage including the next card.
-    pub(crate) storage_with_next: Storage,
+    pub(crate) items: Items,
     pub(crate) calculations: Calculations,
     pub(crate) open_type: OpenType,
     pub(crate) open_line: OpenLine,
@@ -22,16 +21,11 @@ pub struct Limits {
 
 impl Limits {
     /// Returns the state before the first card.
-    pub fn nothing(source: &IndexedCards) -> Self
-        requires { length source.now ≤ 2000 }
-        ensures { AreLimits source.now [] source.now result }
+    pub fn nothing() -> Self
+        ensures { (cards : List SpecCard) → AreLimits [] cards result }
     {
-        let storage = Storage::nothing(source);
-        let mut storage_with_next = storage;
-        storage_with_next.add_next(source, source.as_slice());
         Limits {
-            storage,
-            storage_with_next,
+            items: Items::NONE,
             calculations: Calculations::NONE,
             open_type: OpenType::NONE,
             open_line: OpenLine::NONE,
@@ -39,20 +33,12 @@ impl Limits {
     }
 
     /// Moves on to the next card, in place, since the state is large.
-    pub fn pass(
-        &mut self,
-        source: &IndexedCards,
-        before: &[SpecCard],
-        card: &SpecCard,
-        after: &[SpecCard],
-    )
-        requires split { source.now ≡ before.now ++ card.now ∷ after.now }
-        requires few { length source.now ≤ 2000 }
-        requires limits { AreLimits source.now before.now (card.now ∷ after.now) self.old }
-        ensures { AreLimits source.now (before.now ++ card.now ∷ []) after.now self.new }
+    pub fn pass(&mut self, before: &[SpecCard], card: &SpecCard, after: &[SpecCard])
+        requires few { length before.now ≤ 2000 }
+        requires limits { AreLimits before.now (card.now ∷ after.now) self.old }
+        ensures { AreLimits (before.now ++ card.now ∷ []) after.now self.new }
     {
-        self.storage = self.storage_with_next;
-        self.storage_with_next.add_next(source, after);
+        self.items = self.items.with(before, card);
         self.calculations = self.calculations.with(before, card, after);
         self.open_type = self.open_type.with(before, card);
         self.open_line = self.open_line.with(before, card);

@@ -1,51 +1,73 @@
-//! The names and constants of cards, which use storage.
+//! The names and constants of cards, which take storage.
 
-ghost use Rattle.std.specs.Prelude.{List, [], ◌∷◌, ◌++◌, ◌≤◌, length};
-ghost use Rattle.rpg_cards.specs.declared.spec_card.SpecCard.{SpecCard};
-ghost use Rattle.rpg_faults_limits.specs.State.{IsStorage, IsStorageBeforeCard, IsStorageBeforeRest, IsStorageWithNext};
+ghost use Rattle.std.specs.Prelude.{◌≡◌, [], ◌∷◌, ◌++◌, ◌+◌, ◌≤◌, length};
+ghost use Rattle.std.specs.Bool.{OnTrue};
+ghost use Rattle.rpg_cards.specs.Constants as constants;
+ghost use Rattle.rpg_cards.specs.Names.{definitions};
+ghost use Rattle.rpg_faults_limits.specs.Limits as limits;
+ghost use Rattle.rpg_faults_limits.specs.State.{BeginsWith, KeepsStorage};
 
-use crate::totals::{Totals, constants_with, names_of, names_with};
-use rpg_cards::{IndexedCards, SpecCard};
+use rpg_card_index::IndexedCards;
+use rpg_cards::SpecCard;
+use rpg_symbols::Totals;
 
-/// Names and constants of the cards before a card, and the names of the whole source.
-#[derive(Clone, Copy)]
-pub struct Storage {
-    pub names: Totals,
-    pub constants: Totals,
-    pub all_names: Totals,
+/// Whether all names and constants of a source are within the limits.
+pub(crate) fn keeps_storage(source: &IndexedCards) -> bool
+    requires { length source.now ≤ 2000 }
+    ensures { OnTrue result (KeepsStorage source.now) }
+{
+    let names = all_names(source);
+    let constants = source.all_constants();
+    names.number + constants.number <= 4000 && names.bytes + constants.bytes <= 65535
 }
 
-impl Storage {
-    /// Returns the storage before the first card.
-    pub(crate) fn nothing(source: &IndexedCards) -> Self
-        requires { length source.now ≤ 2000 }
-        ensures { IsStorage source.now [] result }
-    {
-        Storage {
-            names: Totals::GIVEN,
-            constants: Totals::NONE,
-            all_names: names_of(source),
-        }
-    }
+/// Returns the totals of all names.
+pub(crate) fn all_names(source: &IndexedCards) -> Totals
+    requires { length source.now ≤ 2000 }
+    ensures number { result.number ≡ limits.name_count source.now }
+    ensures bytes { result.bytes ≡ limits.name_bytes source.now }
+    ensures few { result.number ≤ 4002 }
+    ensures few_bytes { result.bytes ≤ 17179869183970 }
+{
+    source.all_names()
+}
 
-    /// Adds the first of the rest, if there is one.
-    pub(crate) fn add_next(&mut self, source: &IndexedCards, rest: &[SpecCard])
-        requires few { length source.now ≤ 2000 }
-        requires storage { (before : List SpecCard) × IsStorageBeforeRest source.now rest.now self.old before }
-        ensures { (before : List SpecCard) → IsStorageBeforeRest source.now rest.now self.old before → IsStorageWithNext source.now before rest.now self.new }
-    {
-        if let Some((next, _)) = rest.split_first() {
-            self.add(source, next);
-        }
-    }
+/// Returns the totals of the names that the first cards define; `count` is the number of their definitions.
+pub(crate) fn names_in(source: &IndexedCards, count: usize, front: &[SpecCard]) -> Totals
+    requires few { length source.now ≤ 2000 }
+    requires front { BeginsWith source.now front.now }
+    requires count { count ≡ length (definitions front.now) }
+    ensures number { result.number ≡ limits.name_count front.now }
+    ensures bytes { result.bytes ≡ limits.name_bytes front.now }
+    ensures few { result.number ≤ 4002 }
+{
+    let _ = front;
+    source.name_totals(count)
+}
 
-    /// Adds one more card.
-    fn add(&mut self, source: &IndexedCards, card: &SpecCard)
-        requires few { length source.now ≤ 2000 }
-        requires storage { (before : List SpecCard) × IsStorageBeforeCard source.now card.now self.old before }
-        ensures { (before : List SpecCard) → IsStorageBeforeCard source.now card.now self.old before → IsStorage source.now (before ++ card.now ∷ []) self.new }
-    {
-        self.names = names_with(self.names, source, card);
-        self.constants = constants_with(self.constants, source, card);
-    }
+/// Returns the totals of the constants of the first cards; `count` is the number of these with repetitions.
+pub(crate) fn constants_in(source: &IndexedCards, count: usize, front: &[SpecCard]) -> Totals
+    requires few { length source.now ≤ 2000 }
+    requires front { BeginsWith source.now front.now }
+    requires count { count ≡ length (constants.constants_in front.now) }
+    ensures number { result.number ≡ length (constants.constants front.now) }
+    ensures bytes { result.bytes ≡ limits.constant_bytes front.now }
+    ensures few { result.number ≤ 4002 }
+    ensures few_bytes { result.bytes ≤ 17179869183970 }
+{
+    let _ = front;
+    source.constant_totals(count)
+}
+
+/// Returns the cards before a card, and the card.
+pub(crate) fn with_card<'a>(
+    source: &IndexedCards<'a>,
+    before: &[SpecCard],
+    card: &SpecCard,
+    after: &[SpecCard],
+) -> &'a [SpecCard]
+    requires { source.now ≡ before.now ++ card.now ∷ after.now }
+    ensures { result.now ≡ before.now ++ card.now ∷ [] }
+{
+    &source.as_slice()[..before.len() + 1]
 }

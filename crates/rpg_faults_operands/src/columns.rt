@@ -6,7 +6,8 @@ ghost use Rattle.rpg_cards.specs.Calculations.{card_ending};
 ghost use Rattle.rpg_faults_operands.specs.Columns as words;
 
 use crate::operands::factor_form;
-use rpg_cards::{IndexedCards, OperationColumns, Shown, SpecCard, columns, last_card};
+use rpg_card_index::IndexedCards;
+use rpg_cards::{OperationColumns, Shown, SpecCard, columns, last_card};
 use rpg_program::form::{FieldForm, is_array, is_table};
 use rpg_sheet_specs::{CalculationSpec, OutputField};
 

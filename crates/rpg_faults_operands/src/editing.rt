@@ -9,7 +9,8 @@ ghost use Rattle.rpg_faults_operands.specs.Sizes.{IsSized};
 
 use crate::forms::is_text;
 use crate::operands::entry_form;
-use rpg_cards::{IndexedCards, SpecCard};
+use rpg_card_index::IndexedCards;
+use rpg_cards::SpecCard;
 use rpg_edit_marks::{EditCode, Fill};
 use rpg_edit_widths::{EditWord, How};
 use rpg_program::form::{FieldForm, Kind};

@@ -7,7 +7,8 @@ ghost use Rattle.rpg_faults_operands.specs.Indexes as indexes;
 use crate::forms::can_index;
 use crate::names::index_name;
 use crate::operands::{Operand, entry_form, form_in, operands_ending, output_operand};
-use rpg_cards::{Content, IndexedCards, SpecCard};
+use rpg_card_index::IndexedCards;
+use rpg_cards::{Content, SpecCard};
 use rpg_program::form::{FieldForm, fits_digits, is_array};
 use rpg_sheet_specs::{Entry, EntryIndex};
 

@@ -5,7 +5,8 @@ ghost use Rattle.rpg_faults_operands.specs.Indicators as indicators;
 ghost use Rattle.rpg_faults_operands.specs.IndicatorMarks as marks;
 
 use crate::indicators::{is_bad_in_calculation, is_bad_in_output, is_never_set};
-use rpg_cards::{IndexedCards, SpecCard, line_conditions_on};
+use rpg_card_index::IndexedCards;
+use rpg_cards::{SpecCard, line_conditions_on};
 use rpg_sheet_specs::{
     CalculationSpec, ColumnRange, ConditionSpec, Indicator, InputFieldSpec, InputSpec, Spec, Three,
 };

@@ -9,7 +9,8 @@ ghost use Rattle.rpg_faults_operands.specs.Operands.{field_content};
 
 use crate::forms::{is_text, is_unwritable};
 use crate::operands::{factor_form, field_content, output_form, result_form};
-use rpg_cards::{Content, IndexedCards, Kinds, OperationColumns, SpecCard, columns, last_card};
+use rpg_card_index::IndexedCards;
+use rpg_cards::{Content, Kinds, OperationColumns, SpecCard, columns, last_card};
 use rpg_program::form::{FieldForm, is_array, is_table, same_kind};
 use rpg_sheet_specs::OutputField;
 

@@ -10,7 +10,8 @@ use crate::indexes::is_badly_indexed;
 use crate::kinds::{are_wrong_kinds, has_wrong_class};
 use crate::names::names_nothing;
 use crate::operands::{factor_form, field_content, operands_ending, output_form};
-use rpg_cards::{IndexedCards, OperationColumns, SpecCard, columns, last_card};
+use rpg_card_index::IndexedCards;
+use rpg_cards::{OperationColumns, SpecCard, columns, last_card};
 use rpg_program::form::FieldForm;
 use rpg_sheet_specs::{CalculationSpec, ColumnRange, OutputField};
 

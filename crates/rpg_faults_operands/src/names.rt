@@ -5,7 +5,8 @@ ghost use Rattle.std.specs.Option.{option_map_or};
 ghost use Rattle.rpg_faults_operands.specs.Names as names;
 
 use crate::operands::{Operand, operands_ending, output_operand};
-use rpg_cards::{Defined, IndexedCards, SpecCard};
+use rpg_card_index::IndexedCards;
+use rpg_cards::{Defined, SpecCard};
 use rpg_sheet_specs::{Entry, EntryIndex};
 use rpg_symbols::Name;
 

@@ -5,9 +5,8 @@ ghost use Rattle.rpg_cards.specs.Names as names;
 ghost use Rattle.rpg_faults_operands.specs.Operands as operands;
 ghost use Rattle.rpg_faults_operands.specs.Sizes.{IsSized};
 
-use rpg_cards::{
-    Column, Content, Defined, IndexedCards, OperationColumns, SpecCard, columns, last_card,
-};
+use rpg_card_index::IndexedCards;
+use rpg_cards::{Column, Content, Defined, OperationColumns, SpecCard, columns, last_card};
 use rpg_program::form::FieldForm;
 use rpg_sheet_specs::{CalculationSpec, Entry, Factor, OutputField, Three};
 use std::marker::Model;

@@ -14,7 +14,8 @@ use crate::indexes::{is_bad_index_field, is_misindexed};
 use crate::kinds::{are_wrong, is_wrong_as_output};
 use crate::names::index_name;
 use crate::operands::{field_content, form_in};
-use rpg_cards::{Column, Content, Defined, IndexedCards, SpecCard, columns, last_card};
+use rpg_card_index::IndexedCards;
+use rpg_cards::{Column, Content, Defined, SpecCard, columns, last_card};
 use rpg_program::form::FieldForm;
 use rpg_sheet_specs::{CalculationSpec, Entry, Factor};
 

@@ -7,8 +7,8 @@ use Rattle.std.specs.Cmp.Lexicographic.{pointwise}
 use Rattle.std.specs.List.{cons_option}
 use Rattle.std.specs.Map.{lookup}
 use Rattle.std.specs.Option.{option_or, option_to_list}
-use Rattle.rpg_cards.proofs.IndexLemmas.{first_at-append}
-use Rattle.rpg_cards.specs.Index.{first_at}
+use Rattle.rpg_cards.proofs.FirstLemmas.{first_at-append}
+use Rattle.rpg_cards.specs.First.{first_at}
 use Rattle.rpg_cards.specs.Keys.{Name}
 use Rattle.rpg_cards.specs.declared.labels.Label.{Label}
 use Rattle.rpg_deck.specs.Seen.{step_in}

@@ -8,7 +8,7 @@ use Rattle.std.proofs.lemmas.Bool.Decides.{nat_tests}
 use Rattle.rpg_cards.specs.Keys.{Name}
 use Rattle.rpg_cards.specs.Labels.{label_named}
 use Rattle.rpg_cards.specs.declared.labels.Label.{Label}
-use Rattle.rpg_cards.specs.Index.{first_at}
+use Rattle.rpg_cards.specs.First.{first_at}
 use Rattle.rpg_faults_tree.specs.Index.{IsLabelIndex, first_label, is_for, label_target}
 use Rattle.rpg_faults_tree.specs.declared.labels.FirstLabel.{FirstLabel}
 

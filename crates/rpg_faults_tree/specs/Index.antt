@@ -9,7 +9,7 @@ use Rattle.rpg_cards.specs.Calls.{reaches, reaches_in}
 use Rattle.rpg_cards.specs.Keys.{Name}
 use Rattle.rpg_cards.specs.Labels.{label_named}
 use Rattle.rpg_cards.specs.declared.labels.Label.{Label}
-use Rattle.rpg_cards.specs.Index.{first_at}
+use Rattle.rpg_cards.specs.First.{first_at}
 use Rattle.rpg_deck.specs.Steps.{Step, calls_of_steps, labels_of_steps}
 use Rattle.rpg_faults_tree.specs.Rules.{calls_back}
 use Rattle.rpg_faults_tree.specs.declared.labels.FirstLabel.{FirstLabel}

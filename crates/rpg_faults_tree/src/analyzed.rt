@@ -10,7 +10,8 @@ ghost use Rattle.rpg_faults_tree.specs.Props.{IsFoundIn-prop};
 
 use crate::found::FlowFaults;
 use crate::in_order::are_in_order;
-use rpg_cards::{IndexedCards, SpecCard};
+use rpg_card_index::IndexedCards;
+use rpg_cards::SpecCard;
 use std::alloc::{AllocError, Global};
 
 /// The most cards of a source.

@@ -8,7 +8,6 @@ ghost use Rattle.rpg_faults_tree.specs.Counted as counted;
 ghost use Rattle.rpg_faults_tree.specs.Counted.{AreCounts};
 
 use rpg_cards::{SpecCard, defined_name, last_card};
-use rpg_sheet_specs::{CalculationSpec, InputSpec, Spec};
 
 /// How many are defined before a card.
 #[derive(Clone, Copy)]
@@ -38,7 +37,7 @@ impl Counts {
     {
         Counts {
             labels: self.labels + u16::from(is_label_at(card, after)),
-            definitions: self.definitions + definition_count(card),
+            definitions: self.definitions + card.definition_count() as u16,
         }
     }
 }
@@ -50,29 +49,5 @@ fn is_label_at(card: &SpecCard, after: &[SpecCard]) -> bool
     match last_card(card, after) {
         None => false,
         Some(calculation) => defined_name(calculation).is_some(),
-    }
-}
-
-/// Counts the names that a card defines, without computing their forms.
-fn definition_count(card: &SpecCard) -> u16
-    ensures { result ≡ length (names.definitions_on card.now.spec) }
-{
-    match &card.spec {
-        Spec::Extension(extension) => match &extension.alternating {
-            None => 1,
-            Some(_) => 2,
-        },
-        Spec::Input(InputSpec::Field(_)) => 1,
-        Spec::Calculation(calculation) => result_count(calculation),
-        _ => 0,
-    }
-}
-
-fn result_count(calculation: &CalculationSpec) -> u16
-    ensures { result ≡ length (option_to_list (names.definition_by calculation.now)) }
-{
-    match (&calculation.length, &calculation.result_field) {
-        (Some(_), Some(_)) => 1,
-        _ => 0,
     }
 }

@@ -65,7 +65,7 @@ fn defines_again(
     match name_given(card, after) {
         None => false,
         Some(given) => {
-            let definitions = usize::from(counts.definitions) + card.definitions().len();
+            let definitions = usize::from(counts.definitions) + card.definition_count();
             is_given(source, counts, &given.name)
                 || !source.cards.is_new_name(definitions, &given.name)
         }
@@ -98,6 +98,9 @@ fn defines_label(
     requires counts { AreCounts before.now (card.now ∷ after.now) counts.now }
     ensures { result ≡ spec.defines_label (labels_of.labels (calculations.calculations_before before.now (card.now ∷ after.now))) card.now }
 {
+    if counts.labels == 0 {
+        return false;
+    }
     let definitions = card.definitions();
     for definition in definitions.as_slice() {
         if is_given(source, counts, &definition.name) {

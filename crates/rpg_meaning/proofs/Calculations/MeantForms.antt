@@ -5,7 +5,7 @@ use Rattle.std.specs.Cmp.Lexicographic.{pointwise}
 use Rattle.std.specs.List.{cons_option, filter_map, flat_map}
 use Rattle.std.specs.Option.{option_or, option_to_list}
 use Rattle.std.specs.Prelude.{is_some, nat_eq, nat_le}
-use Rattle.rpg_cards.proofs.IndexLemmas.{known_stays, lookup_push, option_or_assoc}
+use Rattle.rpg_cards.proofs.FirstLemmas.{known_stays, lookup_push, option_or_assoc}
 use Rattle.rpg_cards.proofs.InsertLemmas.{among}
 use Rattle.rpg_cards.specs.Constants.{constant_form, constants_in, is_same}
 use Rattle.rpg_cards.specs.Keys.{Fixed, Key, Named, Nowhere}

@@ -6,7 +6,6 @@ use Rattle.rpg_causes.proofs.known.limits_before.Goals as goal
 
 pub loop-next-init : goal.loop-next-init
 loop-next-init c =
-    let source = c.args.source.now.cards.now in
     let rest = c.as_slice-rest.result.now in
     let none = c.no_cards-seen.ensures in
     let all = c.as_slice-rest.ensures in
@@ -15,9 +14,7 @@ loop-next-init c =
     record {
       split = sym all ∙ ap (λ cs. cs ++ rest) (sym none);
       few = few;
-      limits =
-          subst (λ cs. AreLimits source cs rest c.nothing-limits.result) (sym none)
-          (subst (λ cs. AreLimits source [] cs c.nothing-limits.result) (sym all) c.nothing-limits.ensures);
+      limits = subst (λ cs. AreLimits cs rest c.nothing-limits.result) (sym none) (c.nothing-limits.ensures rest);
     }
 
 pub loop-next-preserved : goal.loop-next-preserved
@@ -31,14 +28,14 @@ loop-next-preserved c =
     record {
       split = here ∙ sym (append_assoc seen (next ∷ []) following) ∙ ap (λ b. b ++ following) (sym front);
       few = omega (arith, longer, c.if-place-count.false, c.loop-next.invariant.few);
-      limits = subst (λ b. AreLimits c.args.source.now.cards.now b following c.pass.new.self) (sym front) c.pass.ensures;
+      limits = subst (λ b. AreLimits b following c.pass.new.self) (sym front) c.pass.ensures;
     }
 
 pub returns-then-place-count : goal.returns-then-place-count
 returns-then-place-count c =
     let same : length c.loop-next.seen.now ≡ length c.args.before.now = omega (arith, c.if-place-count.true) in
-    subst (λ b. AreLimits c.args.source.now.cards.now b (c.args.card.now ∷ c.args.after.now) c.loop-next.limits) (same_front _ _ c.loop-next.rest.now _ _ c.loop-next.invariant.split c.requires same)
-    (subst (λ r. AreLimits c.args.source.now.cards.now c.loop-next.seen.now r c.loop-next.limits) (same_back _ c.loop-next.seen.now _ c.args.before.now _ c.loop-next.invariant.split c.requires same) c.loop-next.invariant.limits)
+    subst (λ b. AreLimits b (c.args.card.now ∷ c.args.after.now) c.loop-next.limits) (same_front _ _ c.loop-next.rest.now _ _ c.loop-next.invariant.split c.requires same)
+    (subst (λ r. AreLimits c.loop-next.seen.now r c.loop-next.limits) (same_back _ c.loop-next.seen.now _ c.args.before.now _ c.loop-next.invariant.split c.requires same) c.loop-next.invariant.limits)
 
 pub returns : goal.returns
 returns c =

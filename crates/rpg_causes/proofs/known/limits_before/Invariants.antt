@@ -6,7 +6,7 @@ abbrev pub invariant-loop-next : goal.invariant-loop-next
 invariant-loop-next l = record {
   split : l.source.cards.now ≡ l.seen ++ l.rest;
   few : length l.seen ≤ length l.before;
-  limits : AreLimits l.source.cards.now l.seen l.rest l.limits;
+  limits : AreLimits l.seen l.rest l.limits;
 }
 
 abbrev pub decreases-loop-next : goal.decreases-loop-next

@@ -1,6 +1,6 @@
 use Rattle.std.proofs.Common.{◌∙◌, ap, subst}
 use Rattle.std.specs.Prelude.{MatchOption}
-use Rattle.rpg_cards.specs.Index.{IsIndexOf}
+use Rattle.rpg_card_index.specs.Index.{IsIndexOf}
 use Rattle.rpg_faults.specs.Faults.{Faultless, IsLeastFault, least_fault}
 use Rattle.rpg_faults.specs.declared.fault.Fault.{Fault}
 use Rattle.rpg_faults.proofs.LeastLemmas.{least}

@@ -1,4 +1,4 @@
-use Rattle.std.proofs.Common.{◌≡◌, ◌∙◌, ◌+◌, ◌||◌, Bool, true, false, not, ap, length, refl, sym, take}
+use Rattle.std.proofs.Common.{◌≡◌, ◌∙◌, ◌+◌, ◌||◌, Bool, true, false, not, ap, refl, sym, take}
 use Rattle.std.specs.Option.{option_map_or}
 use Rattle.rpg_cards.specs.Names.{definitions, is_new_name}
 use Rattle.rpg_faults_tree.proofs.Twice.{again-is, defined-is, is_again}
@@ -31,8 +31,8 @@ returns-else-is_given c =
     let after = c.args.after.now in
     let name = c.in-Some.given.name in
     let given = c.is_given.ensures before after card c.requires.split c.requires.counts in
-    ap not (c.is_new_name.ensures ∙ ap (λ n. is_new_name name (take (n + c.len.result) (definitions c.args.source.now.cards.now))) c.from.ensures)
-    ∙ defined-is before card after c.args.counts.now c.requires.counts c.args.source.now.cards.now c.len.result name c.requires.split (c.len.ensures.value ∙ ap length c.definitions.ensures)
+    ap not (c.is_new_name.ensures ∙ ap (λ n. is_new_name name (take (n + c.definition_count.result) (definitions c.args.source.now.cards.now))) c.from.ensures)
+    ∙ defined-is before card after c.args.counts.now c.requires.counts c.args.source.now.cards.now c.definition_count.result name c.requires.split c.definition_count.ensures
     ∙ or_no _ _ (sym given ∙ c.if-is_given.false)
     ∙ ap (λ x. option_map_or (is_again before card after) x false) (sym c.in-Some.is ∙ c.name_given.ensures)
     ∙ sym (again-is before card after)

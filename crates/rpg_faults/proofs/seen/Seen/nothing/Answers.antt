@@ -12,7 +12,7 @@ returns-clause-seen c =
       few = c.args.source.now.few;
       group_end = subst (λ (l : List SpecCard). EndsGroup l (option_copied c.first_group_end.result)) c.as_slice-2.ensures c.first_group_end.ensures;
       sheets = c.none.ensures cards;
-      limits = c.nothing.ensures;
+      limits = c.nothing.ensures cards;
       counts = c.nothing-2.ensures cards;
       places = c.nothing-3.ensures;
     }

@@ -14,7 +14,7 @@ returns-clause-seen c =
       few = c.requires.few;
       group_end = c.next_group_end-self.ensures c.args.card.now c.requires.group_end;
       sheets = subst (λ b. AreSheets cards b c.with-self.result) same c.with-self.ensures;
-      limits = subst (λ b. AreLimits cards b after c.pass.new.self) same c.pass.ensures;
+      limits = subst (λ b. AreLimits b after c.pass.new.self) same c.pass.ensures;
       counts = subst (λ b. AreCounts b after c.with-self-2.result) same c.with-self-2.ensures;
       places = rw c.with_card-self.ensures c.pass-2.ensures;
     }

@@ -1,0 +1,4 @@
+mod FileLemmas
+mod IndexLemmas
+mod PlaceLemmas
+pub mod TotalLemmas

@@ -1,9 +1,0 @@
-use Rattle.std.proofs.Common.{◌≡◌, take}
-use Rattle.rpg_cards.specs.Index.{AreFirstFiles}
-use Rattle.rpg_cards.proofs.first_places.FirstFiles.of.Given as goal
-
-abbrev pub invariant-loop-card : goal.invariant-loop-card
-invariant-loop-card l = record {
-  files : AreFirstFiles l.files (take l.card-index l.cards);
-  place : l.place ≡ l.card-index;
-}

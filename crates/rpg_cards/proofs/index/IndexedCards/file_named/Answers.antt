@@ -1,7 +1,0 @@
-use Rattle.std.proofs.Common.{ap, length, take, ◌∙◌}
-use Rattle.std.proofs.Math.Seq.{take-length}
-use Rattle.rpg_cards.specs.Files.{file_named}
-use Rattle.rpg_cards.proofs.index.IndexedCards.file_named.Goals as goal
-
-pub returns : goal.returns
-returns c = c.file_named_before.ensures ∙ ap (file_named c.args.name.now) (ap (λ cards. take (length cards) c.args.self.now) c.self.view_is ∙ take-length c.args.self.now)
