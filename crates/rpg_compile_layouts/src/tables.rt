@@ -8,7 +8,7 @@ ghost use Rattle.rpg_faults_data.specs.Data.{entry_on};
 ghost use Rattle.rpg_compile_program.specs.Data.{entry_value};
 
 use rpg_cards::SpecCard;
-use rpg_decimal::read_zoned;
+use rpg_faults_data::number_in;
 use rpg_program::value::Value;
 use rpg_sheet_specs::{DataSpec, TableSpec};
 use std::alloc::{AllocError, Global};
@@ -83,8 +83,11 @@ fn part(text: &[u8], start: usize, count: usize) -> &[u8]
     ensures value { result.now ≡ slice_range text.now start (start + count) }
     ensures length { length result.now ≤ count }
 {
-    let following = &text[start.min(text.len())..];
-    &following[..count.min(following.len())]
+    let end = start + count;
+    if end <= text.len() {
+        return &text[start..end];
+    }
+    &text[start.min(text.len())..]
 }
 
 /// Returns the value of a table's entry, zero if it should be a number but isn't.
@@ -106,8 +109,5 @@ fn number_or_zero(text: &[u8]) -> i64
     if text.is_empty() {
         return 0;
     }
-    match read_zoned(text) {
-        Ok(number) => number,
-        Err(_) => 0,
-    }
+    number_in(text).unwrap_or(0)
 }

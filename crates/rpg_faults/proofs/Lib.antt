@@ -1,4 +1,5 @@
 pub mod EveryLemmas
+pub mod JoinedLemmas
 pub mod LeastLemmas
 pub mod LevelLemmas
 pub mod MatchLemmas

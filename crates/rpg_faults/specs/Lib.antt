@@ -4,6 +4,7 @@ pub mod Codes
 pub mod Every
 pub mod EverySource
 pub mod Faults
+pub mod Joined
 pub mod Judged
 pub mod Lengths
 pub mod Marks

@@ -1,10 +1,12 @@
 //! F16: columns of records and of lines.
 
-ghost use Rattle.std.specs.Prelude.{◌≡◌, ◌≤◌, ◌∷◌, ◌++◌, Option, length};
+ghost use Rattle.std.specs.Prelude.{◌≡◌, ◌≤◌, ◌∷◌, ◌++◌, List, Option, false, length};
+ghost use Rattle.std.specs.Bool.{OnFalse};
 ghost use Rattle.std.specs.Option.{option_map};
 ghost use Rattle.rpg_faults_limits.specs.Sheets.{AreSheets};
 ghost use Rattle.rpg_faults.specs.Places as rules;
 ghost use Rattle.rpg_faults.specs.State.{IsPlaces};
+ghost use Rattle.rpg_cards.specs.declared.spec_card.SpecCard.{SpecCard};
 ghost use Rattle.rpg_sheet_specs.specs.declared.file.FileSpec.{FileSpec};
 
 use crate::state::Places;
@@ -15,6 +17,7 @@ use rpg_faults_operands::width;
 use rpg_sheet_specs::{InputFieldSpec, InputSpec, OutputField, RecordCode, Three};
 
 /// Whether columns lie outside the record or the line, a field is too wide for its end position, or control or match fields don't agree.
+#[inline(always)]
 pub fn misplaces(
     source: &IndexedCards,
     sheets: &Sheets,
@@ -31,13 +34,34 @@ pub fn misplaces(
 {
     if let Some(input) = card.input() {
         return outside_on_input(own_length(source, sheets.types.file, input), input)
-            || places.lengths.join_badly(card, after)
-            || places.matches.join_badly(card, after);
+            || (may_join(input, after)
+                && (places.lengths.join_badly(card, after)
+                    || places.matches.join_badly(card, after)));
     }
     match card.output_field() {
         None => false,
         Some(field) => outside_line(source, length_of(sheets.lines.file), field),
     }
+}
+
+/// Whether an I card may join fields badly. Most types have no control or match fields: nothing is joined.
+fn may_join(input: &InputSpec, after: &[SpecCard]) -> bool
+    ensures { OnFalse result ((before : List SpecCard) → rules.joins_badly before after.now input.now ≡ false) }
+{
+    if let InputSpec::Field(_) = input {
+        return true;
+    }
+    for card in after {
+        match card.input() {
+            Some(InputSpec::Type(_)) => return false,
+            Some(InputSpec::Field(field)) if field.level.is_some() || field.match_level.is_some() =>
+                {
+                    return true;
+                }
+            _ => {}
+        }
+    }
+    false
 }
 
 /// Returns the record length of an I card's file: that of the open type, or of the file that a type card names.

@@ -2,3 +2,4 @@ pub mod DataRule
 pub mod DeckLemmas
 pub mod EntryLemmas
 pub mod EntryWalk
+pub mod NumberLemmas

@@ -1,11 +1,13 @@
 //! The entries of a table on the cards of its deck.
 
-ghost use Rattle.std.specs.Prelude.{◌≡◌, ◌≤◌, length, IfSome, option_copied};
-ghost use Rattle.std.specs.List.{last_or};
+ghost use Rattle.std.specs.Prelude.{◌≡◌, ◌≤◌, Some, false, int_lt, length, IfSome, option_copied};
+ghost use Rattle.std.specs.List.{last_or, list_any};
+ghost use Rattle.std.specs.Option.{option_map_or};
 ghost use Rattle.rpg_faults_data.specs.Data as rules;
-ghost use Rattle.rpg_faults_data.specs.Entries.{HasNumberSize, any_wrong, is_wrong, texts_in_deck, texts_on_card};
+ghost use Rattle.rpg_faults_data.specs.Entries.{HasNumberSize, any_wrong, any_wrong_number, is_wrong, number_before, texts_in_deck, texts_on_card};
 
 use crate::layout::Layout;
+use crate::number::number_in;
 use rpg_cards::SpecCard;
 use rpg_decimal::{compare_text, read_zoned};
 use rpg_sheet_specs::{DataSpec, TableSpec};
@@ -73,6 +75,29 @@ fn any_wrong(
     requires before { IfSome before (λ b. length b.now ≡ layout.length) }
     ensures { result ≡ any_wrong table.now (option_copied before.entry) (texts_on_card layout card.now number) }
 {
+    if !table.ascending {
+        return any_bad(table.decimals, number, layout, card);
+    }
+    match table.decimals {
+        None => any_wrong_text(table, before, number, layout, card),
+        Some(_) => any_wrong_number(number_before(before), number, layout, card),
+    }
+}
+
+/// Whether one of `number` texts of a card is wrong, given the one before them.
+fn any_wrong_text(
+    table: &TableSpec,
+    before: Option<&[u8]>,
+    number: usize,
+    layout: Layout,
+    card: &[u8],
+) -> bool
+    requires card { length card.now ≡ 80 }
+    requires number { number ≤ layout.per_card }
+    requires table { HasNumberSize table.now.decimals layout.length }
+    requires before { IfSome before (λ b. length b.now ≡ layout.length) }
+    ensures { result ≡ any_wrong table.now (option_copied before.entry) (texts_on_card layout card.now number) }
+{
     let mut before = before;
     for i in 0..number {
         let entry = layout.entry(card, i);
@@ -80,6 +105,59 @@ fn any_wrong(
             return true;
         }
         before = Some(entry);
+    }
+    false
+}
+
+/// Whether one of `count` entries of a card isn't a number, or is lower than the number before it. Each is read once.
+fn any_wrong_number(before: Option<i64>, count: usize, layout: Layout, card: &[u8]) -> bool
+    requires card { length card.now ≡ 80 }
+    requires count { count ≤ layout.per_card }
+    requires low { 1 ≤ layout.length }
+    requires high { layout.length ≤ 15 }
+    ensures { result ≡ any_wrong_number before (texts_on_card layout card.now count) }
+{
+    let mut before = before;
+    for i in 0..count {
+        let Some(number) = number_in(layout.entry(card, i)) else {
+            return true;
+        };
+        if is_below(number, before) {
+            return true;
+        }
+        before = Some(number);
+    }
+    false
+}
+
+fn is_below(number: i64, before: Option<i64>) -> bool
+    ensures { result ≡ option_map_or (λ m. int_lt number m) before false }
+{
+    match before {
+        None => false,
+        Some(before) => number < before,
+    }
+}
+
+/// Returns the number of the entry before the first one of a card.
+fn number_before(before: Option<&[u8]>) -> Option<i64>
+    requires { IfSome before (λ b. HasNumberSize (Some 0) (length b.now)) }
+    ensures { result ≡ number_before (option_copied before.entry) }
+{
+    number_in(before?)
+}
+
+/// Whether one of `count` entries of a card is bad.
+fn any_bad(decimals: Option<u8>, count: usize, layout: Layout, card: &[u8]) -> bool
+    requires card { length card.now ≡ 80 }
+    requires count { count ≤ layout.per_card }
+    requires size { HasNumberSize decimals layout.length }
+    ensures { result ≡ list_any (rules.is_bad decimals) (texts_on_card layout card.now count) }
+{
+    for i in 0..count {
+        if is_bad(decimals, layout.entry(card, i)) {
+            return true;
+        }
     }
     false
 }

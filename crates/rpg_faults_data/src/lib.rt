@@ -6,9 +6,11 @@ mod data;
 mod decks;
 mod entries;
 mod layout;
+mod number;
 mod wrong_entry;
 
 pub use cause::{DataCause, Need, data_cause};
 pub use data::{breaks_data, data_columns};
 pub use decks::{Decks, after_next};
+pub use number::number_in;
 pub use wrong_entry::{EntryCause, EntryFault};

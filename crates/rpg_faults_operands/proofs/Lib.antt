@@ -1,4 +1,3 @@
 pub mod ValidLemmas
 pub mod Listed
 pub mod SizeLemmas
-pub mod Unedited

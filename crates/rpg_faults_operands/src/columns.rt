@@ -9,19 +9,21 @@ use crate::operands::factor_form;
 use rpg_card_index::IndexedCards;
 use rpg_cards::{OperationColumns, Shown, SpecCard, columns, last_card};
 use rpg_program::form::{FieldForm, is_array, is_table};
-use rpg_sheet_specs::{CalculationSpec, OutputField};
+use rpg_sheet_specs::{CalculationSpec, OutputField, OutputSpec, Spec};
 
-/// F9 for output fields and for the sequence of what LOKUP searches.
+/// F9 for output fields and for the sequence of what LOKUP searches. Inlined, since each card is tested.
+#[inline(always)]
 pub fn bad_columns(source: &IndexedCards, card: &SpecCard, after: &[SpecCard]) -> bool
     ensures { result ≡ words.bad_operand_columns source.now card.now after.now }
 {
-    is_bad_search_ending(source, card, after)
-        || match card.output_field() {
-            None => false,
-            Some(field) => is_bad_output_field(field),
-        }
+    match &card.spec {
+        Spec::Calculation(_) => is_bad_search_ending(source, card, after),
+        Spec::Output(OutputSpec::Field(field)) => is_bad_output_field(field),
+        _ => false,
+    }
 }
 
+#[inline(never)]
 fn is_bad_search_ending(source: &IndexedCards, card: &SpecCard, after: &[SpecCard]) -> bool
     ensures { result ≡ option_map_or (words.bad_search source.now) (card_ending card.now after.now) false }
 {

@@ -1,10 +1,11 @@
 //! F17: edit codes and words that don't fit; and the width of an output field.
 
-ghost use Rattle.std.specs.Prelude.{◌≡◌, ◌≤◌, ◌&&◌, true, is_some, IfSome};
+ghost use Rattle.std.specs.Prelude.{◌≡◌, ◌≤◌, ◌&&◌, true, is_some, option_and_then, IfSome};
 ghost use Rattle.std.specs.Option.{is_none};
 ghost use Rattle.rpg_edit_marks.specs.How.{width_of};
 ghost use Rattle.rpg_edit_marks.specs.declared.how.How.TheVariants as how;
 ghost use Rattle.rpg_faults_operands.specs.Editing as editing;
+ghost use Rattle.rpg_faults_operands.specs.Operands.{card_entry_form};
 ghost use Rattle.rpg_faults_operands.specs.Sizes.{IsSized};
 
 use crate::forms::is_text;
@@ -14,7 +15,7 @@ use rpg_cards::SpecCard;
 use rpg_edit_marks::{EditCode, Fill};
 use rpg_edit_widths::{EditWord, How};
 use rpg_program::form::{FieldForm, Kind};
-use rpg_sheet_specs::{OutputField, TextLiteral};
+use rpg_sheet_specs::{Entry, OutputField, TextLiteral};
 
 // ---- the meaning of the columns
 
@@ -83,15 +84,13 @@ pub(crate) fn lacks_fill(field: &OutputField) -> bool
     }
 }
 
+#[inline(never)]
 fn is_badly_edited(source: &IndexedCards, field: &OutputField) -> bool
     ensures { result ≡ editing.edits_badly source.now field.now }
 {
     let Some(entry) = &field.operand else {
         return false;
     };
-    if is_unedited(field) {
-        return false;
-    }
     match entry_form(source, entry) {
         None => lacks_fill(field),
         Some(form) => fitting_how(form, field).is_none(),
@@ -105,13 +104,16 @@ fn is_unedited(field: &OutputField) -> bool
     field.code.is_none() && field.text.is_none()
 }
 
-/// F17: an edit code or word that doesn't fit.
+/// F17: an edit code or word that doesn't fit. Inlined, since each card is tested.
+#[inline(always)]
 pub fn bad_editing(source: &IndexedCards, card: &SpecCard) -> bool
     ensures { result ≡ editing.bad_editing source.now card.now }
 {
     match card.output_field() {
         None => false,
-        Some(field) => is_badly_edited(source, field),
+        Some(field) => {
+            field.operand.is_some() && !is_unedited(field) && is_badly_edited(source, field)
+        }
     }
 }
 
@@ -128,6 +130,7 @@ fn width_by(form: FieldForm, how: &How) -> usize
     }
 }
 
+#[inline(never)]
 fn edited_width(form: FieldForm, field: &OutputField) -> Option<usize>
     requires { IsSized form }
     ensures { result ≡ editing.edited_width form field.now }
@@ -139,15 +142,29 @@ fn edited_width(form: FieldForm, field: &OutputField) -> Option<usize>
 }
 
 /// Returns the width of an output field in columns; None if its code or word doesn't fit, or its name has no form.
+#[inline(always)]
 pub fn width(source: &IndexedCards, field: &OutputField) -> Option<usize>
     ensures { result ≡ editing.width source.now field.now }
 {
     match &field.operand {
         None => constant_width(field),
-        Some(entry) => edited_width(entry_form(source, entry)?, field),
+        Some(entry) => field_width(source, entry, field),
     }
 }
 
+/// Returns the width of a named field; most fields are as long as they are stored.
+#[inline(never)]
+fn field_width(source: &IndexedCards, entry: &Entry, field: &OutputField) -> Option<usize>
+    ensures { result ≡ option_and_then (λ form. editing.edited_width form field.now) (card_entry_form source.now entry.now) }
+{
+    let form = entry_form(source, entry)?;
+    if is_unedited(field) {
+        return Some(usize::from(form.length));
+    }
+    edited_width(form, field)
+}
+
+#[inline(always)]
 fn constant_width(field: &OutputField) -> Option<usize>
     ensures { result ≡ editing.constant_width field.now }
 {

@@ -10,7 +10,8 @@ use rpg_sheet_specs::{
     CalculationSpec, ConditionSpec, Indicator, InputFieldSpec, InputSpec, OutputSpec, Spec, Three,
 };
 
-/// F8: an indicator that its columns don't allow.
+/// F8: an indicator that its columns don't allow. Inlined, since each card is tested.
+#[inline(always)]
 pub fn bad_indicator(source: &IndexedCards, card: &SpecCard) -> bool
     ensures { result ≡ indicators.bad_indicator source.now card.now }
 {
@@ -22,6 +23,7 @@ pub fn bad_indicator(source: &IndexedCards, card: &SpecCard) -> bool
     }
 }
 
+#[inline(never)]
 fn is_bad_on_input(input: &InputSpec) -> bool
     ensures { result ≡ indicators.bad_on_input input.now }
 {
@@ -54,6 +56,7 @@ fn is_bad_on_field(field: &InputFieldSpec) -> bool
         || (field.decimals.is_none() && (indicators.first.is_some() || indicators.second.is_some()))
 }
 
+#[inline(always)]
 fn is_bad_on_calculation(source: &IndexedCards, calculation: &CalculationSpec) -> bool
     ensures { result ≡ indicators.bad_on_calculation source.now calculation.now }
 {
@@ -64,13 +67,14 @@ fn is_bad_on_calculation(source: &IndexedCards, calculation: &CalculationSpec) -
         || cannot_be_set(calculation.resulting_indicators)
 }
 
+#[inline(always)]
 fn is_bad_on_output(source: &IndexedCards, output: &OutputSpec) -> bool
     ensures { result ≡ indicators.bad_on_output source.now output.now }
 {
     let conditions = match output {
-        OutputSpec::Record(line) => line.conditions,
-        OutputSpec::And(conditions) | OutputSpec::Or(conditions) => *conditions,
-        OutputSpec::Field(field) => field.conditions,
+        OutputSpec::Record(line) => &line.conditions,
+        OutputSpec::And(conditions) | OutputSpec::Or(conditions) => conditions,
+        OutputSpec::Field(field) => &field.conditions,
     };
     is_bad_in_output(source, conditions.first)
         || is_bad_in_output(source, conditions.second)

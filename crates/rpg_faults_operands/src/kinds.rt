@@ -52,6 +52,7 @@ fn is_wrong_output(source: &IndexedCards, card: &SpecCard) -> bool
 }
 
 /// Whether the operands are of the wrong kind, given the forms of factor 1, factor 2 and the result field.
+#[inline(always)]
 pub(crate) fn are_wrong(
     columns: OperationColumns,
     factor_1: Option<FieldForm>,

@@ -19,7 +19,9 @@ use rpg_cards::{Column, Content, Defined, SpecCard, columns, last_card};
 use rpg_program::form::FieldForm;
 use rpg_sheet_specs::{CalculationSpec, Entry, Factor};
 
-/// Whether all names on a card are defined and its operands are valid, so that it breaks neither F1, F4 nor F5.
+/// Whether all names on a card are defined and its operands are valid, so that it breaks neither F1, F4 nor F5. Inlined, since each card is
+/// tested.
+#[inline(always)]
 pub fn has_valid_operands(source: &IndexedCards, card: &SpecCard, after: &[SpecCard]) -> bool
     ensures { OnTrue result (HasValidOperands source.now card.now after.now) }
 {
@@ -27,6 +29,7 @@ pub fn has_valid_operands(source: &IndexedCards, card: &SpecCard, after: &[SpecC
 }
 
 /// The test for the calculation that ends on the card.
+#[inline(always)]
 fn is_valid_ending(source: &IndexedCards, card: &SpecCard, after: &[SpecCard]) -> bool
     ensures { OnTrue result (IfSome (card_ending card.now after.now) (IsValidCalculation source.now)) }
 {
@@ -36,6 +39,7 @@ fn is_valid_ending(source: &IndexedCards, card: &SpecCard, after: &[SpecCard]) -
     }
 }
 
+#[inline(never)]
 fn is_valid_calculation(source: &IndexedCards, calculation: &CalculationSpec) -> bool
     ensures { OnTrue result (IsValidCalculation source.now calculation.now) }
 {
@@ -56,6 +60,7 @@ fn is_valid_calculation(source: &IndexedCards, calculation: &CalculationSpec) ->
 }
 
 /// Returns the form of a factor, if its column is for a field, or None if the factor may be bad.
+#[inline(always)]
 fn valid_factor(
     source: &IndexedCards,
     column: Column,
@@ -76,6 +81,7 @@ fn valid_factor(
 }
 
 /// Like `valid_factor`, for a result field.
+#[inline(always)]
 fn valid_result(
     source: &IndexedCards,
     column: Column,
@@ -93,6 +99,7 @@ fn valid_result(
 }
 
 /// Returns the form of a field that is defined and validly indexed.
+#[inline(always)]
 fn valid_form(source: &IndexedCards, content: Content, field: &Entry) -> Option<FieldForm>
     ensures valid { IfSome result (λ form. IsValidOperand source.now (Some (operands.operand_with content field.now))) }
     ensures form { IfSome result (λ form. operands.card_entry_form source.now field.now ≡ Some form) }
@@ -108,6 +115,7 @@ fn valid_form(source: &IndexedCards, content: Content, field: &Entry) -> Option<
 }
 
 /// Whether an index, or its absence, is valid for a field of this form.
+#[inline(always)]
 fn has_valid_index(source: &IndexedCards, content: Content, field: &Entry, form: FieldForm) -> bool
     requires { operands.card_entry_form source.now field.now ≡ Some form }
     ensures { OnTrue result (IsValidOperand source.now (Some (operands.operand_with content field.now))) }
@@ -126,6 +134,7 @@ fn has_valid_index(source: &IndexedCards, content: Content, field: &Entry, form:
 }
 
 /// The test for an output field.
+#[inline(always)]
 fn is_valid_output(source: &IndexedCards, card: &SpecCard) -> bool
     ensures operand { OnTrue result (IsValidOperand source.now (operands.output_operand_on card.now)) }
     ensures kind { OnTrue result (option_map_or (kinds.wrong_in_output source.now) (output_field_on card.now.spec) false ≡ false) }

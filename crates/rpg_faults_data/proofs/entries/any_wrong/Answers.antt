@@ -1,17 +1,14 @@
-use Rattle.std.proofs.Common.{◌∙◌, sym}
+use Rattle.std.proofs.Common.{◌∙◌, ap, sym}
 use Rattle.std.specs.Prelude.{option_copied}
-use Rattle.rpg_faults_data.specs.Data.{entry_on}
-use Rattle.rpg_faults_data.proofs.EntryLemmas.{found_here, not_here}
+use Rattle.rpg_faults_data.specs.Entries.{any_wrong_number, texts_on_card}
+use Rattle.rpg_faults_data.proofs.NumberLemmas.{any_wrong-bad, any_wrong-number}
 use Rattle.rpg_faults_data.proofs.entries.any_wrong.Goals as goal
 
-pub returns-then-is_wrong : goal.returns-then-is_wrong
-returns-then-is_wrong c =
-    found_here c.args.table.now (option_copied c.loop-i.before) (entry_on c.args.layout.width c.args.layout.from c.args.layout.length c.args.card.now) c.loop-i.i c.args.number c.entry-entry.result.now _
-    c.loop-i-test.true c.entry-entry.ensures.value c.loop-i.invariant.same (sym c.is_wrong.ensures ∙ c.if-is_wrong.true)
+pub returns-then-not-table : goal.returns-then-not-table
+returns-then-not-table c =
+    c.any_bad.ensures ∙ sym (any_wrong-bad c.args.table.now (option_copied c.args.before) (texts_on_card c.args.layout c.args.card.now c.args.number) c.if-not-table.true)
 
-pub loop-i-preserved : goal.loop-i-preserved
-loop-i-preserved c = record {
-  same = not_here c.args.table.now (option_copied c.loop-i.before) (entry_on c.args.layout.width c.args.layout.from c.args.layout.length c.args.card.now) c.loop-i.i c.args.number c.entry-entry.result.now _
-      c.loop-i-test.true c.entry-entry.ensures.value c.loop-i.invariant.same (sym c.is_wrong.ensures ∙ c.if-is_wrong.false);
-  size = c.entry-entry.ensures.length;
-}
+pub returns-in-Some : goal.returns-in-Some
+returns-in-Some c =
+    c.any_wrong_number.ensures ∙ ap (λ o. any_wrong_number o (texts_on_card c.args.layout c.args.card.now c.args.number)) c.number_before.ensures
+    ∙ sym (any_wrong-number c.args.table.now c.in-Some.field-0 c.in-Some.is c.if-not-table.false (option_copied c.args.before) (texts_on_card c.args.layout c.args.card.now c.args.number))

@@ -3,7 +3,7 @@ use Rattle.std.specs.List.{range_with_len}
 use Rattle.std.specs.Prelude.{IfSome, option_copied}
 use Rattle.rpg_faults_data.specs.Data.{entry_on}
 use Rattle.rpg_faults_data.specs.Entries.{any_wrong}
-use Rattle.rpg_faults_data.proofs.entries.any_wrong.Given as goal
+use Rattle.rpg_faults_data.proofs.entries.any_wrong_text.Given as goal
 
 abbrev pub invariant-loop-i : goal.invariant-loop-i
 invariant-loop-i l = record {
