@@ -4,14 +4,14 @@ ghost use Rattle.std.specs.Prelude.{◌≡◌, ◌++◌, All, map, IfOk, OnOk};
 ghost use Rattle.std.specs.Option.{option_and_then, option_to_list};
 ghost use Rattle.rpg_cards.specs.Insertions.{insert_all};
 ghost use Rattle.rpg_cards.specs.Constants as known;
-ghost use Rattle.rpg_program.specs.Values.{held};
+ghost use Rattle.rpg_program.specs.Values.{entries_held, held};
 ghost use Rattle.rpg_compile_layouts.specs.Held.{held_values};
 ghost use Rattle.rpg_compile_program.specs.Data.{constant_value, constant_values};
 
 use indexmap::IndexSet;
 use rpg_cards::{Constant, SpecCard, factor_constant};
 use rpg_program::form::FieldForm;
-use rpg_program::value::Value;
+use rpg_program::value::{FieldValues, Value};
 use rpg_sheet_specs::{Factor, OutputField, OutputSpec, Spec};
 use std::alloc::{AllocError, Global};
 
@@ -71,7 +71,7 @@ pub(crate) fn add_constants(
     alloc: Global,
     constants: &[Constant],
     forms: &mut Vec<FieldForm>,
-    values: &mut Vec<Vec<Value>>,
+    values: &mut Vec<FieldValues>,
 ) -> Result<(), AllocError>
     ensures forms { OnOk result (forms.new.items ≡ forms.old.items ++ map known.constant_form constants.now) }
     ensures values { OnOk result (held_values values.new.items ≡ held_values values.old.items ++ map constant_values constants.now) }
@@ -90,10 +90,10 @@ pub(crate) fn add_constants(
 }
 
 /// Returns the value of its one entry.
-fn values_of(alloc: Global, constant: &Constant) -> Result<Vec<Value>, AllocError>
-    ensures { IfOk result (λ v. map held v.items ≡ constant_values constant.now) }
+fn values_of(alloc: Global, constant: &Constant) -> Result<FieldValues, AllocError>
+    ensures { IfOk result (λ v. entries_held v ≡ constant_values constant.now) }
 {
-    Ok(vec![in alloc; value_of(alloc, constant)?]?)
+    Ok(FieldValues::One(value_of(alloc, constant)?))
 }
 
 fn value_of(alloc: Global, constant: &Constant) -> Result<Value, AllocError>

@@ -15,7 +15,7 @@ use crate::names::NameTable;
 use crate::table::FieldTable;
 use rpg_cards::SpecCard;
 use rpg_program::form::FieldForm;
-use rpg_program::value::Value;
+use rpg_program::value::FieldValues;
 use std::alloc::{AllocError, Global};
 
 /// The fields of a program in numeric order: names, then constants.
@@ -24,7 +24,7 @@ pub struct Fields {
     pub table: FieldTable,
     pub forms: Vec<FieldForm>,
     /// Their values before the first cycle, entry by entry.
-    pub values: Vec<Vec<Value>>,
+    pub values: Vec<FieldValues>,
 }
 
 /// Returns the fields of cards. Fails only if memory runs out.

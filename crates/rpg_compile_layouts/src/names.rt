@@ -10,7 +10,7 @@ ghost use Rattle.rpg_symbols.specs.Fields.{given, storage};
 use crate::loaded::Loaded;
 use rpg_cards::{Definition, SpecCard};
 use rpg_program::form::FieldForm;
-use rpg_program::value::Value;
+use rpg_program::value::FieldValues;
 use rpg_sheet_specs::Spec;
 use rpg_symbols::{DefineFault, Name, Symbols};
 use std::alloc::{AllocError, Global};
@@ -20,7 +20,7 @@ use std::alloc::{AllocError, Global};
 pub(crate) struct NameTable {
     pub(crate) symbols: Symbols,
     pub(crate) forms: Vec<FieldForm>,
-    pub(crate) values: Vec<Vec<Value>>,
+    pub(crate) values: Vec<FieldValues>,
 }
 
 impl NameTable {
@@ -164,7 +164,7 @@ fn given_values(
     loaded: &Loaded,
     date: &FieldForm,
     page: &FieldForm,
-) -> Result<Vec<Vec<Value>>, AllocError>
+) -> Result<Vec<FieldValues>, AllocError>
     ensures { IfOk result (λ v. held_values v.items ≡ field_values loaded.now (codes "UDATE", date.now) ∷ field_values loaded.now (codes "PAGE", page.now) ∷ []) }
 {
     let date = loaded.values_of(alloc, &Name::new(b"UDATE"), date)?;
