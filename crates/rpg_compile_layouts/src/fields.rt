@@ -18,6 +18,9 @@ use rpg_program::form::FieldForm;
 use rpg_program::value::FieldValues;
 use std::alloc::{AllocError, Global};
 
+/// The most fields that a program has.
+const FIELDS: usize = 4_000;
+
 /// The fields of a program in numeric order: names, then constants.
 #[derive(Drop)]
 pub struct Fields {
@@ -37,13 +40,13 @@ pub fn fields_of(alloc: Global, cards: &[SpecCard]) -> Result<Fields, AllocError
     ensures values { IfOk result (λ f. held_values f.values.items ≡ values_of cards.now) }
     ensures kept { IfOk result (λ f. All IsConstant (constants cards.now)) }
 {
+    let constants = constants_of(alloc, cards)?;
     let NameTable {
         symbols,
         mut forms,
         mut values,
-    } = names_of(alloc, cards)?;
+    } = names_of(alloc, cards, constants.len())?;
     let names = forms.len() as u16;
-    let constants = constants_of(alloc, cards)?;
     add_constants(alloc, constants.as_slice(), &mut forms, &mut values)?;
     Ok(Fields {
         table: FieldTable::new(symbols, names, constants),
@@ -52,8 +55,8 @@ pub fn fields_of(alloc: Global, cards: &[SpecCard]) -> Result<Fields, AllocError
     })
 }
 
-/// Returns the names that cards define, with the data that the cards have for them.
-fn names_of(alloc: Global, cards: &[SpecCard]) -> Result<NameTable, AllocError>
+/// Returns the names that cards define, with the data that the cards have for them, and with room for so many constants.
+fn names_of(alloc: Global, cards: &[SpecCard], constants: usize) -> Result<NameTable, AllocError>
     requires few { length (fields.defined_fields cards.now) ≤ 4000 }
     requires storage { storage (fields.defined_fields cards.now) ≤ 65535 }
     requires sizes { KeepsRule (λ before c after. bad_size c) cards.now }
@@ -62,6 +65,7 @@ fn names_of(alloc: Global, cards: &[SpecCard]) -> Result<NameTable, AllocError>
     ensures values { IfOk result (λ t. held_values t.values.items ≡ map (field_values (loaded cards.now)) (fields.defined_fields cards.now)) }
 {
     let loaded = Loaded::of_cards(alloc, cards)?;
-    let table = NameTable::of_cards(alloc, &loaded, cards)?;
+    let room = cards.len().saturating_add(constants).min(FIELDS);
+    let table = NameTable::of_cards(alloc, &loaded, cards, room)?;
     Ok(table)
 }

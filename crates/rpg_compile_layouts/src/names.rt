@@ -24,11 +24,12 @@ pub(crate) struct NameTable {
 }
 
 impl NameTable {
-    /// Returns the names that cards define.
+    /// Returns the names that cards define, with room for so many fields.
     pub(crate) fn of_cards(
         alloc: Global,
         loaded: &Loaded,
         cards: &[SpecCard],
+        room: usize,
     ) -> Result<Self, AllocError>
         requires few { length (fields.defined_fields cards.now) ≤ 4000 }
         requires storage { storage (fields.defined_fields cards.now) ≤ 65535 }
@@ -37,8 +38,8 @@ impl NameTable {
         ensures values { IfOk result (λ t. held_values t.values.items ≡ map (field_values loaded.now) (fields.defined_fields cards.now)) }
     {
         let mut table = NameTable::given(alloc, loaded)?;
-        table.forms.reserve(cards.len())?;
-        table.values.reserve(cards.len())?;
+        table.forms.reserve(room)?;
+        table.values.reserve(room)?;
         for card in cards {
             table.define_on(alloc, loaded, card)?;
         }
