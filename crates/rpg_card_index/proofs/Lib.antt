@@ -1,4 +1,3 @@
 mod FileLemmas
 mod IndexLemmas
-mod PlaceLemmas
 pub mod TotalLemmas

@@ -74,7 +74,7 @@ pub(crate) fn write_fields(out: &mut TextWriter, at: &mut usize, shown: Shown<'_
     for (form, values) in shown.rows.fields.iter().zip(&shown.rows.values) {
         number = number.saturating_add(1);
         write_offset(out, at, FIELD);
-        write_row(out, shown, number, *form, values);
+        write_row(out, shown, number, *form, values.as_slice());
         uses.write(out, number);
         out.end_line();
     }
@@ -96,6 +96,7 @@ pub(crate) fn write_first_values(out: &mut TextWriter, at: &mut usize, shown: Sh
     let mut number: u16 = 0;
     for (form, values) in shown.rows.fields.iter().zip(&shown.rows.values) {
         number = number.saturating_add(1);
+        let values = values.as_slice();
         if are_listed(values) {
             out.fill_one("\n    at  FIRST VALUES OF #{}", number);
             shown.write_name(out, number);

@@ -17,7 +17,7 @@ pub fn constant_of(rows: &Rows, field: u16) -> Option<(&Value, u8)> {
         return None;
     }
     let values = rows.values.get(usize::from(field).checked_sub(1)?)?;
-    Some((values.first()?, form.decimals))
+    Some((values.as_slice().first()?, form.decimals))
 }
 
 /// Writes the name of a field, or its number if it has none.

@@ -18,8 +18,7 @@ use crate::{
     faultless_sources_are_accepted, faultless_sources_fill_their_fields,
     faultless_sources_keep_limits,
 };
-use rpg_card_index::IndexedCards;
-use rpg_cards::FileUse;
+use rpg_cards::{FileUse, SpecCard, file_for, has_match_field};
 use rpg_compile_layouts::{Fields, fields_of, lines_of, types_of};
 use rpg_program::Program;
 use rpg_program::rows::{Rows, Version};
@@ -27,24 +26,34 @@ use rpg_sheet_specs::FileSpec;
 use std::alloc::{AllocError, Global};
 
 /// Compiles cards without faults. `allowance` limits the backward branches and calls of a cycle. Fails only if memory runs out.
-pub fn translate(alloc: Global, source: &IndexedCards, allowance: u16) -> Result<Program, AllocError>
+pub fn translate(alloc: Global, cards: &[SpecCard], allowance: u16) -> Result<Program, AllocError>
+    requires allowed { 0 < allowance }
+    requires few { length cards.now ≤ 2000 }
+    requires faultless { Faultless cards.now }
+    ensures program { IfOk result (λ p. p ≡ programs.program_of cards.now allowance) }
+    ensures accepted { IfOk result (λ p. IsAccepted p) }
 {
-    let cards = source.as_slice();
     faultless_sources_are_accepted(cards);
     faultless_sources_keep_limits(cards);
     faultless_sources_fill_their_fields(cards);
-    program_of(alloc, source, allowance)
+    program_of(alloc, cards, allowance)
 }
 
 /// Compiles cards that keep the limits of a program.
-fn program_of(alloc: Global, source: &IndexedCards, allowance: u16) -> Result<Program, AllocError>
+fn program_of(alloc: Global, cards: &[SpecCard], allowance: u16) -> Result<Program, AllocError>
+    requires allowed { 0 < allowance }
+    requires few { length cards.now ≤ 2000 }
+    requires limits { KeepsLimits cards.now }
+    requires sizes { KeepsRule (λ before c after. bad_size c) cards.now }
+    requires values { AreValuesOf (forms (table_of cards.now)) (values_of cards.now) }
+    requires accepted { IsAccepted (programs.program_of cards.now allowance) }
+    ensures { IfOk result (λ p. p ≡ programs.program_of cards.now allowance) }
 {
-    let cards = source.as_slice();
     let Fields {
         table,
         forms: fields,
         values,
-    } = fields_of(alloc, source)?;
+    } = fields_of(alloc, cards)?;
     let types = types_of(alloc, &table, cards)?;
     let lines = lines_of(alloc, &table, cards)?;
     let SectionRows {
@@ -52,15 +61,15 @@ fn program_of(alloc: Global, source: &IndexedCards, allowance: u16) -> Result<Pr
         total,
         subroutines,
     } = section_rows(alloc, &table, cards)?;
-    let secondary = source.file_for(FileUse::Secondary);
-    let printer = source.file_for(FileUse::Printer);
+    let secondary = file_for(FileUse::Secondary, cards);
+    let printer = file_for(FileUse::Printer, cards);
     Ok(Program::build(Rows {
-        version: version_for(secondary, source.has_match_field()),
+        version: version_for(secondary, has_match_field(cards)),
         allowance,
-        record_length: length_of(source.file_for(FileUse::Primary)),
+        record_length: length_of(file_for(FileUse::Primary, cards)),
         secondary_length: length_of(secondary),
         printer_length: length_of(printer),
-        disk_length: length_of(source.file_for(FileUse::Disk)),
+        disk_length: length_of(file_for(FileUse::Disk, cards)),
         overflow: overflow_of(printer),
         fields,
         values,

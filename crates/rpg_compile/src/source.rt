@@ -27,11 +27,8 @@ pub fn compile_with_cards(
     ensures cards { IfOk result (λ compiled. AreFaultless text.now compiled.source.cards.items) }
     ensures err { IfErr result (λ fault. IsSourceRefusal fault text.now) }
 {
-    let (cards, index) = faultless_cards(alloc, text)?.into_parts();
-    let source = index.over(&cards);
-    let program = translate(alloc, &source, allowance)?;
-    let index = source.into_index();
-    let source = FaultlessCards::of_parts(cards, index);
+    let source = faultless_cards(alloc, text)?;
+    let program = translate(alloc, &source.cards, allowance)?;
     Ok(Compiled { source, program })
 }
 
@@ -41,6 +38,6 @@ pub fn compile(alloc: Global, text: &[u8], allowance: u16) -> Result<Program, So
     ensures ok { IfOk result (λ program. Compiles text.now allowance program) }
     ensures err { IfErr result (λ fault. IsSourceRefusal fault text.now) }
 {
-    let (cards, index) = faultless_cards(alloc, text)?.into_parts();
-    Ok(translate(alloc, &index.over(&cards), allowance)?)
+    let source = faultless_cards(alloc, text)?;
+    Ok(translate(alloc, &source.cards, allowance)?)
 }

@@ -1,7 +1,7 @@
 //! The data of arrays and tables, by their names.
 
 ghost use Rattle.std.specs.Prelude.{◌≡◌, [], ◌∷◌, ◌++◌, map, false, IfOk, OnOk, MatchOption};
-ghost use Rattle.rpg_program.specs.Values.{held};
+ghost use Rattle.rpg_program.specs.Values.{entries_held};
 ghost use Rattle.rpg_compile_layouts.specs.Loaded.{HasSameData, TakesDeck, tables_after};
 ghost use Rattle.rpg_compile_layouts.specs.Tables.{values_on};
 ghost use Rattle.rpg_faults_flow.specs.Kept.{KeepsRule};
@@ -14,7 +14,7 @@ use indexmap::IndexMap;
 use rpg_cards::SpecCard;
 use rpg_faults_data::{after_next, data_columns};
 use rpg_program::form::FieldForm;
-use rpg_program::value::Value;
+use rpg_program::value::FieldValues;
 use rpg_sheet_specs::ExtensionSpec;
 use rpg_symbols::Name;
 use std::alloc::{AllocError, Global};
@@ -123,8 +123,8 @@ impl<'a> Loaded<'a> {
         alloc: Global,
         name: &Name,
         form: &FieldForm,
-    ) -> Result<Vec<Value>, AllocError>
-        ensures { IfOk result (λ v. map held v.items ≡ loads.field_values self.now (name.now, form.now)) }
+    ) -> Result<FieldValues, AllocError>
+        ensures { IfOk result (λ v. entries_held v ≡ loads.field_values self.now (name.now, form.now)) }
     {
         match self.tables.get(name) {
             Some(table) => table.values(alloc),

@@ -10,7 +10,7 @@ ghost use Rattle.rpg_symbols.specs.Fields.{given, storage};
 use crate::loaded::Loaded;
 use rpg_cards::{Definition, SpecCard};
 use rpg_program::form::FieldForm;
-use rpg_program::value::Value;
+use rpg_program::value::FieldValues;
 use rpg_sheet_specs::Spec;
 use rpg_symbols::{DefineFault, Name, Symbols};
 use std::alloc::{AllocError, Global};
@@ -20,15 +20,16 @@ use std::alloc::{AllocError, Global};
 pub(crate) struct NameTable {
     pub(crate) symbols: Symbols,
     pub(crate) forms: Vec<FieldForm>,
-    pub(crate) values: Vec<Vec<Value>>,
+    pub(crate) values: Vec<FieldValues>,
 }
 
 impl NameTable {
-    /// Returns the names that cards define.
+    /// Returns the names that cards define, with room for so many fields.
     pub(crate) fn of_cards(
         alloc: Global,
         loaded: &Loaded,
         cards: &[SpecCard],
+        room: usize,
     ) -> Result<Self, AllocError>
         requires few { length (fields.defined_fields cards.now) ≤ 4000 }
         requires storage { storage (fields.defined_fields cards.now) ≤ 65535 }
@@ -37,8 +38,8 @@ impl NameTable {
         ensures values { IfOk result (λ t. held_values t.values.items ≡ map (field_values loaded.now) (fields.defined_fields cards.now)) }
     {
         let mut table = NameTable::given(alloc, loaded)?;
-        table.forms.reserve(cards.len())?;
-        table.values.reserve(cards.len())?;
+        table.forms.reserve(room)?;
+        table.values.reserve(room)?;
         for card in cards {
             table.define_on(alloc, loaded, card)?;
         }
@@ -164,7 +165,7 @@ fn given_values(
     loaded: &Loaded,
     date: &FieldForm,
     page: &FieldForm,
-) -> Result<Vec<Vec<Value>>, AllocError>
+) -> Result<Vec<FieldValues>, AllocError>
     ensures { IfOk result (λ v. held_values v.items ≡ field_values loaded.now (codes "UDATE", date.now) ∷ field_values loaded.now (codes "PAGE", page.now) ∷ []) }
 {
     let date = loaded.values_of(alloc, &Name::new(b"UDATE"), date)?;

@@ -5,7 +5,7 @@ ghost use Rattle.rpg_cards.specs.Keys as keys;
 ghost use Rattle.rpg_effect_renaming.specs.Naming.{renamed_index, renamed_operand};
 ghost use Rattle.rpg_compile_program.specs.Table as table;
 
-use rpg_card_index::IndexedCards;
+use indexmap::IndexSet;
 use rpg_cards::{Constant, factor_constant};
 use rpg_program::operation::{Index, Operand};
 use rpg_sheet_specs::{Entry, EntryIndex, Factor};
@@ -14,34 +14,49 @@ use std::marker::Model;
 
 /// The fields of a program: names, then constants.
 #[derive(Drop)]
-pub struct FieldTable<'a> {
+pub struct FieldTable {
     symbols: Symbols,
     /// How many names there are.
     names: u16,
-    /// The cards with the constants.
-    source: &'a IndexedCards<'a>,
+    constants: IndexSet<Constant>,
 }
 
-impl<'a> FieldTable<'a> {
-    pub(crate) fn new(symbols: Symbols, names: u16, source: &'a IndexedCards<'a>) -> Self
+impl Model for FieldTable {
+    ghost use Rattle.std.specs.Prelude.{◌≡◌, ◌+◌, ◌≤◌, length};
+    ghost use Rattle.rpg_compile_program.specs.Table.{Table};
+
+    ghost Value = { Table };
+
+    ghost view = { λ t. record { names = t.symbols; constants = t.constants.keys } };
+
+    ghost invariant = { λ t. (t.names ≡ length t.symbols) × (length t.symbols + length t.constants.keys ≤ 4000) };
+}
+
+impl FieldTable {
+    pub(crate) fn new(symbols: Symbols, names: u16, constants: IndexSet<Constant>) -> Self
+        requires names { names ≡ length symbols }
+        requires few { length symbols + length constants.keys ≤ 4000 }
+        ensures { result ≡ record { names = symbols; constants = constants.keys } }
     {
         FieldTable {
             symbols,
             names,
-            source,
+            constants,
         }
     }
 
     /// Returns the number of a name, 0 if it isn't defined.
     pub fn name_number(&self, name: &Name) -> u16
+        ensures { result ≡ table.name_number self.now name.now }
     {
         self.symbols.look(name).unwrap_or(0)
     }
 
     /// Returns the number of a constant, 0 if no card has it.
     pub fn constant_number(&self, constant: &Constant) -> u16
+        ensures { result ≡ table.constant_number self.now constant.now }
     {
-        match self.source.constant_place(constant) {
+        match self.constants.get_index_of(constant) {
             None => 0,
             Some(place) => self.names + place as u16 + 1,
         }
@@ -49,6 +64,7 @@ impl<'a> FieldTable<'a> {
 
     /// Returns the operand of a factor.
     pub fn operand_of(&self, factor: &Factor) -> Operand<u16>
+        ensures { result ≡ renamed_operand (table.key_number self.now) (keys.factor_operand factor.now) }
     {
         match factor {
             Factor::Entry(entry) => self.entry_of(entry),
@@ -63,6 +79,7 @@ impl<'a> FieldTable<'a> {
     }
 
     pub fn entry_of(&self, entry: &Entry) -> Operand<u16>
+        ensures { result ≡ renamed_operand (table.key_number self.now) (keys.entry_operand entry.now) }
     {
         Operand {
             field: self.name_number(&entry.name),
@@ -71,6 +88,7 @@ impl<'a> FieldTable<'a> {
     }
 
     fn index_of(&self, index: &Option<EntryIndex>) -> Index<u16>
+        ensures { result ≡ renamed_index (table.key_number self.now) (keys.key_index index.now) }
     {
         match index {
             None => Index::Blank,

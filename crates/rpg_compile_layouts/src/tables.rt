@@ -1,7 +1,7 @@
 //! The values of a table, from the cards of its deck.
 
 ghost use Rattle.std.specs.Prelude.{◌≡◌, ◌++◌, ◌+◌, ◌≤◌, ◌<◌, ◌^◌, false, pos, length, map, unwrap_or, slice_range, IfOk, OnOk};
-ghost use Rattle.rpg_program.specs.Values.{held};
+ghost use Rattle.rpg_program.specs.Values.{entries_held, held};
 ghost use Rattle.rpg_faults_limits.specs.Names.{bad_size_of_table};
 ghost use Rattle.rpg_decimal_words.specs.Zoned.{number_in};
 ghost use Rattle.rpg_faults_data.specs.Data.{entry_on};
@@ -9,7 +9,7 @@ ghost use Rattle.rpg_compile_program.specs.Data.{entry_value};
 
 use rpg_cards::SpecCard;
 use rpg_faults_data::number_in;
-use rpg_program::value::Value;
+use rpg_program::value::{FieldValues, Value};
 use rpg_sheet_specs::{DataSpec, TableSpec};
 use std::alloc::{AllocError, Global};
 
@@ -32,15 +32,15 @@ pub(crate) struct TableData<'a> {
 impl TableData<'_> {
     ghost use Rattle.rpg_compile_layouts.specs.Tables.{values_on, values_on_card};
 
-    pub(crate) fn values(self, alloc: Global) -> Result<Vec<Value>, AllocError>
-        ensures { IfOk result (λ v. map held v.items ≡ values_on self.entry) }
+    pub(crate) fn values(self, alloc: Global) -> Result<FieldValues, AllocError>
+        ensures { IfOk result (λ v. entries_held v ≡ values_on self.entry) }
     {
         let mut values = Vec::with_capacity(alloc, self.entries as usize)?;
         let mut left = self.entries;
         for card in self.deck {
             match card.data() {
                 None => {}
-                Some(DataSpec::Begin) => return Ok(values),
+                Some(DataSpec::Begin) => return Ok(FieldValues::Many(values)),
                 Some(DataSpec::Card(data)) => {
                     let number = left.min(self.per_card);
                     self.add_entries(alloc, data.as_slice(), number, &mut values)?;
@@ -48,7 +48,7 @@ impl TableData<'_> {
                 }
             }
         }
-        Ok(values)
+        Ok(FieldValues::Many(values))
     }
 
     /// Appends the first `count` entries of a card.

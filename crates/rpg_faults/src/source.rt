@@ -21,14 +21,6 @@ pub struct FaultlessCards {
 }
 
 impl FaultlessCards {
-    /// Joins cards and their index.
-    pub fn of_parts(cards: Vec<SpecCard>, index: CardIndex) -> Self
-        requires { IsIndexOf index cards.items }
-        ensures { result.cards ≡ cards }
-    {
-        FaultlessCards { cards, index }
-    }
-
     /// Returns the cards, and the index that `CardIndex::over` puts over them.
     pub fn into_parts(self) -> (Vec<SpecCard>, CardIndex)
         ensures cards { result.0.items ≡ self.cards.items }

@@ -3,6 +3,7 @@ pub mod FieldTexts
 pub mod FieldsLeft
 pub mod HeaderLaws
 pub mod ObjectLaws
+pub mod OneEntry
 pub mod PlainPrograms
 pub mod SubroutineLaws
 pub mod Tables

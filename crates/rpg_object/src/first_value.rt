@@ -3,7 +3,7 @@
 ghost use Rattle.std.specs.Prelude.{◌≡◌, ◌++◌, ◌<◌, ◌≤◌, ◌^◌, unsigned_abs, All, length, map, OnOk};
 ghost use Rattle.rpg_decimal_words.specs.Zoned.{number_in, zoned_text};
 ghost use Rattle.rpg_program.specs.declared.form.Kind.TheVariants as kinds;
-ghost use Rattle.rpg_program.specs.Values.{held};
+ghost use Rattle.rpg_program.specs.Values.{entries_held, held};
 ghost use Rattle.rpg_object_format.specs.Reading.{ReadsAs};
 ghost use Rattle.rpg_program.specs.Kept.{AreEntriesOf, AreValuesOf, IsValueOf};
 ghost use Rattle.rpg_object.specs.FirstValues as spec;
@@ -13,7 +13,7 @@ use rpg_decimal::{read_zoned, write_zoned};
 use rpg_object_format::fault::{Code, ReadFault};
 use rpg_object_format::number::{ends_early, fault_at};
 use rpg_program::form::{FieldForm, Kind};
-use rpg_program::value::Value;
+use rpg_program::value::{FieldValues, Value};
 use rpg_text::has_only_characters;
 use std::alloc::{AllocError, Global};
 
@@ -24,6 +24,7 @@ const DIGITS: usize = 15;
 const PLACES: usize = 16;
 
 /// Returns the number that a text encodes. The text has no blank for a zero, no letter for a plus sign, and no minus sign on a zero.
+#[inline(always)]
 fn number_written(text: &[u8]) -> Result<i64, Code>
     requires low { 1 ≤ length text.now }
     requires high { length text.now ≤ 15 }
@@ -43,6 +44,7 @@ fn number_written(text: &[u8]) -> Result<i64, Code>
 }
 
 /// Reads a number of `len` digits.
+#[inline(always)]
 fn number_value_at(bytes: &[u8], len: u16) -> Result<(Value, &[u8]), ReadFault>
     requires low { 1 ≤ len }
     requires high { len ≤ 15 }
@@ -60,6 +62,7 @@ fn number_value_at(bytes: &[u8], len: u16) -> Result<(Value, &[u8]), ReadFault>
 }
 
 /// Reads a text of `len` characters.
+#[inline(always)]
 fn text_value_at(alloc: Global, bytes: &[u8], len: u16) -> Result<(Value, &[u8]), ReadFault>
     ensures { ReadsAs (λ x. (held x.0, x.1.now)) result (read_value kinds.Text len bytes.now) }
 {
@@ -75,6 +78,7 @@ fn text_value_at(alloc: Global, bytes: &[u8], len: u16) -> Result<(Value, &[u8])
     Ok((Value::Text(characters), rest))
 }
 
+#[inline(always)]
 #[tactic(auto, unfolding(crate::specs::FirstValues::value))]
 fn value_at(alloc: Global, bytes: &[u8], form: FieldForm) -> Result<(Value, &[u8]), ReadFault>
     requires { HasLength form }
@@ -86,7 +90,7 @@ fn value_at(alloc: Global, bytes: &[u8], form: FieldForm) -> Result<(Value, &[u8
     }
 }
 
-/// Reads a value for each entry of a field.
+/// Reads a value for each entry of an array or a table.
 fn entries_at(
     alloc: Global,
     form: FieldForm,
@@ -105,19 +109,36 @@ fn entries_at(
     Ok((entries, rest))
 }
 
+/// Reads the values of a field.
+fn field_values_at(
+    alloc: Global,
+    form: FieldForm,
+    bytes: &[u8],
+) -> Result<(FieldValues, &[u8]), ReadFault>
+    requires { HasLength form }
+    ensures { ReadsAs (λ x. (entries_held x.0, x.1.now)) result ((spec.entries_format form).reading bytes.now) }
+{
+    if form.entries == 1 {
+        let (value, rest) = value_at(alloc, bytes, form)?;
+        return Ok((FieldValues::One(value), rest));
+    }
+    let (entries, rest) = entries_at(alloc, form, bytes)?;
+    Ok((FieldValues::Many(entries), rest))
+}
+
 /// Reads the values of each field.
 pub fn values_at<'a>(
     alloc: Global,
     fields: &[FieldForm],
     bytes: &'a [u8],
-) -> Result<(Vec<Vec<Value>>, &'a [u8]), ReadFault>
+) -> Result<(Vec<FieldValues>, &'a [u8]), ReadFault>
     requires { All HasLength fields.now }
-    ensures { ReadsAs (λ x. (map (λ vs. map held vs.items) x.0.items, x.1.now)) result ((values_format fields.now).reading bytes.now) }
+    ensures { ReadsAs (λ x. (map entries_held x.0.items, x.1.now)) result ((values_format fields.now).reading bytes.now) }
 {
     let mut values = Vec::with_capacity(alloc, fields.len())?;
     let mut rest = bytes;
     for field in fields {
-        let (entries, after) = entries_at(alloc, *field, rest)?;
+        let (entries, after) = field_values_at(alloc, *field, rest)?;
         values.push(entries)?;
         rest = after;
     }
@@ -169,15 +190,15 @@ fn put_entries(out: &mut Vec<u8>, entries: &[Value], form: FieldForm) -> Result<
 pub fn put_values(
     out: &mut Vec<u8>,
     fields: &[FieldForm],
-    list: &[Vec<Value>],
+    list: &[FieldValues],
 ) -> Result<(), AllocError>
     requires lengths { All HasLength fields.now }
     requires number { length list.now ≡ length fields.now }
-    requires values { AreValuesOf fields.now (map (λ vs. map held vs.items) list.now) }
-    ensures { OnOk result (out.new.items ≡ out.old.items ++ (values_format fields.now).spelling (map (λ vs. map held vs.items) list.now)) }
+    requires values { AreValuesOf fields.now (map entries_held list.now) }
+    ensures { OnOk result (out.new.items ≡ out.old.items ++ (values_format fields.now).spelling (map entries_held list.now)) }
 {
     for (i, field) in fields.iter().enumerate() {
-        put_entries(out, &list[i], *field)?;
+        put_entries(out, list[i].as_slice(), *field)?;
     }
     Ok(())
 }

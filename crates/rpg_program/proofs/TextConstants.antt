@@ -2,12 +2,11 @@
 use Rattle.std.proofs.Common.{◌≡◌, ℕ, suc, Bool, true, false, List, [], map, length, Option, None, Some, slice_get, if◌then◌else◌, refl, sym, ap, ◌∙◌}
 use Rattle.std.proofs.lemmas.Bool.{ltb-false, ltb-true}
 use Rattle.std.proofs.lemmas.Option.{slice_get-get_or, slice_get-map, slice_get_past}
-use Rattle.std.specs.Global.{Vec}
 use Rattle.std.specs.Option.{option_map}
 use Rattle.std.specs.Prelude.{get_or, nat_lt}
 use Rattle.rpg_program.specs.Forms.{form_at, is_text_constant}
-use Rattle.rpg_program.specs.Values.{Value, characters_of, held}
-use Rattle.rpg_program.specs.declared.value.Value as entry
+use Rattle.rpg_program.specs.Values.{Value, characters_of, entries_held}
+use Rattle.rpg_program.specs.declared.value.FieldValues.{FieldValues}
 use Rattle.rpg_program.specs.Constants.{first_value, values_at, word_at}
 use Rattle.rpg_program.specs.Object.{Object}
 
@@ -26,26 +25,23 @@ found_at xs k x t e = slice_get-get_or xs k x (ltb-true k (length xs) (sym t)) �
 pub missing_at : {X : Type 0} (xs : List X) (k : ℕ) → false ≡ nat_lt k (length xs) → slice_get xs k ≡ None
 missing_at xs k t = slice_get_past xs k (ltb-false k (length xs) (sym t))
 
-abbrev seen_values : List (Vec entry.Value) → List (List Value)
-seen_values all = map (λ vs. map held vs.items) all
+seen_at : (all : List FieldValues) (k : ℕ) (o : Option FieldValues) → slice_get all k ≡ o →
+    slice_get (map entries_held all) k ≡ option_map entries_held o
+seen_at all k o e = slice_get-map entries_held all k ∙ ap (option_map entries_held) e
 
-seen_at : (all : List (Vec entry.Value)) (k : ℕ) (o : Option (Vec entry.Value)) → slice_get all k ≡ o →
-    slice_get (seen_values all) k ≡ option_map (λ vs. map held vs.items) o
-seen_at all k o e = slice_get-map (λ (vs : Vec entry.Value). map held vs.items) all k ∙ ap (option_map (λ (vs : Vec entry.Value). map held vs.items)) e
-
-word_at_place : (p : Object) (all : List (Vec entry.Value)) → p.values ≡ seen_values all → (n k : ℕ) → n ≡ suc k →
-    is_text_constant (form_at p.fields n) ≡ true → word_at p n ≡ characters_of (first_value (slice_get (seen_values all) k))
+word_at_place : (p : Object) (all : List FieldValues) → p.values ≡ map entries_held all → (n k : ℕ) → n ≡ suc k →
+    is_text_constant (form_at p.fields n) ≡ true → word_at p n ≡ characters_of (first_value (slice_get (map entries_held all) k))
 word_at_place p all same n k e h =
     word_is p n h ∙ ap (λ m. characters_of (first_value (values_at p.values m))) e ∙ ap (λ vs. characters_of (first_value (slice_get vs k))) same
 
 -- the characters of the first of its values
-pub word_found : (p : Object) (all : List (Vec entry.Value)) → p.values ≡ seen_values all → (n k : ℕ) (v : Vec entry.Value) → n ≡ suc k →
-    is_text_constant (form_at p.fields n) ≡ true → slice_get all k ≡ Some v → characters_of (slice_get (map held v.items) 0) ≡ word_at p n
+pub word_found : (p : Object) (all : List FieldValues) → p.values ≡ map entries_held all → (n k : ℕ) (v : FieldValues) → n ≡ suc k →
+    is_text_constant (form_at p.fields n) ≡ true → slice_get all k ≡ Some v → characters_of (slice_get (entries_held v) 0) ≡ word_at p n
 word_found p all same n k v e h at =
     sym (word_at_place p all same n k e h ∙ ap (λ o. characters_of (first_value o)) (seen_at all k (Some v) at))
 
 -- none, where it has no values
-pub word_missing : (p : Object) (all : List (Vec entry.Value)) → p.values ≡ seen_values all → (n k : ℕ) → n ≡ suc k →
+pub word_missing : (p : Object) (all : List FieldValues) → p.values ≡ map entries_held all → (n k : ℕ) → n ≡ suc k →
     is_text_constant (form_at p.fields n) ≡ true → slice_get all k ≡ None → [] ≡ word_at p n
 word_missing p all same n k e h at =
     sym (word_at_place p all same n k e h ∙ ap (λ o. characters_of (first_value o)) (seen_at all k None at))

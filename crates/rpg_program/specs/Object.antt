@@ -2,7 +2,7 @@
 use Rattle.std.specs.Prelude.{ℕ, Bool, not, ◌==◌, List, map, Option}
 use Rattle.rpg_program.specs.Input.{TypeRow}
 use Rattle.rpg_program.specs.Lines as lines
-use Rattle.rpg_program.specs.Values.{Value, held}
+use Rattle.rpg_program.specs.Values.{Value, entries_held}
 use Rattle.rpg_program.specs.declared.condition.Condition.{Condition}
 use Rattle.rpg_program.specs.declared.form.FieldForm.{FieldForm}
 use Rattle.rpg_program.specs.declared.input.InputFile.{InputFile}
@@ -73,7 +73,7 @@ seen r = record {
   disk_length = r.disk_length;
   overflow = r.overflow;
   fields = r.fields.items;
-  values = map (λ vs. map held vs.items) r.values.items;
+  values = map entries_held r.values.items;
   types = map type_row r.types.items;
   lines = map line_row r.lines.items;
   detail = r.detail.items;

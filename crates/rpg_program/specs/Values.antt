@@ -1,7 +1,9 @@
 -- The value of an entry of a field.
-use Rattle.std.specs.Prelude.{ℕ, ℤ, pos, List, [], Option, None, Some}
+use Rattle.std.specs.Prelude.{ℕ, ℤ, pos, List, [], ◌∷◌, map, Option, None, Some}
 use Rattle.std.specs.Ordering.{nat_cmp, ordering_then}
 use Rattle.std.specs.declared.cmp.Ordering.{Ordering}
+use Rattle.rpg_program.specs.declared.value.FieldValues.{FieldValues}
+use Rattle.rpg_program.specs.declared.value.FieldValues.TheVariants.{One, Many}
 use Rattle.rpg_program.specs.declared.value.Value as entry
 use Rattle.rpg_program.specs.declared.value.Value.TheVariants as kinds
 
@@ -14,6 +16,11 @@ pub data Value : Type 0 where
 abbrev pub held : entry.Value → Value
 held (kinds.Number n) = Number n
 held (kinds.Text text) = Text text.items
+
+-- the values that the entries of a field hold
+abbrev pub entries_held : FieldValues → List Value
+entries_held (One value) = held value ∷ []
+entries_held (Many values) = map held values.items
 
 -- the number that is held, 0 if there is none
 abbrev pub number_of : Option Value → ℤ

@@ -9,7 +9,7 @@ use crate::form::FieldForm;
 use crate::input::{ControlField, InputField, InputFile, RecordCode};
 use crate::line::{File, LineField, Spacing, Time};
 use crate::operation::Instruction;
-use crate::value::Value;
+use crate::value::FieldValues;
 
 /// A record type. Columns of a record are counted from 1, fields from 1.
 #[derive(Drop)]
@@ -98,7 +98,7 @@ pub struct Rows {
     /// At most 4,000, of 65,535 bytes in all.
     pub fields: Vec<FieldForm>,
     /// The first values of each field, one for each entry. Texts are characters, 0x20 to 0x7e.
-    pub values: Vec<Vec<Value>>,
+    pub values: Vec<FieldValues>,
     /// At most 200.
     pub types: Vec<RecordType>,
     /// At most 1,000.

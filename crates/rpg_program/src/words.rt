@@ -31,6 +31,6 @@ pub fn word_at(rows: &Rows, field: u16) -> &[u8]
     }
     match rows.values.get(usize::from(field) - 1) {
         None => &[],
-        Some(values) => first_text(values),
+        Some(values) => first_text(values.as_slice()),
     }
 }

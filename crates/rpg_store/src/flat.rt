@@ -1,7 +1,7 @@
 //! A store in a single area of bytes.
 ghost use Rattle.std.specs.Prelude.{◌≡◌, ◌+◌, ◌≤◌, All, length, map as along, slice_range, IfOk};
 ghost use Rattle.std.specs.FinMap as map;
-ghost use Rattle.rpg_program.specs.Values.{held};
+ghost use Rattle.rpg_program.specs.Values.{entries_held, held};
 ghost use Rattle.rpg_program.specs.Kept.{IsFieldRow, storage_of};
 ghost use Rattle.rpg_store.specs.Area.{all_number_bytes, area_slots, length_in, start, zeros};
 ghost use Rattle.rpg_store.specs.Contents.{IsEntry};
@@ -16,7 +16,7 @@ use crate::written::read_written;
 use rpg_decimal::write_zoned;
 use rpg_program::Program;
 use rpg_program::form::{FieldForm, Kind};
-use rpg_program::value::Value;
+use rpg_program::value::{FieldValues, Value};
 use std::alloc::{AllocError, Global};
 use std::marker::Model;
 
@@ -149,16 +149,16 @@ fn put_field(store: &mut FlatStore, field: u16, values: &[Value])
 }
 
 /// Stores values in all fields.
-fn put_all(store: &mut FlatStore, values: &[Vec<Value>])
+fn put_all(store: &mut FlatStore, values: &[FieldValues])
     requires few { length values.now ≤ 4000 }
-    requires like { MayTakeFields (forms_of store.old.slots) (flat_contents store.old) (along (λ vs. along held vs.items) values.now) }
-    ensures contents { flat_contents store.new ≡ with_field_values (flat_contents store.old) 1 (along (λ vs. along held vs.items) values.now) }
+    requires like { MayTakeFields (forms_of store.old.slots) (flat_contents store.old) (along entries_held values.now) }
+    ensures contents { flat_contents store.new ≡ with_field_values (flat_contents store.old) 1 (along entries_held values.now) }
     ensures currents { currents store.new.slots ≡ currents store.old.slots }
     ensures forms { forms_of store.new.slots ≡ forms_of store.old.slots }
 {
     let mut field = 1u16;
     for of_field in values {
-        put_field(store, field, of_field);
+        put_field(store, field, of_field.as_slice());
         field += 1;
     }
 }

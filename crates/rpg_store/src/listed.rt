@@ -1,7 +1,7 @@
 //! A store that lists its values.
 ghost use Rattle.std.specs.Prelude.{◌≡◌, ◌++◌, map as along, IfOk, OnOk};
 ghost use Rattle.std.specs.List.{flat_map};
-ghost use Rattle.rpg_program.specs.Values.{held};
+ghost use Rattle.rpg_program.specs.Values.{entries_held, held};
 ghost use Rattle.rpg_store.specs.First.{first_contents, first_currents};
 ghost use Rattle.rpg_store.specs.Listed.{listed_contents, listed_with_text, number_part, text_part};
 ghost use Rattle.rpg_store.specs.Slots.{AreInOrder, currents, entries_count, forms_of};
@@ -9,7 +9,7 @@ ghost use Rattle.rpg_store.specs.Slots.{AreInOrder, currents, entries_count, for
 use crate::slot::{Slot, place, slots_of};
 use crate::store::Store;
 use rpg_program::Program;
-use rpg_program::value::Value;
+use rpg_program::value::{FieldValues, Value};
 use std::alloc::{AllocError, Global};
 use std::marker::Model;
 
@@ -74,23 +74,23 @@ fn add_texts(alloc: Global, values: &[Value], texts: &mut Vec<Vec<u8>>) -> Resul
 }
 
 /// Returns the numbers of all fields, one after another.
-fn numbers_of(alloc: Global, count: usize, values: &[Vec<Value>]) -> Result<Vec<i64>, AllocError>
-    ensures { IfOk result (λ ns. ns.items ≡ flat_map (λ us. along number_part (along held us.items)) values.now) }
+fn numbers_of(alloc: Global, count: usize, values: &[FieldValues]) -> Result<Vec<i64>, AllocError>
+    ensures { IfOk result (λ ns. ns.items ≡ flat_map (λ us. along number_part (entries_held us)) values.now) }
 {
     let mut numbers = Vec::with_capacity(alloc, count)?;
     for of_field in values {
-        add_numbers(of_field, &mut numbers)?;
+        add_numbers(of_field.as_slice(), &mut numbers)?;
     }
     Ok(numbers)
 }
 
 /// Returns the texts of all fields, one after another.
-fn texts_of(alloc: Global, count: usize, values: &[Vec<Value>]) -> Result<Vec<Vec<u8>>, AllocError>
-    ensures { IfOk result (λ ts. along (λ t. t.items) ts.items ≡ flat_map (λ us. along text_part (along held us.items)) values.now) }
+fn texts_of(alloc: Global, count: usize, values: &[FieldValues]) -> Result<Vec<Vec<u8>>, AllocError>
+    ensures { IfOk result (λ ts. along (λ t. t.items) ts.items ≡ flat_map (λ us. along text_part (entries_held us)) values.now) }
 {
     let mut texts = Vec::with_capacity(alloc, count)?;
     for of_field in values {
-        add_texts(alloc, of_field, &mut texts)?;
+        add_texts(alloc, of_field.as_slice(), &mut texts)?;
     }
     Ok(texts)
 }

@@ -1,6 +1,6 @@
-use Rattle.std.proofs.Common.{arith, map}
+use Rattle.std.proofs.Common.{arith}
 use Rattle.std.proofs.lemmas.List.{length-map}
-use Rattle.rpg_program.specs.Values.{held}
+use Rattle.rpg_program.specs.Values.{entries_held}
 use Rattle.rpg_object_format.specs.Format.{times_with}
 use Rattle.rpg_program.specs.Object.{seen}
 use Rattle.rpg_object.specs.Subroutines.{subroutines}
@@ -22,7 +22,7 @@ pub put_values-requires-clause-lengths : goal.put_values-requires-clause-lengths
 put_values-requires-clause-lengths c = rw c.deref-2.ensures.value (lengths_kept c.args.rows.now.fields.items c.requires.fields)
 
 pub put_values-requires-clause-number : goal.put_values-requires-clause-number
-put_values-requires-clause-number c = rw (c.deref-2.ensures.value, c.deref-3.ensures.value) (omega (arith, as_many _ _ c.requires.values, length-map c.args.rows.now.values.items (λ vs. map held vs.items)))
+put_values-requires-clause-number c = rw (c.deref-2.ensures.value, c.deref-3.ensures.value) (omega (arith, as_many _ _ c.requires.values, length-map c.args.rows.now.values.items entries_held))
 
 pub put_values-requires-clause-values : goal.put_values-requires-clause-values
 put_values-requires-clause-values c = rw (c.deref-2.ensures.value, c.deref-3.ensures.value) c.requires.values

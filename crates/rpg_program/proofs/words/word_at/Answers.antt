@@ -1,5 +1,5 @@
-use Rattle.std.proofs.Common.{◌≡◌, ◌-◌, map, slice_get, None, Some, refl, sym, ap, ◌∙◌, arith}
-use Rattle.rpg_program.specs.Values.{characters_of, held}
+use Rattle.std.proofs.Common.{◌≡◌, ◌-◌, slice_get, None, Some, refl, sym, ap, ◌∙◌, arith}
+use Rattle.rpg_program.specs.Values.{characters_of}
 use Rattle.rpg_program.specs.Object.{seen}
 use Rattle.rpg_program.proofs.TextConstants.{found_at, missing_at, word_found, word_missing}
 use Rattle.rpg_program.proofs.words.word_at.Goals as goal
@@ -24,5 +24,5 @@ returns-in-Some c =
     let positive = c.if-field-eq0.false in
     let at : slice_get all k ≡ Some v = ap (λ xs. slice_get xs k) (sym c.deref.ensures.value) ∙ found_at c.deref.result.now k v look.0 look.1 in
     c.first_text.ensures
-    ∙ ap (λ xs. characters_of (slice_get (map held xs) 0)) c.deref-in-Some.ensures.value
+    ∙ ap (λ vs. characters_of (slice_get vs 0)) c.as_slice.ensures
     ∙ word_found (seen c.args.rows.now) all refl c.args.field k v (omega (arith, same, positive)) c.requires at

@@ -1,28 +1,23 @@
 use Rattle.std.proofs.Common.{ℕ, ◌+◌, map, sym, ap, ◌∙◌, subst, arith, List, Option}
 use Rattle.std.proofs.lemmas.List.{length-map}
 use Rattle.std.specs.FinMap as maps
-use Rattle.std.specs.Global.{Vec}
 use Rattle.rpg_program.specs.Forms.{form_at, length_of}
-use Rattle.rpg_program.specs.Values.{Value, held}
+use Rattle.rpg_program.specs.Values.{Value, entries_held}
 use Rattle.rpg_program.specs.declared.form.FieldForm.{FieldForm}
-use Rattle.rpg_program.specs.declared.value.Value as entry
 use Rattle.rpg_store.specs.Filling.{IsLike, MayTakeAll, with_positions}
 use Rattle.rpg_store.specs.Flat.{flat_contents}
 use Rattle.rpg_store.specs.Slots.{forms_of}
 use Rattle.rpg_store.proofs.Filling.{all_fields, field_stays, item_there, next_field}
 use Rattle.rpg_store.proofs.flat.put_all.Goals as goal
 
-abbrev values_of : Vec entry.Value → List Value
-values_of vs = map held vs.items
-
 pub put_field-requires : goal.put_field-requires
 put_field-requires c =
     let l = c.loop-of_field in
     let k = l.of_field-index in
-    let vs = values_of c.of_field-item.result in
-    let i = item_there values_of c.args.values.now k c.of_field-item.result c.loop-of_field-test.true c.of_field-item.is in
+    let vs = entries_held c.of_field-item.result in
+    let i = item_there entries_held c.args.values.now k c.of_field-item.result c.loop-of_field-test.true c.of_field-item.is in
     let r = c.requires.like k vs i in
-    subst (λ (us : List Value). MayTakeAll (forms_of l.store.slots) (flat_contents l.store) l.field us) (sym (ap (map held) c.deref.ensures.value))
+    subst (λ (us : List Value). MayTakeAll (forms_of l.store.slots) (flat_contents l.store) l.field us) (sym c.as_slice.ensures)
     (subst (λ (p : ℕ). MayTakeAll (forms_of l.store.slots) (flat_contents l.store) p vs) (sym l.invariant.counted) (record {
       few = r.few;
       each = λ n v j.
@@ -34,12 +29,12 @@ pub loop-of_field-preserved : goal.loop-of_field-preserved
 loop-of_field-preserved c =
     let l = c.loop-of_field in
     let k = l.of_field-index in
-    let vs = values_of c.of_field-item.result in
-    let there = item_there values_of c.args.values.now k c.of_field-item.result c.loop-of_field-test.true c.of_field-item.is in
-    let put = c.put_field.ensures.contents ∙ ap (λ us. with_positions (flat_contents l.store) l.field 1 (map held us)) c.deref.ensures.value ∙ ap (λ (p : ℕ). with_positions (flat_contents l.store) p 1 vs) l.invariant.counted in
+    let vs = entries_held c.of_field-item.result in
+    let there = item_there entries_held c.args.values.now k c.of_field-item.result c.loop-of_field-test.true c.of_field-item.is in
+    let put = c.put_field.ensures.contents ∙ ap (λ us. with_positions (flat_contents l.store) l.field 1 us) c.as_slice.ensures ∙ ap (λ (p : ℕ). with_positions (flat_contents l.store) p 1 vs) l.invariant.counted in
     record {
       counted = ap (λ (p : ℕ). p + 1) l.invariant.counted;
-      to_do = next_field (flat_contents l.store) _ k vs (map values_of c.args.values.now) put there ∙ l.invariant.to_do;
+      to_do = next_field (flat_contents l.store) _ k vs (map entries_held c.args.values.now) put there ∙ l.invariant.to_do;
       others = λ j n h. field_stays (flat_contents l.store) _ k j n vs put h ∙ l.invariant.others j n (omega arith);
       currents = c.put_field.ensures.currents ∙ l.invariant.currents;
       forms = c.put_field.ensures.forms ∙ l.invariant.forms;
@@ -48,5 +43,5 @@ loop-of_field-preserved c =
 pub returns-clause-contents : goal.returns-clause-contents
 returns-clause-contents c =
     let l = c.loop-of_field in
-    let n = length-map c.args.values.now values_of in
-    sym (all_fields (flat_contents l.store) l.of_field-index (map values_of c.args.values.now) (omega arith)) ∙ l.invariant.to_do
+    let n = length-map c.args.values.now entries_held in
+    sym (all_fields (flat_contents l.store) l.of_field-index (map entries_held c.args.values.now) (omega arith)) ∙ l.invariant.to_do

@@ -1,8 +1,8 @@
 use Rattle.std.proofs.Common.{◌≡◌, map, take}
 use Rattle.std.specs.List.{flat_map}
-use Rattle.rpg_program.specs.Values.{held}
+use Rattle.rpg_program.specs.Values.{entries_held}
 use Rattle.rpg_store.specs.Listed.{text_part}
 use Rattle.rpg_store.proofs.listed.texts_of.Given as goal
 
 abbrev pub invariant-loop-of_field : goal.invariant-loop-of_field
-invariant-loop-of_field l = map (λ t. t.items) l.texts.items ≡ flat_map (λ us. map text_part (map held us.items)) (take l.of_field-index l.values)
+invariant-loop-of_field l = map (λ t. t.items) l.texts.items ≡ flat_map (λ us. map text_part (entries_held us)) (take l.of_field-index l.values)

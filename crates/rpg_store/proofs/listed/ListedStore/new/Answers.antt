@@ -1,6 +1,5 @@
-use Rattle.std.proofs.Common.{◌≡◌, ◌≤◌, Global, List, Vec, map, sym, ap, ◌∙◌, subst, arith}
-use Rattle.rpg_program.specs.Values.{held}
-use Rattle.rpg_program.specs.declared.value.Value as entry
+use Rattle.std.proofs.Common.{◌≡◌, ◌≤◌, List, map, sym, ap, ◌∙◌, subst, arith}
+use Rattle.rpg_program.specs.Values.{entries_held}
 use Rattle.rpg_program.specs.declared.form.FieldForm.{FieldForm}
 use Rattle.rpg_program.specs.Object.{Object}
 use Rattle.rpg_store.specs.Contents.{by_entry}
@@ -37,11 +36,11 @@ returns-clause-contents c =
     let values = joined_values c.args.program.now.values in
     let same : c.deref.result.now ≡ c.args.program.now.fields = c.deref.ensures.value ∙ ap (λ (o : Object). o.fields) c.rows-tables.ensures.same in
     let texts : map (λ t. t.items) c.in_ok-texts.texts.items ≡ map text_part values =
-    c.in_ok-texts.ensures ∙ flat_map_joined text_part (λ (us : Vec entry.Value Global). map held us.items) c.deref-4.result.now
-    ∙ ap (λ us. map text_part (joined_values (map (λ vs. map held vs.items) us))) c.deref-4.ensures.value ∙ ap (λ (o : Object). map text_part (joined_values o.values)) c.rows-tables.ensures.same in
+    c.in_ok-texts.ensures ∙ flat_map_joined text_part entries_held c.deref-4.result.now
+    ∙ ap (λ us. map text_part (joined_values (map entries_held us))) c.deref-4.ensures.value ∙ ap (λ (o : Object). map text_part (joined_values o.values)) c.rows-tables.ensures.same in
     let numbers : c.in_ok-numbers.numbers.items ≡ map number_part values =
-    c.in_ok-numbers.ensures ∙ flat_map_joined number_part (λ (us : Vec entry.Value Global). map held us.items) c.deref-3.result.now
-    ∙ ap (λ us. map number_part (joined_values (map (λ vs. map held vs.items) us))) c.deref-3.ensures.value ∙ ap (λ (o : Object). map number_part (joined_values o.values)) c.rows-tables.ensures.same in
+    c.in_ok-numbers.ensures ∙ flat_map_joined number_part entries_held c.deref-3.result.now
+    ∙ ap (λ us. map number_part (joined_values (map entries_held us))) c.deref-3.ensures.value ∙ ap (λ (o : Object). map number_part (joined_values o.values)) c.rows-tables.ensures.same in
     ap (λ fs. by_entry fs (paired_values (map (λ t. t.items) c.in_ok-texts.texts.items) c.in_ok-numbers.numbers.items)) (ap forms_of c.in_ok-slots.ensures ∙ forms_from 0 c.deref.result.now ∙ same)
     ∙ ap (by_entry c.args.program.now.fields) (ap (λ ts. paired_values ts c.in_ok-numbers.numbers.items) texts ∙ ap (λ ns. paired_values (map text_part values) ns) numbers ∙ joined_first c.args.program.now.fields c.args.program.now.values p.fields p.values)
 
