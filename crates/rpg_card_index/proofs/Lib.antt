@@ -1,3 +1,4 @@
 mod FileLemmas
 mod IndexLemmas
+pub mod PlaceLemmas
 pub mod TotalLemmas

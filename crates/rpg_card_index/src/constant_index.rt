@@ -1,8 +1,9 @@
 //! The first place of each constant, and how many different constants there are.
 
 ghost use Rattle.std.specs.Prelude.{◌≡◌, ◌∷◌, [], IfOk, OnOk};
+ghost use Rattle.std.specs.Map.{lookup};
 ghost use Rattle.std.specs.Option.{option_to_list};
-ghost use Rattle.rpg_cards.specs.Constants.{constants_on, factor_constants};
+ghost use Rattle.rpg_cards.specs.Constants.{constants_on, factor_constants, is_same};
 ghost use Rattle.rpg_card_index.specs.Index.{IsConstantIndex, KnowsAtMost, Notes};
 ghost use Rattle.rpg_symbols.specs.Totals.{first_totals};
 
@@ -72,6 +73,13 @@ impl ConstantIndex {
         let is_first = note(&mut self.first, constant, place)?;
         self.totals.push(is_first, bytes)?;
         Ok(())
+    }
+
+    /// Returns the first place of a constant.
+    pub(crate) fn first(&self, constant: &Constant) -> Option<usize>
+        ensures { result ≡ lookup (is_same constant.now) self.now.first.entries }
+    {
+        self.first.get(constant).copied()
     }
 
     /// Returns the totals of the first `count` constants.

@@ -1,8 +1,9 @@
 //! The cards of a source, with the first place of each name, constant and file.
 
-ghost use Rattle.std.specs.Prelude.{◌≡◌, ◌+◌, ◌*◌, ◌≤◌, length, take, option_copied, IfOk};
+ghost use Rattle.std.specs.Prelude.{◌≡◌, ◌+◌, ◌*◌, ◌<◌, ◌≤◌, ◌^◌, Some, length, not, take, slice_get, option_copied, position, IfOk};
+ghost use Rattle.std.specs.List.{list_any};
 ghost use Rattle.rpg_cards.specs.Constants as constants;
-ghost use Rattle.rpg_cards.specs.Constants.{constants_in};
+ghost use Rattle.rpg_cards.specs.Constants.{constants_in, is_same};
 ghost use Rattle.rpg_cards.specs.Files as files;
 ghost use Rattle.rpg_cards.specs.First.{first_at};
 ghost use Rattle.rpg_card_index.specs.Index.{defined_first, file_at, place_before, placed_definition, IsIndexOf};
@@ -10,6 +11,7 @@ ghost use Rattle.rpg_cards.specs.Levels as levels;
 ghost use Rattle.rpg_cards.specs.Names as names;
 ghost use Rattle.rpg_cards.specs.Names.{is_of};
 ghost use Rattle.rpg_card_index.specs.Totals as totals;
+ghost use Rattle.rpg_cards.specs.declared.constants.Constant.{Constant};
 
 use crate::constant_index::ConstantIndex;
 use crate::first_files::FirstFiles;
@@ -195,6 +197,24 @@ impl<'a> IndexedCards<'a> {
         ensures few_bytes { result.bytes ≤ 10 + 4294967295 * length (constants_in self.now) }
     {
         self.index.constants.all()
+    }
+
+    /// Whether the constant at a place isn't among those before it.
+    pub fn is_new_constant(&self, place: usize) -> bool
+        requires { place < 2 ^ 63 }
+        ensures { (x : Constant) → slice_get (constants_in self.now) place ≡ Some x → result ≡ not (list_any (is_same x) (take place (constants_in self.now))) }
+    {
+        let before = self.constant_totals(place).number;
+        let with = self.constant_totals(place + 1).number;
+        before < with
+    }
+
+    /// Returns a constant's place among the different constants.
+    pub fn constant_place(&self, constant: &Constant) -> Option<u64>
+        ensures { result ≡ position (is_same constant.now) (constants.constants self.now) }
+    {
+        let first = self.index.constants.first(constant)?;
+        Some(self.constant_totals(first).number)
     }
 
     /// Returns the first F card with this name.

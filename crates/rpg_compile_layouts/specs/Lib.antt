@@ -1,3 +1,4 @@
+pub mod Distinct
 pub mod Held
 pub mod Loaded
 pub mod Parts

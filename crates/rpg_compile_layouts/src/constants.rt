@@ -1,69 +1,55 @@
 //! The constants of a program.
 
-ghost use Rattle.std.specs.Prelude.{◌≡◌, ◌++◌, All, map, IfOk, OnOk};
-ghost use Rattle.std.specs.Option.{option_and_then, option_to_list};
-ghost use Rattle.rpg_cards.specs.Insertions.{insert_all};
+ghost use Rattle.std.specs.Prelude.{◌≡◌, ◌+◌, ◌++◌, ◌≤◌, All, length, map, IfOk, OnOk};
 ghost use Rattle.rpg_cards.specs.Constants as known;
 ghost use Rattle.rpg_program.specs.Values.{entries_held, held};
+ghost use Rattle.rpg_compile_layouts.specs.Distinct.{AddsDistinct, StandAt};
 ghost use Rattle.rpg_compile_layouts.specs.Held.{held_values};
 ghost use Rattle.rpg_compile_program.specs.Data.{constant_value, constant_values};
 
-use indexmap::IndexSet;
-use rpg_cards::{Constant, SpecCard, factor_constant};
+use rpg_card_index::IndexedCards;
+use rpg_cards::{Constant, SpecCard};
 use rpg_program::form::FieldForm;
 use rpg_program::value::{FieldValues, Value};
-use rpg_sheet_specs::{Factor, OutputField, OutputSpec, Spec};
 use std::alloc::{AllocError, Global};
 
 /// Returns the constants of cards without duplicates, in the order of their first uses.
 pub(crate) fn constants_of(
     alloc: Global,
-    cards: &[SpecCard],
-) -> Result<IndexSet<Constant>, AllocError>
-    ensures { IfOk result (λ set. set.keys ≡ known.constants cards.now) }
+    source: &IndexedCards,
+) -> Result<Vec<Constant>, AllocError>
+    requires { length source.now ≤ 2000 }
+    ensures { IfOk result (λ list. list.items ≡ known.constants source.now) }
 {
-    // A C card has up to two.
-    let mut constants = IndexSet::with_capacity(alloc, cards.len().saturating_mul(2))?;
-    for card in cards {
-        add_on(&mut constants, card)?;
+    let mut constants = Vec::with_capacity(alloc, source.all_constants().number as usize)?;
+    let mut place = 0;
+    for card in source.as_slice() {
+        place = add_on(&mut constants, source, place, card)?;
     }
     Ok(constants)
 }
 
-/// Adds each constant of a card that isn't in the set yet.
-fn add_on(constants: &mut IndexSet<Constant>, card: &SpecCard) -> Result<(), AllocError>
-    ensures { OnOk result (constants.new.keys ≡ insert_all known.is_same constants.old.keys (known.constants_on card.now.spec)) }
+/// Adds the constants of a card that aren't among those before them; the first is at `start`. Returns the place after them.
+fn add_on(
+    constants: &mut Vec<Constant>,
+    source: &IndexedCards,
+    start: usize,
+    card: &SpecCard,
+) -> Result<usize, AllocError>
+    requires few { length source.now ≤ 2000 }
+    requires stand { StandAt start (known.constants_on card.now.spec) (known.constants_in source.now) }
+    ensures place { IfOk result (λ place. place ≡ start + length (known.constants_on card.now.spec)) }
+    ensures added { IfOk result (λ place. AddsDistinct (known.constants_in source.now) start place constants.old.items constants.new.items) }
 {
-    match &card.spec {
-        Spec::Calculation(calculation) => {
-            add_factor(constants, &calculation.factor_1)?;
-            add_factor(constants, &calculation.factor_2)
+    let items = card.constants();
+    let mut place = start;
+    for constant in items.as_slice() {
+        if source.is_new_constant(place) {
+            constants.push(constant.copied())?;
         }
-        Spec::Output(OutputSpec::Field(field)) => add_text(constants, field),
-        _ => Ok(()),
+        place += 1;
     }
-}
-
-fn add_factor(constants: &mut IndexSet<Constant>, factor: &Option<Factor>) -> Result<(), AllocError>
-    ensures { OnOk result (constants.new.keys ≡ insert_all known.is_same constants.old.keys (option_to_list (option_and_then known.factor_constant factor.now))) }
-{
-    let Some(factor) = factor else {
-        return Ok(());
-    };
-    if let Some(constant) = factor_constant(factor) {
-        constants.insert(constant)?;
-    }
-    Ok(())
-}
-
-/// A text beside an edit code is its fill, not a constant.
-fn add_text(constants: &mut IndexSet<Constant>, field: &OutputField) -> Result<(), AllocError>
-    ensures { OnOk result (constants.new.keys ≡ insert_all known.is_same constants.old.keys (option_to_list (known.text_constant field.now))) }
-{
-    if let (None, Some(text)) = (&field.code, &field.text) {
-        constants.insert(Constant::of_text(text))?;
-    }
-    Ok(())
+    Ok(place)
 }
 
 /// Appends the forms and values of constants to those of the names.

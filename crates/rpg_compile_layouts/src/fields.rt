@@ -13,6 +13,7 @@ use crate::constants::{add_constants, constants_of};
 use crate::loaded::Loaded;
 use crate::names::NameTable;
 use crate::table::FieldTable;
+use rpg_card_index::IndexedCards;
 use rpg_cards::SpecCard;
 use rpg_program::form::FieldForm;
 use rpg_program::value::FieldValues;
@@ -23,33 +24,37 @@ const FIELDS: usize = 4_000;
 
 /// The fields of a program in numeric order: names, then constants.
 #[derive(Drop)]
-pub struct Fields {
-    pub table: FieldTable,
+pub struct Fields<'a> {
+    pub table: FieldTable<'a>,
     pub forms: Vec<FieldForm>,
     /// Their values before the first cycle, entry by entry.
     pub values: Vec<FieldValues>,
 }
 
 /// Returns the fields of cards. Fails only if memory runs out.
-pub fn fields_of(alloc: Global, cards: &[SpecCard]) -> Result<Fields, AllocError>
-    requires fields { length (fields.defined_fields cards.now) + length (constants cards.now) ≤ 4000 }
-    requires storage { storage (fields.defined_fields cards.now) ≤ 65535 }
-    requires sizes { KeepsRule (λ before c after. bad_size c) cards.now }
-    ensures table { IfOk result (λ f. f.table ≡ fields.table_of cards.now) }
-    ensures forms { IfOk result (λ f. f.forms.items ≡ fields.forms (fields.table_of cards.now)) }
-    ensures values { IfOk result (λ f. held_values f.values.items ≡ values_of cards.now) }
-    ensures kept { IfOk result (λ f. All IsConstant (constants cards.now)) }
+pub fn fields_of<'a>(
+    alloc: Global,
+    source: &'a IndexedCards<'a>,
+) -> Result<Fields<'a>, AllocError>
+    requires few { length source.now ≤ 2000 }
+    requires fields { length (fields.defined_fields source.now) + length (constants source.now) ≤ 4000 }
+    requires storage { storage (fields.defined_fields source.now) ≤ 65535 }
+    requires sizes { KeepsRule (λ before c after. bad_size c) source.now }
+    ensures table { IfOk result (λ f. f.table ≡ fields.table_of source.now) }
+    ensures forms { IfOk result (λ f. f.forms.items ≡ fields.forms (fields.table_of source.now)) }
+    ensures values { IfOk result (λ f. held_values f.values.items ≡ values_of source.now) }
+    ensures kept { IfOk result (λ f. All IsConstant (constants source.now)) }
 {
-    let constants = constants_of(alloc, cards)?;
+    let constants = constants_of(alloc, source)?;
     let NameTable {
         symbols,
         mut forms,
         mut values,
-    } = names_of(alloc, cards, constants.len())?;
+    } = names_of(alloc, source.as_slice(), constants.len())?;
     let names = forms.len() as u16;
     add_constants(alloc, constants.as_slice(), &mut forms, &mut values)?;
     Ok(Fields {
-        table: FieldTable::new(symbols, names, constants),
+        table: FieldTable::new(symbols, names, source),
         forms,
         values,
     })

@@ -1,11 +1,12 @@
 //! The numbers of names and constants.
 
 ghost use Rattle.std.specs.Prelude.{◌≡◌, ◌+◌, ◌≤◌, ◌<◌, length};
+ghost use Rattle.rpg_cards.specs.Constants.{constants};
 ghost use Rattle.rpg_cards.specs.Keys as keys;
 ghost use Rattle.rpg_effect_renaming.specs.Naming.{renamed_index, renamed_operand};
 ghost use Rattle.rpg_compile_program.specs.Table as table;
 
-use indexmap::IndexSet;
+use rpg_card_index::IndexedCards;
 use rpg_cards::{Constant, factor_constant};
 use rpg_program::operation::{Index, Operand};
 use rpg_sheet_specs::{Entry, EntryIndex, Factor};
@@ -14,34 +15,36 @@ use std::marker::Model;
 
 /// The fields of a program: names, then constants.
 #[derive(Drop)]
-pub struct FieldTable {
+pub struct FieldTable<'a> {
     symbols: Symbols,
     /// How many names there are.
     names: u16,
-    constants: IndexSet<Constant>,
+    /// The cards, which have the constants.
+    source: &'a IndexedCards<'a>,
 }
 
-impl Model for FieldTable {
+impl<'a> Model for FieldTable<'a> {
     ghost use Rattle.std.specs.Prelude.{◌≡◌, ◌+◌, ◌≤◌, length};
+    ghost use Rattle.rpg_cards.specs.Constants.{constants};
     ghost use Rattle.rpg_compile_program.specs.Table.{Table};
 
     ghost Value = { Table };
 
-    ghost view = { λ t. record { names = t.symbols; constants = t.constants.keys } };
+    ghost view = { λ t. record { names = t.symbols; constants = constants t.source.now } };
 
-    ghost invariant = { λ t. (t.names ≡ length t.symbols) × (length t.symbols + length t.constants.keys ≤ 4000) };
+    ghost invariant = { λ t. (t.names ≡ length t.symbols) × (length t.symbols + length (constants t.source.now) ≤ 4000) };
 }
 
-impl FieldTable {
-    pub(crate) fn new(symbols: Symbols, names: u16, constants: IndexSet<Constant>) -> Self
+impl<'a> FieldTable<'a> {
+    pub(crate) fn new(symbols: Symbols, names: u16, source: &'a IndexedCards<'a>) -> Self
         requires names { names ≡ length symbols }
-        requires few { length symbols + length constants.keys ≤ 4000 }
-        ensures { result ≡ record { names = symbols; constants = constants.keys } }
+        requires few { length symbols + length (constants source.now) ≤ 4000 }
+        ensures { result ≡ record { names = symbols; constants = constants source.now } }
     {
         FieldTable {
             symbols,
             names,
-            constants,
+            source,
         }
     }
 
@@ -56,7 +59,7 @@ impl FieldTable {
     pub fn constant_number(&self, constant: &Constant) -> u16
         ensures { result ≡ table.constant_number self.now constant.now }
     {
-        match self.constants.get_index_of(constant) {
+        match self.source.constant_place(constant) {
             None => 0,
             Some(place) => self.names + place as u16 + 1,
         }

@@ -5,7 +5,7 @@ use Rattle.rpg_compile_layouts.proofs.fields.fields_of.Goals as goal
 
 pub returns-clause-values : goal.returns-clause-values
 returns-clause-values c =
-    let cards = c.args.cards.now in
+    let cards = c.args.source.now in
     c.in_ok-add_constants.ensures.values
     ∙ ap (λ vs. vs ++ map constant_values c.as_slice.result.now) c.in_ok-symbols.ensures.values
     ∙ ap (λ cs. map (field_values (loaded cards)) (defined_fields cards) ++ map constant_values cs) (c.as_slice.ensures.keys ∙ c.in_ok-constants.ensures)
