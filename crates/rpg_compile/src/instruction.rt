@@ -17,7 +17,7 @@ use rpg_sheet_specs::{CalculationSpec, Operation};
 /// What the names on the cards of a section refer to.
 #[derive(Drop)]
 pub(crate) struct Section<'a> {
-    pub(crate) table: &'a FieldTable,
+    pub(crate) table: &'a FieldTable<'a>,
     pub(crate) labels: &'a NameNumbers,
     pub(crate) subroutines: &'a NameNumbers,
     /// The number of the subroutine, 0 in detail and total calculations.

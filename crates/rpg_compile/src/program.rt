@@ -18,6 +18,7 @@ use crate::{
     faultless_sources_are_accepted, faultless_sources_fill_their_fields,
     faultless_sources_keep_limits,
 };
+use rpg_card_index::IndexedCards;
 use rpg_cards::{FileUse, SpecCard, file_for, has_match_field};
 use rpg_compile_layouts::{Fields, fields_of, lines_of, types_of};
 use rpg_program::Program;
@@ -26,21 +27,28 @@ use rpg_sheet_specs::FileSpec;
 use std::alloc::{AllocError, Global};
 
 /// Compiles cards without faults. `allowance` limits the backward branches and calls of a cycle. Fails only if memory runs out.
-pub fn translate(alloc: Global, cards: &[SpecCard], allowance: u16) -> Result<Program, AllocError>
+pub fn translate(alloc: Global, source: &IndexedCards, allowance: u16) -> Result<Program, AllocError>
     requires allowed { 0 < allowance }
-    requires few { length cards.now ≤ 2000 }
-    requires faultless { Faultless cards.now }
-    ensures program { IfOk result (λ p. p ≡ programs.program_of cards.now allowance) }
+    requires few { length source.now ≤ 2000 }
+    requires faultless { Faultless source.now }
+    ensures program { IfOk result (λ p. p ≡ programs.program_of source.now allowance) }
     ensures accepted { IfOk result (λ p. IsAccepted p) }
 {
+    let cards = source.as_slice();
     faultless_sources_are_accepted(cards);
     faultless_sources_keep_limits(cards);
     faultless_sources_fill_their_fields(cards);
-    program_of(alloc, cards, allowance)
+    program_of(alloc, source, cards, allowance)
 }
 
 /// Compiles cards that keep the limits of a program.
-fn program_of(alloc: Global, cards: &[SpecCard], allowance: u16) -> Result<Program, AllocError>
+fn program_of(
+    alloc: Global,
+    source: &IndexedCards,
+    cards: &[SpecCard],
+    allowance: u16,
+) -> Result<Program, AllocError>
+    requires same { source.now ≡ cards.now }
     requires allowed { 0 < allowance }
     requires few { length cards.now ≤ 2000 }
     requires limits { KeepsLimits cards.now }
@@ -53,7 +61,7 @@ fn program_of(alloc: Global, cards: &[SpecCard], allowance: u16) -> Result<Progr
         table,
         forms: fields,
         values,
-    } = fields_of(alloc, cards)?;
+    } = fields_of(alloc, source)?;
     let types = types_of(alloc, &table, cards)?;
     let lines = lines_of(alloc, &table, cards)?;
     let SectionRows {

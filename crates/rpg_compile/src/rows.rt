@@ -89,7 +89,7 @@ fn rows_from(
 #[derive(Drop)]
 struct Writer<'a> {
     alloc: Global,
-    table: &'a FieldTable,
+    table: &'a FieldTable<'a>,
     /// Those of the current section.
     labels: NameNumbers,
     subroutines: NameNumbers,

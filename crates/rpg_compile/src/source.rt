@@ -27,8 +27,11 @@ pub fn compile_with_cards(
     ensures cards { IfOk result (λ compiled. AreFaultless text.now compiled.source.cards.items) }
     ensures err { IfErr result (λ fault. IsSourceRefusal fault text.now) }
 {
-    let source = faultless_cards(alloc, text)?;
-    let program = translate(alloc, &source.cards, allowance)?;
+    let (cards, index) = faultless_cards(alloc, text)?.into_parts();
+    let indexed = index.over(&cards);
+    let program = translate(alloc, &indexed, allowance)?;
+    let index = indexed.into_index();
+    let source = FaultlessCards::of_parts(cards, index);
     Ok(Compiled { source, program })
 }
 
@@ -38,6 +41,6 @@ pub fn compile(alloc: Global, text: &[u8], allowance: u16) -> Result<Program, So
     ensures ok { IfOk result (λ program. Compiles text.now allowance program) }
     ensures err { IfErr result (λ fault. IsSourceRefusal fault text.now) }
 {
-    let source = faultless_cards(alloc, text)?;
-    Ok(translate(alloc, &source.cards, allowance)?)
+    let (cards, index) = faultless_cards(alloc, text)?.into_parts();
+    Ok(translate(alloc, &index.over(&cards), allowance)?)
 }

@@ -33,24 +33,27 @@ next_is all i x at =
     ap (λ (l : List Constant). insert_all is_same [] l) more ∙ with_one is_same is_same_equiv [] (take i all) x
 
 pub next_new : (all : List Constant) (i : ℕ) (x : Constant) (new : Bool) → slice_get all i ≡ Some x → new ≡ not (list_any (is_same x) (take i all)) → new ≡ true → distinct all (i + 1) ≡ distinct all i ++ x ∷ []
-next_new all i x new at is yes = next_is all i x at ∙ ap (λ b. cond b (distinct all i) (distinct all i ++ x ∷ [])) (turned new (list_any (is_same x) (take i all)) is yes)
+next_new all i x new at is fresh = next_is all i x at ∙ ap (λ b. cond b (distinct all i) (distinct all i ++ x ∷ [])) (turned new (list_any (is_same x) (take i all)) is fresh)
   where
     turned : (a b : Bool) → a ≡ not b → a ≡ true → b ≡ false
-    turned a true e yes = absurd cc
-    turned a false e yes = refl
+    turned a true e same = absurd cc
+    turned a false e same = refl
 
 pub next_known : (all : List Constant) (i : ℕ) (x : Constant) (new : Bool) → slice_get all i ≡ Some x → new ≡ not (list_any (is_same x) (take i all)) → new ≡ false → distinct all (i + 1) ≡ distinct all i
-next_known all i x new at is no = next_is all i x at ∙ ap (λ b. cond b (distinct all i) (distinct all i ++ x ∷ [])) (turned new (list_any (is_same x) (take i all)) is no)
+next_known all i x new at is known = next_is all i x at ∙ ap (λ b. cond b (distinct all i) (distinct all i ++ x ∷ [])) (turned new (list_any (is_same x) (take i all)) is known)
   where
     turned : (a b : Bool) → a ≡ not b → a ≡ false → b ≡ true
-    turned a true e no = refl
-    turned a false e no = absurd cc
+    turned a true e same = refl
+    turned a false e same = absurd cc
 
 -- the constants of a card stand after those of the cards before it
 pub card_stands : (cards : List SpecCard) (i place : ℕ) (c : SpecCard) → i < length cards → c ≡ get_or cards i c → place ≡ length (constants_in (take i cards)) → StandAt place (constants_on c.spec) (constants_in cards)
 card_stands cards i place c lt is at =
     let taken : take (i + 1) cards ≡ take i cards ++ c ∷ [] = take_more cards i c lt ∙ ap (λ y. take i cards ++ y ∷ []) (sym is) in
-    let whole : cards ≡ take (i + 1) cards ++ drop (i + 1) cards = sym (take-append-drop (i + 1) cards) in
-    (constants_in (take i cards), constants_in (drop (i + 1) cards), at,
-    ap constants_in whole ∙ constants_in-append (take (i + 1) cards) (drop (i + 1) cards) ∙ ap (λ (xs : List Constant). xs ++ constants_in (drop (i + 1) cards)) (constants_in-take cards i c lt is)
-    ∙ append_assoc (constants_in (take i cards)) (constants_on c.spec) (constants_in (drop (i + 1) cards)))
+    let whole : cards ≡ take (i + 1) cards ++ drop (i + 1) cards = sym (take-append-drop (i + 1) cards) in (
+      constants_in (take i cards),
+      constants_in (drop (i + 1) cards),
+      at,
+      ap constants_in whole ∙ constants_in-append (take (i + 1) cards) (drop (i + 1) cards) ∙ ap (λ (xs : List Constant). xs ++ constants_in (drop (i + 1) cards)) (constants_in-take cards i c lt is)
+          ∙ append_assoc (constants_in (take i cards)) (constants_on c.spec) (constants_in (drop (i + 1) cards)),
+    )

@@ -32,10 +32,7 @@ pub struct Fields<'a> {
 }
 
 /// Returns the fields of cards. Fails only if memory runs out.
-pub fn fields_of<'a>(
-    alloc: Global,
-    source: &'a IndexedCards<'a>,
-) -> Result<Fields<'a>, AllocError>
+pub fn fields_of<'a>(alloc: Global, source: &'a IndexedCards<'a>) -> Result<Fields<'a>, AllocError>
     requires few { length source.now ≤ 2000 }
     requires fields { length (fields.defined_fields source.now) + length (constants source.now) ≤ 4000 }
     requires storage { storage (fields.defined_fields source.now) ≤ 65535 }

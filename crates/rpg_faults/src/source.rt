@@ -21,6 +21,14 @@ pub struct FaultlessCards {
 }
 
 impl FaultlessCards {
+    /// Joins cards and the index of these cards.
+    pub fn of_parts(cards: Vec<SpecCard>, index: CardIndex) -> Self
+        requires { IsIndexOf index cards.items }
+        ensures { result.cards.items ≡ cards.items }
+    {
+        FaultlessCards { cards, index }
+    }
+
     /// Returns the cards, and the index that `CardIndex::over` puts over them.
     pub fn into_parts(self) -> (Vec<SpecCard>, CardIndex)
         ensures cards { result.0.items ≡ self.cards.items }

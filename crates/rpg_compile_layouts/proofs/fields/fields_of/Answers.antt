@@ -7,5 +7,5 @@ pub returns-clause-values : goal.returns-clause-values
 returns-clause-values c =
     let cards = c.args.source.now in
     c.in_ok-add_constants.ensures.values
-    ∙ ap (λ vs. vs ++ map constant_values c.as_slice.result.now) c.in_ok-symbols.ensures.values
-    ∙ ap (λ cs. map (field_values (loaded cards)) (defined_fields cards) ++ map constant_values cs) (c.as_slice.ensures.keys ∙ c.in_ok-constants.ensures)
+    ∙ ap (λ vs. vs ++ map constant_values c.as_slice-2.result.now) (c.in_ok-symbols.ensures.values ∙ ap (λ cs. map (field_values (loaded cs)) (defined_fields cs)) c.as_slice.ensures)
+    ∙ ap (λ xs. map (field_values (loaded cards)) (defined_fields cards) ++ map constant_values xs) (c.as_slice-2.ensures.value ∙ c.in_ok-constants.ensures)
