@@ -1,9 +1,11 @@
 -- Types without control and match fields join nothing badly.
+use denote.Bor.{Bor}
 use Rattle.std.proofs.Common.{◌≡◌, ℕ, Bool, true, false, cond, ◌||◌, ◌==◌, List, [], ◌∷◌, Option, None, Some, refl, sym, ap, ap₂, ◌∙◌, suc, ◌<◌, ◌≤◌, drop, drop-cons, get_or, length}
 use Rattle.std.proofs.lemmas.List.{drop_all}
 use Rattle.std.specs.List.{list_any}
-use Rattle.std.specs.Option.{is_some, option_map_or}
-use Rattle.rpg_cards.specs.Cards.{input_on}
+use Rattle.std.specs.Prelude.{option_copied}
+use Rattle.std.specs.Option.{is_none, is_some, option_and_then, option_map_or}
+use Rattle.rpg_cards.specs.Cards.{input_on, type_in}
 use Rattle.rpg_cards.specs.Groups.{followers, followers_with, groups, input_card_role, input_role, role_on}
 use Rattle.rpg_cards.specs.declared.spec_card.SpecCard.{SpecCard}
 use Rattle.rpg_faults.specs.Joined.{has_level, is_joined}
@@ -78,11 +80,14 @@ type_alone before after t h =
     (ap (λ fs. matches_differ (first_valid_matches (groups input_role before)) (valid_matches fs)) (no_matched_fields (followers input_role after) h)
     ∙ matches_never (first_valid_matches (groups input_role before)))
 
--- what isn't a field has no level of its own
-pub alone : (before after : List SpecCard) (i : InputSpec) → ((f : InputFieldSpec) → i ≡ input.Field f → ⊥) → list_any has_level (followers input_role after) ≡ false → joins_badly before after i ≡ false
-alone before after (input.Type t) other h = type_alone before after t h
-alone before after (input.And codes) other h = refl
-alone before after (input.Field f) other h = absurd (other f refl)
+-- a card that isn't a further one of a type, before no such field
+pub card_alone : (before after : List SpecCard) (i : Option InputSpec) (t : Option (Bor RecordType)) → option_copied t ≡ option_and_then type_in i → is_none t ≡ false → list_any has_level (followers input_role after) ≡ false
+    → option_map_or (joins_badly before after) i false ≡ false
+card_alone before after None t is some h = refl
+card_alone before after (Some (input.Type own)) t is some h = type_alone before after own h
+card_alone before after (Some (input.And codes)) t is some h = refl
+card_alone before after (Some (input.Field f)) None is some h = absurd cc
+card_alone before after (Some (input.Field f)) (Some own) is some h = absurd cc
 
 -- ---- card by card
 

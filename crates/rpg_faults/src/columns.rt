@@ -1,12 +1,14 @@
 //! F16: columns of records and of lines.
 
-ghost use Rattle.std.specs.Prelude.{◌≡◌, ◌≤◌, ◌∷◌, ◌++◌, List, Option, false, length};
-ghost use Rattle.std.specs.Bool.{OnFalse};
+ghost use Rattle.std.specs.Prelude.{◌≡◌, ◌≤◌, ◌∷◌, ◌++◌, Option, length};
+ghost use Rattle.std.specs.List.{list_any};
 ghost use Rattle.std.specs.Option.{option_map};
 ghost use Rattle.rpg_faults_limits.specs.Sheets.{AreSheets};
 ghost use Rattle.rpg_faults.specs.Places as rules;
 ghost use Rattle.rpg_faults.specs.State.{IsPlaces};
-ghost use Rattle.rpg_cards.specs.declared.spec_card.SpecCard.{SpecCard};
+ghost use Rattle.rpg_cards.specs.Groups.{followers, input_role};
+ghost use Rattle.rpg_faults.specs.Before.{DetectsInput};
+ghost use Rattle.rpg_faults.specs.Joined.{has_level};
 ghost use Rattle.rpg_sheet_specs.specs.declared.file.FileSpec.{FileSpec};
 
 use crate::state::Places;
@@ -34,9 +36,7 @@ pub fn misplaces(
 {
     if let Some(input) = card.input() {
         return outside_on_input(own_length(source, sheets.types.file, input), input)
-            || (may_join(input, after)
-                && (places.lengths.join_badly(card, after)
-                    || places.matches.join_badly(card, after)));
+            || join_badly(places, card, after);
     }
     match card.output_field() {
         None => false,
@@ -44,13 +44,20 @@ pub fn misplaces(
     }
 }
 
-/// Whether an I card may join fields badly. Most types have no control or match fields: nothing is joined.
-fn may_join(input: &InputSpec, after: &[SpecCard]) -> bool
-    ensures { OnFalse result ((before : List SpecCard) → rules.joins_badly before after.now input.now ≡ false) }
+/// Whether control or match fields don't agree. Most types have none.
+#[inline(never)]
+fn join_badly(places: &Places, card: &SpecCard, after: &[SpecCard]) -> bool
+    requires { length after.now ≤ 2000 }
+    ensures { DetectsInput IsPlaces rules.joins_badly card.now after.now places.now result }
 {
-    if let InputSpec::Field(_) = input {
-        return true;
-    }
+    (card.record_type().is_none() || has_level(after))
+        && (places.lengths.join_badly(card, after) || places.matches.join_badly(card, after))
+}
+
+/// Whether a field up to the next record type has a control or match level.
+fn has_level(after: &[SpecCard]) -> bool
+    ensures { result ≡ list_any has_level (followers input_role after.now) }
+{
     for card in after {
         match card.input() {
             Some(InputSpec::Type(_)) => return false,
@@ -84,12 +91,10 @@ pub(crate) fn own_length(
 fn length_of(file: Option<GroupFile>) -> Option<u16>
     ensures { result ≡ option_map (λ f. f.record_length) file }
 {
-    match file {
-        None => None,
-        Some(file) => Some(file.record_length),
-    }
+    Some(file?.record_length)
 }
 
+#[inline(never)]
 fn outside_on_input(length: Option<u16>, input: &InputSpec) -> bool
     ensures { (file : Option FileSpec) → length ≡ option_map (λ f. f.record_length) file → result ≡ rules.outside_on_input file input.now }
 {
@@ -126,7 +131,12 @@ pub(crate) fn outside_record(length: Option<u16>, field: &InputFieldSpec) -> boo
 fn outside_line(source: &IndexedCards, length: Option<u16>, field: &OutputField) -> bool
     ensures { (file : Option FileSpec) → length ≡ option_map (λ f. f.record_length) file → result ≡ rules.outside_line source.now file field.now }
 {
-    field.end == 0 || is_past(length, field.end) || is_wider(source, field)
+    field.end == 0
+        || is_past(length, field.end)
+        || match width(source, field) {
+            None => false,
+            Some(width) => width > field.end as usize,
+        }
 }
 
 /// Whether a column is after the length; not if the file is unknown.
@@ -136,15 +146,5 @@ fn is_past(length: Option<u16>, column: u16) -> bool
     match length {
         None => false,
         Some(length) => length < column,
-    }
-}
-
-/// Whether a field is wider than its end position allows.
-fn is_wider(source: &IndexedCards, field: &OutputField) -> bool
-    ensures { result ≡ rules.is_wider source.now field.now }
-{
-    match width(source, field) {
-        None => false,
-        Some(width) => width > field.end as usize,
     }
 }
