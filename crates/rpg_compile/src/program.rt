@@ -27,7 +27,11 @@ use rpg_sheet_specs::FileSpec;
 use std::alloc::{AllocError, Global};
 
 /// Compiles cards without faults. `allowance` limits the backward branches and calls of a cycle. Fails only if memory runs out.
-pub fn translate(alloc: Global, source: &IndexedCards, allowance: u16) -> Result<Program, AllocError>
+pub fn translate(
+    alloc: Global,
+    source: &IndexedCards,
+    allowance: u16,
+) -> Result<Program, AllocError>
     requires allowed { 0 < allowance }
     requires few { length source.now ≤ 2000 }
     requires faultless { Faultless source.now }
