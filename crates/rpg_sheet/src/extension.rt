@@ -6,7 +6,7 @@ ghost use Rattle.rpg_sheet.specs.Rest.{rest_of_extension};
 ghost use Rattle.rpg_sheet_specs.specs.Columns.{IsLeastColumn};
 ghost use Rattle.rpg_sheet_specs.specs.Tables as tables;
 
-use crate::card::{Card, has_only_blanks};
+use crate::card::Card;
 use rpg_sheet_specs::{ColumnFault, ExtensionSpec, TableSpec, Word, ranges};
 
 #[inline(never)]
@@ -62,7 +62,7 @@ impl Card {
 fn alternating(card: &Card) -> Result<Option<TableSpec>, ColumnFault>
     ensures { result ≡ tables.alternating.reading card.now }
 {
-    if has_only_blanks(card.columns(ranges::ALTERNATING_NAME)) {
+    if rpg_sheet_values::has_only_blanks(card.columns(ranges::ALTERNATING_NAME)) {
         card.blank(ranges::ALTERNATING)?;
         Ok(None)
     } else {

@@ -6,11 +6,12 @@ ghost use Rattle.rpg_sheet.specs.Rest.{rest_of_field};
 ghost use Rattle.rpg_sheet_specs.specs.Columns.{IsLeastColumn};
 ghost use Rattle.rpg_sheet_specs.specs.Tables as tables;
 
-use crate::card::{Card, has_only_blanks};
+use crate::card::Card;
 use crate::columns::{at, indicators};
 use rpg_sheet_specs::{
     ColumnFault, InputFieldSpec, InputSpec, RecordCode, RecordType, Three, Word, ranges,
 };
+use rpg_sheet_values::has_only_blanks;
 
 #[inline(never)]
 pub(crate) fn input_card(card: &Card) -> Result<InputSpec, ColumnFault>

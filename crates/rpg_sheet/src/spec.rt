@@ -6,10 +6,9 @@ ghost use Rattle.rpg_sheet.specs.Readable.{has_bad_column};
 ghost use Rattle.rpg_sheet_specs.specs.Columns.{IsLeastColumn};
 ghost use Rattle.rpg_sheet_specs.specs.Specs.{card_on};
 
-use crate::calculation::calculation_card;
+use crate::calculation::read_calculation;
 use crate::card::Card;
-use crate::input::input_card;
-use crate::output::output_card;
+use crate::output::read_output;
 use rpg_sheet_specs::{ColumnFault, FormType, Spec};
 
 impl Card {
@@ -25,18 +24,18 @@ impl Card {
         ensures fault { IfErr result (λ fault. (card_on sheet).reading self.now ≡ Err fault) }
     {
         match sheet {
-            FormType::Header => *spec = Some(Spec::Header(self.h()?)),
-            FormType::File => *spec = Some(Spec::File(self.f()?)),
-            FormType::Extension => *spec = Some(Spec::Extension(self.e()?)),
-            FormType::Input => *spec = Some(Spec::Input(input_card(self)?)),
-            FormType::Calculation => *spec = Some(Spec::Calculation(calculation_card(self)?)),
-            FormType::Output => *spec = Some(Spec::Output(output_card(self)?)),
+            FormType::Calculation => read_calculation(spec, self),
+            FormType::Output => read_output(spec, self),
+            _ => {
+                *spec = Some(self.read(sheet)?);
+                Ok(())
+            }
         }
-        Ok(())
     }
 
     /// Reads a card of this sheet, or returns the leftmost of its bad values.
     #[tactic(auto, unfolding(rpg_sheet_specs::specs::Columns::values, rpg_sheet_specs::specs::Columns::also))]
+    #[inline(never)]
     pub fn read(&self, sheet: FormType) -> Result<Spec, ColumnFault>
         ensures value { result ≡ (card_on sheet).reading self.now }
         ensures valid { OnOk result ((card_on sheet).bad self.now ≡ []) }
