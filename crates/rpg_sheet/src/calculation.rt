@@ -1,10 +1,10 @@
 //! The calculation sheet (C).
 #![tactic(auto, unfolding(rpg_sheet_specs::specs::Columns::values, rpg_sheet_specs::specs::Columns::at_with, rpg_sheet_specs::specs::Columns::also, rpg_sheet_specs::specs::Columns::past, rpg_sheet_specs::specs::Columns::blank, rpg_sheet_specs::specs::Tables::calculation_card))]
 
-ghost use Rattle.std.specs.Prelude.{◌≡◌, [], Some, OnOk, IfErr};
+ghost use Rattle.std.specs.Prelude.{◌≡◌, Some};
 ghost use Rattle.rpg_sheet.specs.Put.{put};
 ghost use Rattle.rpg_sheet.specs.Rest.{rest_of_calculation};
-ghost use Rattle.rpg_sheet_specs.specs.Columns.{IsLeastColumn, mapped};
+ghost use Rattle.rpg_sheet_specs.specs.Columns.{mapped};
 ghost use Rattle.rpg_sheet_specs.specs.Tables as tables;
 ghost use Rattle.rpg_sheet_specs.specs.declared.spec.Spec.TheVariants as specs;
 
@@ -57,21 +57,4 @@ fn calculation_with(
         resulting_indicators,
     }));
     Ok(())
-}
-
-impl Card {
-    /// Reads a C card, or returns the leftmost of its bad values.
-    pub fn c(&self) -> Result<CalculationSpec, ColumnFault>
-        ensures value { result ≡ tables.calculation_card.reading self.now }
-        ensures valid { OnOk result (tables.calculation_card.bad self.now ≡ []) }
-        ensures least { IfErr result (λ fault. IsLeastColumn (tables.calculation_card.bad self.now) fault.column) }
-    {
-        let mut spec = None;
-        read_calculation(&mut spec, self)?;
-        let Some(spec) = spec else { unreachable!() };
-        let Spec::Calculation(calculation) = spec else {
-            unreachable!()
-        };
-        Ok(calculation)
-    }
 }

@@ -1,9 +1,9 @@
 //! The file description sheet (F).
 #![tactic(auto, unfolding(rpg_sheet_specs::specs::Columns::values, rpg_sheet_specs::specs::Columns::at_with, rpg_sheet_specs::specs::Columns::also, rpg_sheet_specs::specs::Columns::past, rpg_sheet_specs::specs::Columns::blank, rpg_sheet_specs::specs::Columns::where_card, rpg_sheet_specs::specs::Values::blank_or, rpg_sheet_specs::specs::Tables::file, rpg_sheet_specs::specs::Tables::file_overflow, rpg_sheet_specs::specs::Tables::overflow, rpg_sheet_specs::specs::Tables::role))]
 
-ghost use Rattle.std.specs.Prelude.{◌≡◌, [], OnOk, IfErr};
+ghost use Rattle.std.specs.Prelude.{◌≡◌};
 ghost use Rattle.rpg_sheet.specs.Rest.{rest_of_file};
-ghost use Rattle.rpg_sheet_specs.specs.Columns.{IsLeastColumn, cols};
+ghost use Rattle.rpg_sheet_specs.specs.Columns.{cols};
 ghost use Rattle.rpg_sheet_specs.specs.Tables as tables;
 
 use crate::card::Card;
@@ -70,17 +70,6 @@ fn overflow(card: &Card) -> Result<Option<Within<112, 119>>, ColumnFault>
     } else {
         at(ranges::OVERFLOW, rpg_sheet_values::unused(text))?;
         Ok(None)
-    }
-}
-
-impl Card {
-    /// Reads an F card, or returns the leftmost of its bad values.
-    pub fn f(&self) -> Result<FileSpec, ColumnFault>
-        ensures value { result ≡ tables.file.reading self.now }
-        ensures valid { OnOk result (tables.file.bad self.now ≡ []) }
-        ensures least { IfErr result (λ fault. IsLeastColumn (tables.file.bad self.now) fault.column) }
-    {
-        file(self)
     }
 }
 

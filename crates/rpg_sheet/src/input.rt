@@ -1,9 +1,8 @@
 //! The input sheet (I).
 #![tactic(auto, unfolding(rpg_sheet_specs::specs::Columns::values, rpg_sheet_specs::specs::Columns::at_with, rpg_sheet_specs::specs::Columns::also, rpg_sheet_specs::specs::Columns::past, rpg_sheet_specs::specs::Columns::blank, rpg_sheet_specs::specs::Columns::where_card, rpg_sheet_specs::specs::Tables::input_card, rpg_sheet_specs::specs::Tables::type_or_field_card, rpg_sheet_specs::specs::Tables::type_card, rpg_sheet_specs::specs::Tables::type_and_card, rpg_sheet_specs::specs::Tables::and_codes, rpg_sheet_specs::specs::Tables::record_codes, rpg_sheet_specs::specs::Tables::field_card))]
 
-ghost use Rattle.std.specs.Prelude.{◌≡◌, [], OnOk, IfErr};
+ghost use Rattle.std.specs.Prelude.{◌≡◌};
 ghost use Rattle.rpg_sheet.specs.Rest.{rest_of_field};
-ghost use Rattle.rpg_sheet_specs.specs.Columns.{IsLeastColumn};
 ghost use Rattle.rpg_sheet_specs.specs.Tables as tables;
 
 use crate::card::Card;
@@ -13,7 +12,7 @@ use rpg_sheet_specs::{
 };
 use rpg_sheet_values::has_only_blanks;
 
-#[inline(never)]
+#[inline(always)]
 pub(crate) fn input_card(card: &Card) -> Result<InputSpec, ColumnFault>
     ensures { result ≡ tables.input_card.reading card.now }
 {
@@ -24,17 +23,6 @@ pub(crate) fn input_card(card: &Card) -> Result<InputSpec, ColumnFault>
         return Ok(InputSpec::Field(field_card(card)?));
     }
     Ok(InputSpec::Type(type_card(card)?))
-}
-
-impl Card {
-    /// Reads an I card, or returns the leftmost of its bad values.
-    pub fn i(&self) -> Result<InputSpec, ColumnFault>
-        ensures value { result ≡ tables.input_card.reading self.now }
-        ensures valid { OnOk result (tables.input_card.bad self.now ≡ []) }
-        ensures least { IfErr result (λ fault. IsLeastColumn (tables.input_card.bad self.now) fault.column) }
-    {
-        input_card(self)
-    }
 }
 
 /// Whether it has AND in columns 14 to 16, and nothing before.

@@ -1,9 +1,9 @@
 //! The output sheet (O).
 #![tactic(auto, unfolding(rpg_sheet_specs::specs::Columns::values, rpg_sheet_specs::specs::Columns::at_with, rpg_sheet_specs::specs::Columns::also, rpg_sheet_specs::specs::Columns::past, rpg_sheet_specs::specs::Columns::blank, rpg_sheet_specs::specs::Columns::where_card, rpg_sheet_specs::specs::Values::blank_or, rpg_sheet_specs::specs::Tables::output_card, rpg_sheet_specs::specs::Tables::line_or_card, rpg_sheet_specs::specs::Tables::line_or_field_card, rpg_sheet_specs::specs::Tables::record_card, rpg_sheet_specs::specs::Tables::movement, rpg_sheet_specs::specs::Tables::line_conditions, rpg_sheet_specs::specs::Tables::output_field_card))]
 
-ghost use Rattle.std.specs.Prelude.{◌≡◌, [], Some, OnOk, IfErr};
+ghost use Rattle.std.specs.Prelude.{◌≡◌, Some};
 ghost use Rattle.rpg_sheet.specs.Put.{put};
-ghost use Rattle.rpg_sheet_specs.specs.Columns.{IsLeastColumn, mapped};
+ghost use Rattle.rpg_sheet_specs.specs.Columns.{mapped};
 ghost use Rattle.rpg_sheet_specs.specs.Tables as tables;
 ghost use Rattle.rpg_sheet_specs.specs.declared.output.OutputSpec.TheVariants as outputs;
 ghost use Rattle.rpg_sheet_specs.specs.declared.spec.Spec.TheVariants as specs;
@@ -15,7 +15,6 @@ use rpg_sheet_specs::{
     ColumnFault, ConditionSpec, Movement, OutputField, OutputRecord, OutputSpec, Spec, Three,
     ranges,
 };
-use rpg_sheet_values::has_only_blanks;
 
 /// Reads an O card to `spec`, or returns the leftmost of its bad values.
 #[inline(never)]
@@ -35,28 +34,11 @@ pub(crate) fn read_output(spec: &mut Option<Spec>, card: &Card) -> Result<(), Co
     Ok(())
 }
 
-impl Card {
-    /// Reads an O card, or returns the leftmost of its bad values.
-    pub fn o(&self) -> Result<OutputSpec, ColumnFault>
-        ensures value { result ≡ tables.output_card.reading self.now }
-        ensures valid { OnOk result (tables.output_card.bad self.now ≡ []) }
-        ensures least { IfErr result (λ fault. IsLeastColumn (tables.output_card.bad self.now) fault.column) }
-    {
-        let mut spec = None;
-        read_output(&mut spec, self)?;
-        let Some(spec) = spec else { unreachable!() };
-        let Spec::Output(output) = spec else {
-            unreachable!()
-        };
-        Ok(output)
-    }
-}
-
 /// Whether it has OR in columns 14 and 15, and nothing before.
 fn is_or_card(card: &Card) -> bool
     ensures { result ≡ tables.is_or_card card.now }
 {
-    has_only_blanks(card.columns(ranges::BEFORE_WORD))
+    rpg_sheet_values::has_only_blanks(card.columns(ranges::BEFORE_WORD))
         && card.columns(ranges::OR_WORD) == b"OR".as_slice()
 }
 
