@@ -26,7 +26,6 @@ pub(crate) fn read_calculation(spec: &mut Option<Spec>, card: &Card) -> Result<(
 }
 
 /// Reads the rest of a calculation with these conditions.
-#[inline(always)]
 fn calculation_with(
     spec: &mut Option<Spec>,
     card: &Card,

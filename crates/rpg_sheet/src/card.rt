@@ -9,7 +9,6 @@ ghost use Rattle.rpg_text.specs.Texts.{is_character};
 
 use crate::columns::Read;
 use rpg_sheet_specs::{CardColumns, ColumnFault};
-use rpg_sheet_values::{first_filled, has_only_blanks};
 use std::marker::Model;
 
 /// A card: 80 columns of one character each.
@@ -82,10 +81,10 @@ impl Card {
         ensures { result ≡ fault_if_some columns.entry.first (position is_filled (cols_from columns.entry.first WIDTH self.now)) }
     {
         let text = self.columns(columns);
-        if has_only_blanks(text) {
+        if rpg_sheet_values::has_only_blanks(text) {
             return Ok(());
         }
-        let Some(i) = first_filled(text) else {
+        let Some(i) = rpg_sheet_values::first_filled(text) else {
             return Ok(());
         };
         let column = columns.first + i as u8;

@@ -1,4 +1,4 @@
-//! Reads the values of column ranges, each with one call. An error names the range's first column.
+//! Reads the values of column ranges, each with one call. An error names the range's first column. An optional value is None for blanks.
 #![tactic(auto, unfolding(rpg_sheet_specs::specs::Columns::values, rpg_sheet_specs::specs::Columns::at_with, rpg_sheet_specs::specs::Columns::also, rpg_sheet_specs::specs::Values::blank_or, rpg_sheet_specs::specs::Tables::conditions, rpg_sheet_specs::specs::Tables::three_indicators))]
 
 ghost use Rattle.std.specs.Prelude.{◌≡◌, ◌≤◌, None, Some, Ok, Err, ok_or, option_map, if◌then◌else◌};
@@ -38,7 +38,6 @@ pub(crate) fn optional<T: Drop, const WIDTH: usize>(
     at(columns, rpg_sheet_values::blank_or(text, value))
 }
 
-/// An optional value is None for blanks.
 impl Card {
     /// Reads a name of at most `N` characters.
     pub(crate) fn name<const N: usize>(&self, columns: CardColumns<N>) -> Read<Word<N>>

@@ -10,7 +10,6 @@ use crate::columns::{at, indicators};
 use rpg_sheet_specs::{
     ColumnFault, InputFieldSpec, InputSpec, RecordCode, RecordType, Three, Word, ranges,
 };
-use rpg_sheet_values::has_only_blanks;
 
 #[inline(always)]
 pub(crate) fn input_card(card: &Card) -> Result<InputSpec, ColumnFault>
@@ -29,14 +28,14 @@ pub(crate) fn input_card(card: &Card) -> Result<InputSpec, ColumnFault>
 pub(crate) fn is_and_card(card: &Card) -> bool
     ensures { result ≡ tables.is_and_card card.now }
 {
-    has_only_blanks(card.columns(ranges::BEFORE_WORD))
+    rpg_sheet_values::has_only_blanks(card.columns(ranges::BEFORE_WORD))
         && card.columns(ranges::AND_WORD) == b"AND".as_slice()
 }
 
 pub(crate) fn is_field_card(card: &Card) -> bool
     ensures { result ≡ tables.is_field_card card.now }
 {
-    has_only_blanks(card.columns(ranges::TYPE_OR_LINE))
+    rpg_sheet_values::has_only_blanks(card.columns(ranges::TYPE_OR_LINE))
 }
 
 #[inline(never)]
@@ -72,7 +71,7 @@ fn type_and_card(card: &Card) -> Result<Three<Option<RecordCode>>, ColumnFault>
 fn further_codes(card: &Card) -> Result<Three<Option<RecordCode>>, ColumnFault>
     ensures { result ≡ tables.and_codes.reading card.now }
 {
-    if has_only_blanks(card.columns(ranges::CODES)) {
+    if rpg_sheet_values::has_only_blanks(card.columns(ranges::CODES)) {
         at(ranges::CODES, None)
     } else {
         record_codes(card)

@@ -122,7 +122,12 @@ impl Card {
 fn read_description(spec: &mut Option<Spec>, card: &Card, sheet: FormType) -> Read<()>
     ensures { put spec.new result ≡ mapped (λ s. Some s) ((card_on sheet).reading card.now) }
 {
-    *spec = Some(card.read(sheet)?);
+    match sheet {
+        FormType::Header => *spec = Some(Spec::Header(crate::header::header(card)?)),
+        FormType::File => *spec = Some(Spec::File(crate::file::file(card)?)),
+        FormType::Extension => *spec = Some(Spec::Extension(crate::extension::extension(card)?)),
+        _ => *spec = Some(card.read(sheet)?),
+    }
     Ok(())
 }
 
