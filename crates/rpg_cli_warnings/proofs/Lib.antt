@@ -1,3 +1,4 @@
+pub mod Allowed
 pub mod Marking
 pub mod Unnamed
 pub mod UpTo

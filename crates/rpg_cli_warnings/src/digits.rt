@@ -8,7 +8,7 @@ use crate::warning::{Warning, WarningKind};
 use rpg_card_index::IndexedCards;
 use rpg_cards::{Defined, SpecCard};
 use rpg_program::form::{FieldForm, Kind};
-use rpg_sheet_specs::{CalculationSpec, ColumnFault, Entry, Factor, Operation};
+use rpg_sheet_specs::{CalculationSpec, ColumnFault, Entry, Factor, Literal, Operation};
 use std::alloc::AllocError;
 
 /// The columns of a result field.
@@ -42,7 +42,11 @@ fn factor_digits(source: &IndexedCards, factor: &Option<Factor>) -> Option<u16>
 {
     match factor {
         None => None,
-        Some(factor) => digits_of(source.form_of_factor(factor)),
+        Some(Factor::Entry(entry)) => digits_of(source.form_of_name(&entry.name)),
+        Some(Factor::Literal(Literal::Number(number))) => {
+            Some(u16::from(number.length().saturating_sub(number.decimals())))
+        }
+        Some(Factor::Literal(Literal::Text(_))) => None,
     }
 }
 

@@ -81,6 +81,31 @@ fn write_count(out: &mut TextWriter, path: &str, count: usize, most: u16) {
     out.write_char('\n');
 }
 
+/// Returns how many bytes of a block are line feeds.
+#[inline(always)]
+fn line_feeds(block: &[u8; 64]) -> u8 {
+    let mut count = 0u8;
+    for byte in block {
+        count = count.wrapping_add(u8::from(*byte == b'\n'));
+    }
+    count
+}
+
+/// Skips blocks of a text that end more than a line before this card's. Returns how many line feeds they have, and what follows them.
+fn after_lines(text: &[u8], card: u16) -> (u16, &[u8]) {
+    let mut skipped = 0u16;
+    let mut rest = text;
+    while let Some((block, more)) = rest.split_first_chunk::<64>() {
+        let count = u16::from(line_feeds(block));
+        if card.saturating_sub(skipped) <= count.saturating_add(1) {
+            return (skipped, rest);
+        }
+        skipped += count;
+        rest = more;
+    }
+    (skipped, rest)
+}
+
 /// Returns the diagnostics for these warnings of the source `path`: at most `most` of them, each written like a fault, and how many there
 /// are. Empty if there are none.
 pub fn warning_messages(
@@ -91,9 +116,13 @@ pub fn warning_messages(
     most: u16,
 ) -> Result<String, AllocError> {
     let mut out = TextWriter::new(alloc);
-    let mut lines = CardLines::of(source);
+    let (skipped, rest) = match warnings.first() {
+        Some(warning) => after_lines(source, warning.card),
+        None => (0, source),
+    };
+    let mut lines = CardLines::of(rest);
     for warning in warnings.iter().take(usize::from(most)) {
-        let line = lines.line_of(warning.card);
+        let line = lines.line_of(warning.card.saturating_sub(skipped));
         write_warning(&mut out, path, line, *warning);
     }
     if !warnings.is_empty() {

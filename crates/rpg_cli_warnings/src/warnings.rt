@@ -1,7 +1,10 @@
 //! All warnings of a source.
 
-ghost use Rattle.std.specs.Prelude.{◌≡◌, IfOk, filter};
+ghost use Rattle.std.specs.Prelude.{◌≡◌, false, IfOk, filter};
+ghost use Rattle.std.specs.Bool.{OnFalse};
 ghost use Rattle.std.specs.List.Sorted.{IsPermutation};
+ghost use Rattle.rpg_cli_values.specs.Codes.{has};
+ghost use Rattle.rpg_cli_values.specs.declared.code.WarningCode.{WarningCode};
 ghost use Rattle.rpg_cli_warnings.specs.Warnings as warned;
 
 use crate::digits::put_shorter;
@@ -47,6 +50,19 @@ fn is_wanted(warning: &Warning, allowed: WarningCodes) -> bool
     !allowed.has(code_of(warning))
 }
 
+/// Whether a set has a code.
+fn has_some(codes: WarningCodes) -> bool
+    ensures { OnFalse result ((code : WarningCode) → has codes code ≡ false) }
+{
+    codes.has(WarningCode::W1)
+        || codes.has(WarningCode::W2)
+        || codes.has(WarningCode::W3)
+        || codes.has(WarningCode::W4)
+        || codes.has(WarningCode::W5)
+        || codes.has(WarningCode::W6)
+        || codes.has(WarningCode::W7)
+}
+
 /// The warnings whose codes aren't allowed.
 fn without(
     alloc: Global,
@@ -64,6 +80,21 @@ fn without(
     Ok(wanted)
 }
 
+/// The warnings whose codes aren't allowed. Mostly none is, and then they aren't copied.
+#[tactic(auto, using(crate::proofs::Allowed::none_allowed))]
+fn wanted_of(
+    alloc: Global,
+    warnings: Vec<Warning>,
+    allowed: WarningCodes,
+) -> Result<Vec<Warning>, AllocError>
+    ensures { IfOk result (λ wanted. wanted.items ≡ filter (warned.is_wanted allowed) warnings.items) }
+{
+    if !has_some(allowed) {
+        return Ok(warnings);
+    }
+    without(alloc, &warnings, allowed)
+}
+
 /// Returns the warnings of a source without faults, in the order of its cards, except those whose codes are allowed.
 pub fn wanted_warnings(
     alloc: Global,
@@ -73,7 +104,7 @@ pub fn wanted_warnings(
     ensures { IfOk result (λ warnings. IsPermutation (warned.wanted_of allowed source.now) warnings.items) }
 {
     let warnings = source_warnings(alloc, source)?;
-    let mut wanted = without(alloc, &warnings, allowed)?;
+    let mut wanted = wanted_of(alloc, warnings, allowed)?;
     wanted.sort_by_key(|warning| warning.card)?;
     Ok(wanted)
 }

@@ -2,5 +2,6 @@ mod Blanks
 mod CardLaws
 mod Laws
 mod Padding
+mod Puts
 mod SheetLemmas
 pub mod UnreadableLemmas

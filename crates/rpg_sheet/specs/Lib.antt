@@ -1,4 +1,5 @@
 pub mod Codes
+pub mod Put
 pub mod Ranges
 pub mod Readable
 pub mod Rest

@@ -5,7 +5,7 @@ ghost use Rattle.std.specs.List.{list_all};
 ghost use Rattle.rpg_sheet.specs.Ranges.{cols_from};
 ghost use Rattle.rpg_sheet_specs.specs.Cards.{card_of};
 ghost use Rattle.rpg_sheet_specs.specs.Columns.{is_filled, fault_if_some};
-ghost use Rattle.rpg_text.specs.Texts.{all_blank, is_character};
+ghost use Rattle.rpg_text.specs.Texts.{is_character};
 
 use crate::columns::Read;
 use rpg_sheet_specs::{CardColumns, ColumnFault};
@@ -81,34 +81,16 @@ impl Card {
         ensures { result ≡ fault_if_some columns.entry.first (position is_filled (cols_from columns.entry.first WIDTH self.now)) }
     {
         let text = self.columns(columns);
-        if has_only_blanks(text) {
+        if rpg_sheet_values::has_only_blanks(text) {
             return Ok(());
         }
-        let Some(i) = first_filled(text) else {
+        let Some(i) = rpg_sheet_values::first_filled(text) else {
             return Ok(());
         };
         let column = columns.first + i as u8;
         let last = column;
         Err(ColumnFault { column, last })
     }
-}
-
-fn first_filled(text: &[u8]) -> Option<usize>
-    ensures { result ≡ position is_filled text.now }
-{
-    text.iter().position(|c| *c != b' ')
-}
-
-/// Whether a text has only blanks. No character ends the loop early, so that many are tested at a time.
-#[inline(always)]
-pub(crate) fn has_only_blanks(text: &[u8]) -> bool
-    ensures { result ≡ all_blank text.now }
-{
-    let mut are_all = true;
-    for character in text {
-        are_all = (*character == b' ') & are_all;
-    }
-    are_all
 }
 
 /// Returns the columns of a line's card, without what a longer line has after them.

@@ -1,18 +1,20 @@
-//! Reads the values of column ranges, each with one call. An error names the range's first column.
+//! Reads the values of column ranges, each with one call. An error names the range's first column. An optional value is None for blanks.
 #![tactic(auto, unfolding(rpg_sheet_specs::specs::Columns::values, rpg_sheet_specs::specs::Columns::at_with, rpg_sheet_specs::specs::Columns::also, rpg_sheet_specs::specs::Values::blank_or, rpg_sheet_specs::specs::Tables::conditions, rpg_sheet_specs::specs::Tables::three_indicators))]
 
-ghost use Rattle.std.specs.Prelude.{◌≡◌, ◌≤◌, None, Some, ok_or, option_map, if◌then◌else◌};
+ghost use Rattle.std.specs.Prelude.{◌≡◌, ◌≤◌, None, Some, Ok, Err, ok_or, option_map, if◌then◌else◌};
+ghost use Rattle.rpg_sheet.specs.Put.{put};
 ghost use Rattle.rpg_sheet.specs.Ranges.{conditions_from, indicators_from, line_from};
 ghost use Rattle.rpg_sheet_specs.specs.Columns.{column_fault_from};
 ghost use Rattle.rpg_sheet_specs.specs.Tables as tables;
 ghost use Rattle.rpg_sheet_specs.specs.Values as values;
 ghost use Rattle.rpg_text.specs.Texts.{all_blank};
 
-use crate::card::{Card, has_only_blanks};
+use crate::card::Card;
 use rpg_sheet_specs::{
     CardColumns, ColumnFault, ConditionSpec, Entry, Factor, Indicator, Operation, RecordCode,
     TextLiteral, Three, Within, Word,
 };
+use rpg_sheet_values::has_only_blanks;
 
 /// The value of columns, or the fault that it is bad.
 pub(crate) type Read<T> = Result<T, ColumnFault>;
@@ -44,7 +46,6 @@ impl Card {
         at(columns, rpg_sheet_values::name(self.columns(columns)))
     }
 
-    /// Reads blanks as None, else a name.
     pub(crate) fn optional_name(&self, columns: CardColumns<8>) -> Read<Option<Word<8>>>
         ensures { result ≡ (line_from columns.first 8 (values.blank_or (values.name 8))).reading self.now }
     {
@@ -55,16 +56,18 @@ impl Card {
         Ok(Some(at(columns, rpg_sheet_values::name(text))?))
     }
 
-    /// Reads blanks as None, else a factor.
+    /// Reads a factor `to` a place, or leaves it None for blanks. A factor takes 56 bytes, so moving it is costly.
     #[inline(always)]
-    pub(crate) fn optional_factor(&self, columns: CardColumns<10>) -> Read<Option<Factor>>
-        ensures { result ≡ (line_from columns.first 10 (values.blank_or values.factor)).reading self.now }
+    pub(crate) fn read_factor(&self, to: &mut Option<Factor>, columns: CardColumns<10>) -> Read<()>
+        requires { to.old ≡ None }
+        ensures { put to.new result ≡ (line_from columns.first 10 (values.blank_or values.factor)).reading self.now }
     {
         let text = self.columns(columns);
         if has_only_blanks(text) {
-            return Ok(None);
+            return Ok(());
         }
-        Ok(Some(at(columns, rpg_sheet_values::factor_of(text))?))
+        *to = rpg_sheet_values::factor_of(text);
+        unless(to.is_some(), columns)
     }
 
     /// Reads right-aligned digits after blanks.
@@ -75,7 +78,6 @@ impl Card {
         at(columns, rpg_sheet_values::number(self.columns(columns)))
     }
 
-    /// Reads blanks as None, else a number.
     pub(crate) fn optional_number(&self, columns: CardColumns<3>) -> Read<Option<u16>>
         ensures { result ≡ (line_from columns.first 3 (values.blank_or values.number)).reading self.now }
     {
@@ -83,7 +85,6 @@ impl Card {
         optional(columns, text, rpg_sheet_values::number(text))
     }
 
-    /// Reads blanks as None, else a digit.
     pub(crate) fn optional_digit(&self, columns: CardColumns<1>) -> Read<Option<u8>>
         ensures { result ≡ (line_from columns.first 1 (values.blank_or values.digits)).reading self.now }
     {
@@ -99,7 +100,6 @@ impl Card {
         at(columns, value)
     }
 
-    /// Reads blanks as None, else an indicator.
     pub(crate) fn optional_indicator(&self, columns: CardColumns<2>) -> Read<Option<Indicator>>
         ensures { result ≡ (line_from columns.first 2 (values.blank_or values.indicator)).reading self.now }
     {
@@ -107,7 +107,6 @@ impl Card {
         optional(columns, text, rpg_sheet_values::indicator(text))
     }
 
-    /// Reads blanks as None, else a condition.
     pub(crate) fn optional_condition(&self, columns: CardColumns<3>) -> Read<Option<ConditionSpec>>
         ensures { result ≡ (line_from columns.first 3 (values.blank_or values.condition)).reading self.now }
     {
@@ -115,7 +114,6 @@ impl Card {
         optional(columns, text, rpg_sheet_values::condition(text))
     }
 
-    /// Reads blanks as None, else an operation.
     pub(crate) fn optional_operation(&self, columns: CardColumns<5>) -> Read<Option<Operation>>
         ensures { result ≡ (line_from columns.first 5 (values.blank_or tables.operation)).reading self.now }
     {
@@ -123,18 +121,20 @@ impl Card {
         optional(columns, text, rpg_sheet_values::operation(text))
     }
 
-    /// Reads blanks as None, else an entry.
-    pub(crate) fn optional_entry(&self, columns: CardColumns<6>) -> Read<Option<Entry>>
-        ensures { result ≡ (line_from columns.first 6 (values.blank_or values.entry)).reading self.now }
+    /// Reads an entry to `entry`, or leaves it None for blanks.
+    #[inline(always)]
+    pub(crate) fn read_entry(&self, entry: &mut Option<Entry>, columns: CardColumns<6>) -> Read<()>
+        requires { entry.old ≡ None }
+        ensures { put entry.new result ≡ (line_from columns.first 6 (values.blank_or values.entry)).reading self.now }
     {
         let text = self.columns(columns);
         if has_only_blanks(text) {
-            return Ok(None);
+            return Ok(());
         }
-        Ok(Some(at(columns, rpg_sheet_values::entry(text))?))
+        *entry = rpg_sheet_values::entry(text);
+        unless(entry.is_some(), columns)
     }
 
-    /// Reads blanks as None, else a level after its letter.
     pub(crate) fn optional_level(
         &self,
         letter: u8,
@@ -146,7 +146,6 @@ impl Card {
         optional(columns, text, rpg_sheet_values::level(letter, text))
     }
 
-    /// Reads blanks as None, else a record code.
     pub(crate) fn optional_record_code(&self, columns: CardColumns<7>) -> Read<Option<RecordCode>>
         ensures { result ≡ (line_from columns.first 7 (values.blank_or values.record_code)).reading self.now }
     {
@@ -154,7 +153,6 @@ impl Card {
         optional(columns, text, rpg_sheet_values::record_code(text))
     }
 
-    /// Reads blanks as None, else how many lines the form spaces.
     pub(crate) fn optional_space(&self, columns: CardColumns<1>) -> Read<Option<Within<0, 3>>>
         ensures { result ≡ (line_from columns.first 1 (values.blank_or tables.space)).reading self.now }
     {
@@ -162,7 +160,6 @@ impl Card {
         optional(columns, text, rpg_sheet_values::space(text))
     }
 
-    /// Reads blanks as None, else the line that the form skips to.
     pub(crate) fn optional_skip(&self, columns: CardColumns<2>) -> Read<Option<Within<1, 66>>>
         ensures { result ≡ (line_from columns.first 2 (values.blank_or tables.skip)).reading self.now }
     {
@@ -170,16 +167,30 @@ impl Card {
         optional(columns, text, rpg_sheet_values::skip(text))
     }
 
-    /// Reads blanks as None, else a text.
-    pub(crate) fn optional_text(&self, columns: CardColumns<26>) -> Read<Option<TextLiteral<24>>>
-        ensures { result ≡ (line_from columns.first 26 (values.blank_or values.quoted)).reading self.now }
+    /// Reads a text to `word`, or leaves it None for blanks.
+    #[inline(always)]
+    pub(crate) fn read_text(
+        &self,
+        word: &mut Option<TextLiteral<24>>,
+        columns: CardColumns<26>,
+    ) -> Read<()>
+        requires { word.old ≡ None }
+        ensures { put word.new result ≡ (line_from columns.first 26 (values.blank_or values.quoted)).reading self.now }
     {
         let text = self.columns(columns);
-        if has_only_blanks(text) {
-            return Ok(None);
+        if text[0] == b' ' && has_only_blanks(text) {
+            return Ok(());
         }
-        Ok(Some(at(columns, rpg_sheet_values::quoted(text))?))
+        *word = rpg_sheet_values::quoted(text);
+        unless(word.is_some(), columns)
     }
+}
+
+/// Returns the fault of columns whose value isn't found.
+fn unless<const WIDTH: usize>(found: bool, columns: CardColumns<WIDTH>) -> Read<()>
+    ensures { result ≡ (if found then Ok tt else Err (column_fault_from columns.entry.first WIDTH)) }
+{
+    if found { Ok(()) } else { Err(columns.fault()) }
 }
 
 /// Reads three conditions.
@@ -202,6 +213,7 @@ pub(crate) fn conditions(card: &Card, columns: CardColumns<9>) -> Read<Three<Opt
 }
 
 /// Reads three indicators.
+#[inline(always)]
 pub(crate) fn indicators(card: &Card, columns: CardColumns<6>) -> Read<Three<Option<Indicator>>>
     ensures { result ≡ (indicators_from columns.first).reading card.now }
 {

@@ -1,12 +1,11 @@
 //! The extension sheet (E).
 #![tactic(auto, unfolding(rpg_sheet_specs::specs::Columns::values, rpg_sheet_specs::specs::Columns::at_with, rpg_sheet_specs::specs::Columns::also, rpg_sheet_specs::specs::Columns::past, rpg_sheet_specs::specs::Columns::blank, rpg_sheet_specs::specs::Columns::where_card, rpg_sheet_specs::specs::Tables::extension, rpg_sheet_specs::specs::Tables::alternating, rpg_sheet_specs::specs::Tables::alternating_table))]
 
-ghost use Rattle.std.specs.Prelude.{◌≡◌, [], OnOk, IfErr};
+ghost use Rattle.std.specs.Prelude.{◌≡◌};
 ghost use Rattle.rpg_sheet.specs.Rest.{rest_of_extension};
-ghost use Rattle.rpg_sheet_specs.specs.Columns.{IsLeastColumn};
 ghost use Rattle.rpg_sheet_specs.specs.Tables as tables;
 
-use crate::card::{Card, has_only_blanks};
+use crate::card::Card;
 use rpg_sheet_specs::{ColumnFault, ExtensionSpec, TableSpec, Word, ranges};
 
 #[inline(never)]
@@ -48,21 +47,10 @@ fn extension_with(
     })
 }
 
-impl Card {
-    /// Reads an E card, or returns the leftmost of its bad values.
-    pub fn e(&self) -> Result<ExtensionSpec, ColumnFault>
-        ensures value { result ≡ tables.extension.reading self.now }
-        ensures valid { OnOk result (tables.extension.bad self.now ≡ []) }
-        ensures least { IfErr result (λ fault. IsLeastColumn (tables.extension.bad self.now) fault.column) }
-    {
-        extension(self)
-    }
-}
-
 fn alternating(card: &Card) -> Result<Option<TableSpec>, ColumnFault>
     ensures { result ≡ tables.alternating.reading card.now }
 {
-    if has_only_blanks(card.columns(ranges::ALTERNATING_NAME)) {
+    if rpg_sheet_values::has_only_blanks(card.columns(ranges::ALTERNATING_NAME)) {
         card.blank(ranges::ALTERNATING)?;
         Ok(None)
     } else {

@@ -1,12 +1,10 @@
 //! The file description sheet (F).
 #![tactic(auto, unfolding(rpg_sheet_specs::specs::Columns::values, rpg_sheet_specs::specs::Columns::at_with, rpg_sheet_specs::specs::Columns::also, rpg_sheet_specs::specs::Columns::past, rpg_sheet_specs::specs::Columns::blank, rpg_sheet_specs::specs::Columns::where_card, rpg_sheet_specs::specs::Values::blank_or, rpg_sheet_specs::specs::Tables::file, rpg_sheet_specs::specs::Tables::file_overflow, rpg_sheet_specs::specs::Tables::overflow, rpg_sheet_specs::specs::Tables::role))]
 
-ghost use Rattle.std.specs.Prelude.{◌≡◌, [], ◌∷◌, codes, if◌then◌else◌, OnOk, IfErr};
+ghost use Rattle.std.specs.Prelude.{◌≡◌};
 ghost use Rattle.rpg_sheet.specs.Rest.{rest_of_file};
-ghost use Rattle.rpg_sheet_specs.specs.Columns.{IsLeastColumn, cols};
+ghost use Rattle.rpg_sheet_specs.specs.Columns.{cols};
 ghost use Rattle.rpg_sheet_specs.specs.Tables as tables;
-ghost use Rattle.rpg_sheet_specs.specs.Values as values;
-ghost use Rattle.rpg_sheet_specs.specs.declared.file.FileRole.TheVariants as roles;
 
 use crate::card::Card;
 use crate::columns::{at, optional};
@@ -75,33 +73,10 @@ fn overflow(card: &Card) -> Result<Option<Within<112, 119>>, ColumnFault>
     }
 }
 
-impl Card {
-    /// Reads an F card, or returns the leftmost of its bad values.
-    pub fn f(&self) -> Result<FileSpec, ColumnFault>
-        ensures value { result ≡ tables.file.reading self.now }
-        ensures valid { OnOk result (tables.file.bad self.now ≡ []) }
-        ensures least { IfErr result (λ fault. IsLeastColumn (tables.file.bad self.now) fault.column) }
-    {
-        file(self)
-    }
-}
-
 /// Reads P or S after I, blank after O.
 fn role(card: &Card) -> Option<FileRole>
     ensures { result ≡ tables.role card.now (cols 16 16 card.now) }
 {
     let is_read = card.columns(ranges::FILE_TYPE) == b"I".as_slice();
-    role_by(is_read, card.columns(ranges::FILE_ROLE))
-}
-
-/// Returns the role with these letters, of an input or an output file.
-fn role_by(is_read: bool, text: &[u8]) -> Option<FileRole>
-    ensures { result ≡ values.one_of (if is_read then (codes "P", roles.Primary) ∷ (codes "S", roles.Secondary) ∷ [] else (codes " ", roles.Output) ∷ []) text.now }
-{
-    match (is_read, text) {
-        (true, b"P") => Some(FileRole::Primary),
-        (true, b"S") => Some(FileRole::Secondary),
-        (false, b" ") => Some(FileRole::Output),
-        _ => None,
-    }
+    rpg_sheet_values::role(is_read, card.columns(ranges::FILE_ROLE))
 }

@@ -4,7 +4,7 @@ ghost use Rattle.std.specs.Prelude.{◌≡◌};
 ghost use Rattle.rpg_sheet_specs.specs.Cards as cards;
 ghost use Rattle.rpg_text.specs.Texts.{all_blank};
 
-use crate::card::{Card, has_only_blanks};
+use crate::card::Card;
 use rpg_sheet_specs::FormType;
 
 pub(crate) fn ends_source(card: &[u8; 80]) -> bool
@@ -35,7 +35,7 @@ fn is_empty(card: &[u8; 80]) -> bool
     if card[5] != b' ' {
         return false;
     }
-    has_only_blanks(card)
+    rpg_sheet_values::has_only_blanks(card)
 }
 
 fn is_sheet(card: &[u8; 80], data_begun: bool) -> bool

@@ -1,7 +1,6 @@
 //! The header sheet (H).
 
-ghost use Rattle.std.specs.Prelude.{◌≡◌, [], OnOk, IfErr};
-ghost use Rattle.rpg_sheet_specs.specs.Columns.{IsLeastColumn};
+ghost use Rattle.std.specs.Prelude.{◌≡◌};
 ghost use Rattle.rpg_sheet_specs.specs.Tables as tables;
 
 use crate::card::Card;
@@ -14,15 +13,4 @@ pub(crate) fn header(card: &Card) -> Result<HeaderSpec, ColumnFault>
 {
     card.blank(ranges::AFTER_HEADER)?;
     Ok(HeaderSpec)
-}
-
-impl Card {
-    /// Reads an H card, or returns the leftmost of its bad values.
-    pub fn h(&self) -> Result<HeaderSpec, ColumnFault>
-        ensures value { result ≡ tables.header.reading self.now }
-        ensures valid { OnOk result (tables.header.bad self.now ≡ []) }
-        ensures least { IfErr result (λ fault. IsLeastColumn (tables.header.bad self.now) fault.column) }
-    {
-        header(self)
-    }
 }

@@ -1,18 +1,17 @@
 //! The input sheet (I).
 #![tactic(auto, unfolding(rpg_sheet_specs::specs::Columns::values, rpg_sheet_specs::specs::Columns::at_with, rpg_sheet_specs::specs::Columns::also, rpg_sheet_specs::specs::Columns::past, rpg_sheet_specs::specs::Columns::blank, rpg_sheet_specs::specs::Columns::where_card, rpg_sheet_specs::specs::Tables::input_card, rpg_sheet_specs::specs::Tables::type_or_field_card, rpg_sheet_specs::specs::Tables::type_card, rpg_sheet_specs::specs::Tables::type_and_card, rpg_sheet_specs::specs::Tables::and_codes, rpg_sheet_specs::specs::Tables::record_codes, rpg_sheet_specs::specs::Tables::field_card))]
 
-ghost use Rattle.std.specs.Prelude.{◌≡◌, [], OnOk, IfErr};
+ghost use Rattle.std.specs.Prelude.{◌≡◌};
 ghost use Rattle.rpg_sheet.specs.Rest.{rest_of_field};
-ghost use Rattle.rpg_sheet_specs.specs.Columns.{IsLeastColumn};
 ghost use Rattle.rpg_sheet_specs.specs.Tables as tables;
 
-use crate::card::{Card, has_only_blanks};
+use crate::card::Card;
 use crate::columns::{at, indicators};
 use rpg_sheet_specs::{
     ColumnFault, InputFieldSpec, InputSpec, RecordCode, RecordType, Three, Word, ranges,
 };
 
-#[inline(never)]
+#[inline(always)]
 pub(crate) fn input_card(card: &Card) -> Result<InputSpec, ColumnFault>
     ensures { result ≡ tables.input_card.reading card.now }
 {
@@ -25,29 +24,18 @@ pub(crate) fn input_card(card: &Card) -> Result<InputSpec, ColumnFault>
     Ok(InputSpec::Type(type_card(card)?))
 }
 
-impl Card {
-    /// Reads an I card, or returns the leftmost of its bad values.
-    pub fn i(&self) -> Result<InputSpec, ColumnFault>
-        ensures value { result ≡ tables.input_card.reading self.now }
-        ensures valid { OnOk result (tables.input_card.bad self.now ≡ []) }
-        ensures least { IfErr result (λ fault. IsLeastColumn (tables.input_card.bad self.now) fault.column) }
-    {
-        input_card(self)
-    }
-}
-
 /// Whether it has AND in columns 14 to 16, and nothing before.
 pub(crate) fn is_and_card(card: &Card) -> bool
     ensures { result ≡ tables.is_and_card card.now }
 {
-    has_only_blanks(card.columns(ranges::BEFORE_WORD))
+    rpg_sheet_values::has_only_blanks(card.columns(ranges::BEFORE_WORD))
         && card.columns(ranges::AND_WORD) == b"AND".as_slice()
 }
 
 pub(crate) fn is_field_card(card: &Card) -> bool
     ensures { result ≡ tables.is_field_card card.now }
 {
-    has_only_blanks(card.columns(ranges::TYPE_OR_LINE))
+    rpg_sheet_values::has_only_blanks(card.columns(ranges::TYPE_OR_LINE))
 }
 
 #[inline(never)]
@@ -83,7 +71,7 @@ fn type_and_card(card: &Card) -> Result<Three<Option<RecordCode>>, ColumnFault>
 fn further_codes(card: &Card) -> Result<Three<Option<RecordCode>>, ColumnFault>
     ensures { result ≡ tables.and_codes.reading card.now }
 {
-    if has_only_blanks(card.columns(ranges::CODES)) {
+    if rpg_sheet_values::has_only_blanks(card.columns(ranges::CODES)) {
         at(ranges::CODES, None)
     } else {
         record_codes(card)

@@ -1,50 +1,44 @@
 //! The output sheet (O).
 #![tactic(auto, unfolding(rpg_sheet_specs::specs::Columns::values, rpg_sheet_specs::specs::Columns::at_with, rpg_sheet_specs::specs::Columns::also, rpg_sheet_specs::specs::Columns::past, rpg_sheet_specs::specs::Columns::blank, rpg_sheet_specs::specs::Columns::where_card, rpg_sheet_specs::specs::Values::blank_or, rpg_sheet_specs::specs::Tables::output_card, rpg_sheet_specs::specs::Tables::line_or_card, rpg_sheet_specs::specs::Tables::line_or_field_card, rpg_sheet_specs::specs::Tables::record_card, rpg_sheet_specs::specs::Tables::movement, rpg_sheet_specs::specs::Tables::line_conditions, rpg_sheet_specs::specs::Tables::output_field_card))]
 
-ghost use Rattle.std.specs.Prelude.{◌≡◌, [], OnOk, IfErr};
-ghost use Rattle.rpg_sheet_specs.specs.Columns.{IsLeastColumn};
+ghost use Rattle.std.specs.Prelude.{◌≡◌, Some};
+ghost use Rattle.rpg_sheet.specs.Put.{put};
+ghost use Rattle.rpg_sheet_specs.specs.Columns.{mapped};
 ghost use Rattle.rpg_sheet_specs.specs.Tables as tables;
+ghost use Rattle.rpg_sheet_specs.specs.declared.output.OutputSpec.TheVariants as outputs;
+ghost use Rattle.rpg_sheet_specs.specs.declared.spec.Spec.TheVariants as specs;
 
-use crate::card::{Card, has_only_blanks};
+use crate::card::Card;
 use crate::columns::{at, conditions, optional};
 use crate::input::{is_and_card, is_field_card};
 use rpg_sheet_specs::{
-    ColumnFault, ConditionSpec, Movement, OutputField, OutputRecord, OutputSpec, Three, ranges,
+    ColumnFault, ConditionSpec, Movement, OutputField, OutputRecord, OutputSpec, Spec, Three,
+    ranges,
 };
 
-#[inline(always)]
-pub(crate) fn output_card(card: &Card) -> Result<OutputSpec, ColumnFault>
-    ensures { result ≡ tables.output_card.reading card.now }
+/// Reads an O card to `spec`, or returns the leftmost of its bad values.
+#[inline(never)]
+pub(crate) fn read_output(spec: &mut Option<Spec>, card: &Card) -> Result<(), ColumnFault>
+    ensures { put spec.new result ≡ mapped (λ o. Some (specs.Output o)) (tables.output_card.reading card.now) }
 {
     if is_and_card(card) {
-        return Ok(OutputSpec::And(line_conditions(card)?));
-    }
-    if is_or_card(card) {
+        *spec = Some(Spec::Output(OutputSpec::And(line_conditions(card)?)));
+    } else if is_or_card(card) {
         card.blank(ranges::AFTER_TIME)?;
-        return Ok(OutputSpec::Or(line_conditions(card)?));
+        *spec = Some(Spec::Output(OutputSpec::Or(line_conditions(card)?)));
+    } else if is_field_card(card) {
+        return read_field(spec, card);
+    } else {
+        *spec = Some(Spec::Output(OutputSpec::Record(record_card(card)?)));
     }
-    if is_field_card(card) {
-        return Ok(OutputSpec::Field(output_field_card(card)?));
-    }
-    Ok(OutputSpec::Record(record_card(card)?))
-}
-
-impl Card {
-    /// Reads an O card, or returns the leftmost of its bad values.
-    pub fn o(&self) -> Result<OutputSpec, ColumnFault>
-        ensures value { result ≡ tables.output_card.reading self.now }
-        ensures valid { OnOk result (tables.output_card.bad self.now ≡ []) }
-        ensures least { IfErr result (λ fault. IsLeastColumn (tables.output_card.bad self.now) fault.column) }
-    {
-        output_card(self)
-    }
+    Ok(())
 }
 
 /// Whether it has OR in columns 14 and 15, and nothing before.
 fn is_or_card(card: &Card) -> bool
     ensures { result ≡ tables.is_or_card card.now }
 {
-    has_only_blanks(card.columns(ranges::BEFORE_WORD))
+    rpg_sheet_values::has_only_blanks(card.columns(ranges::BEFORE_WORD))
         && card.columns(ranges::OR_WORD) == b"OR".as_slice()
 }
 
@@ -93,25 +87,28 @@ fn line_conditions(card: &Card) -> Result<Three<Option<ConditionSpec>>, ColumnFa
     Ok(conditions)
 }
 
+/// Reads an output field to `spec`.
 #[inline(never)]
-fn output_field_card(card: &Card) -> Result<OutputField, ColumnFault>
-    ensures { result ≡ tables.output_field_card.reading card.now }
+fn read_field(spec: &mut Option<Spec>, card: &Card) -> Result<(), ColumnFault>
+    ensures { put spec.new result ≡ mapped (λ f. Some (specs.Output (outputs.Field f))) (tables.output_field_card.reading card.now) }
 {
+    let (mut operand, mut text) = (None, None);
     card.blank(ranges::MOVEMENT)?;
     let conditions = conditions(card, ranges::LINE_CONDITIONS)?;
-    let operand = card.optional_entry(ranges::OUTPUT_NAME)?;
+    card.read_entry(&mut operand, ranges::OUTPUT_NAME)?;
     let code = card.columns(ranges::OUTPUT_CODE);
     let code = optional(ranges::OUTPUT_CODE, code, rpg_sheet_values::edit_code(code))?;
     let blank_after = card.mark(ranges::BLANK_AFTER, b"B")?;
     let end = card.number(ranges::END_POSITION)?;
     card.blank(ranges::OUTPUT_FORMAT)?;
-    let text = card.optional_text(ranges::OUTPUT_TEXT)?;
-    Ok(OutputField {
+    card.read_text(&mut text, ranges::OUTPUT_TEXT)?;
+    *spec = Some(Spec::Output(OutputSpec::Field(OutputField {
         conditions,
         operand,
         code,
         blank_after,
         end,
         text,
-    })
+    })));
+    Ok(())
 }

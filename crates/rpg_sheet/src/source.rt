@@ -35,6 +35,7 @@ pub(crate) const NO_LINES: Earlier = Earlier {
 
 impl Earlier {
     /// Returns the state after a line with these columns.
+    #[inline(always)]
     pub(crate) fn with(self, columns: &[u8; 80]) -> Self
         requires { self.count ≤ 2000 }
         ensures { (lines : List (List ℕ)) → (line : List ℕ) → columns.now ≡ card_of line → HasSeen self lines → HasSeen result (lines ++ line ∷ []) }

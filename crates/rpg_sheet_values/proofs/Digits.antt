@@ -1,26 +1,19 @@
 -- The number that at most ten digits write.
-use Rattle.std.proofs.Common.{◌≡◌, ℕ, ◌+◌, ◌-◌, ◌*◌, ◌^◌, ◌<◌, ◌≤◌, true, false, Bool, List, [], ◌∷◌, ◌++◌, length, get_or, drop, refl, sym, ap, ◌∙◌, arith, lit<, length-append}
+use Rattle.std.proofs.Common.{◌≡◌, ℕ, ◌+◌, ◌-◌, ◌*◌, ◌^◌, ◌<◌, ◌≤◌, true, false, Bool, List, [], ◌∷◌, ◌++◌, length, get_or, drop, refl, sym, ap, ◌∙◌, arith, lit<, length-append, Some, None}
 use Rattle.std.specs.Prelude.{IsTrue, ◌&&◌}
 use Rattle.std.specs.List.{list_all}
 use Rattle.std.specs.Char.{is_ascii_digit, digit_value}
 use Rattle.std.specs.Str.Parse.{AllDigits, digits_value, digits_value_after}
 use Rattle.std.proofs.Math.Nat.{pow-le-pow_right, one-le-pow}
 use Rattle.std.proofs.lemmas.Str.{digit_value_digit}
-use Rattle.std.proofs.lemmas.List.Folds.{list_all_at, list_all-append}
+use Rattle.std.proofs.lemmas.List.Folds.{list_all-append}
 use Rattle.std.proofs.lemmas.Int.Digits.{digits_value-lt}
 use Rattle.std.proofs.lemmas.Grind.{common_steps, pow_more}
+use Rattle.rpg_sheet_specs.specs.Values.{when}
 
 -- a character that is a digit
 pub is_digit : (c : ℕ) → is_ascii_digit c ≡ true → (48 ≤ c) × (c ≤ 57)
 is_digit c e = (grind (arith, common_steps), grind (arith, common_steps))
-
--- each of the digits is one
-pub is_digit_at : (text : List ℕ) (i : ℕ) → IsTrue (list_all is_ascii_digit text) → i < length text → (48 ≤ get_or text i 0) × (get_or text i 0 ≤ 57)
-is_digit_at text i all lt = by (is_ascii_digit (get_or text i 0)) refl
-  where
-    by : (b : Bool) → is_ascii_digit (get_or text i 0) ≡ b → (48 ≤ get_or text i 0) × (get_or text i 0 ≤ 57)
-    by true e = is_digit (get_or text i 0) e
-    by false e = absurd (let none : list_all is_ascii_digit text ≡ false = list_all_at is_ascii_digit text i 0 lt e in let both = rw none at all in cc)
 
 -- a further digit makes a number below the next power of ten
 pub more_fits : (i v d : ℕ) → v < 10 ^ i → d ≤ 9 → v * 10 + d < 10 ^ (i + 1)
@@ -74,3 +67,12 @@ pub both_fit : (whole following : List ℕ) → IsTrue (list_all is_ascii_digit 
 both_fit whole following all more =
     rw (sym (length-append whole following))
     (digits_fit (whole ++ following) (rw (list_all-append is_ascii_digit whole following, all, more) refl))
+
+-- a value there is only under a test that holds
+pub when_some : (b : Bool) (x y : ℕ) → when b x ≡ Some y → (b ≡ true) × (x ≡ y)
+when_some true x y e = (refl, cc)
+when_some false x y e = absurd cc
+
+pub when_none : (b : Bool) (x : ℕ) → when b x ≡ None → b ≡ false
+when_none true x e = absurd cc
+when_none false x e = refl

@@ -1,3 +1,4 @@
 pub mod Characters
 mod Digits
+mod Lettered
 mod LiteralLemmas

@@ -7,19 +7,21 @@ ghost use Rattle.rpg_sheet_specs.specs.Values as values;
 ghost use Rattle.rpg_text.specs.Texts.{is_character, trimmed};
 
 use crate::entries::entry;
-use crate::numbers::{has_only_digits, value_after};
+use crate::names::begins_with_letter;
+use crate::numbers::number_after;
 use rpg_sheet_specs::{Factor, Literal, NumericLiteral, TextLiteral, Word};
 use rpg_text::trimmed;
 
-#[tactic(auto, unfolding(rpg_sheet_specs::specs::Values::factor))]
+/// Reads an entry or a literal. The first column shows which of them it can be.
 pub fn factor_of(text: &[u8]) -> Option<Factor>
     requires short { length text.now ≤ 10 }
     requires characters { IsTrue (list_all is_character text.now) }
     ensures { result ≡ values.factor text.now }
 {
-    match entry(text) {
-        Some(entry) => Some(Factor::Entry(entry)),
-        None => literal_of(text).map(Factor::Literal),
+    if begins_with_letter(text) {
+        entry(text).map(Factor::Entry)
+    } else {
+        literal_of(text).map(Factor::Literal)
     }
 }
 
@@ -86,10 +88,11 @@ fn numeral(minus: bool, whole: &[u8], following: &[u8]) -> Option<NumericLiteral
     ensures { result ≡ values.numeral minus whole.now following.now }
 {
     let digits = whole.len() + following.len();
-    if digits == 0 || !has_only_digits(whole) || !has_only_digits(following) {
+    if digits == 0 {
         return None;
     }
-    let size = value_after(value_after(0, whole), following);
+    let first = number_after(0, whole)?;
+    let size = number_after(first, following)?;
     Some(NumericLiteral::new(with_sign(minus, size), digits as u8, following.len() as u8))
 }
 

@@ -1,10 +1,30 @@
 //! Texts with a single meaning: fixed words, marks, blanks.
 
-ghost use Rattle.std.specs.Prelude.{◌≡◌, None, Some, if◌then◌else◌, option_map};
+ghost use Rattle.std.specs.Prelude.{◌≡◌, None, Some, if◌then◌else◌, option_map, position};
+ghost use Rattle.rpg_sheet_specs.specs.Columns.{is_filled};
 ghost use Rattle.rpg_sheet_specs.specs.Values as values;
 ghost use Rattle.rpg_text.specs.Texts.{all_blank};
 
 use rpg_text::is_blank;
+
+/// Whether a text has only blanks. No character ends the loop early, so that many are tested at a time.
+#[inline(always)]
+pub fn has_only_blanks(text: &[u8]) -> bool
+    ensures { result ≡ all_blank text.now }
+{
+    let mut are_all = true;
+    for character in text {
+        are_all = (*character == b' ') & are_all;
+    }
+    are_all
+}
+
+/// Returns the place of the first character that isn't blank.
+pub fn first_filled(text: &[u8]) -> Option<usize>
+    ensures { result ≡ position is_filled text.now }
+{
+    text.iter().position(|c| *c != b' ')
+}
 
 /// Reads the only text that is allowed.
 #[tactic(auto, unfolding(rpg_sheet_specs::specs::Values::only))]

@@ -1,6 +1,6 @@
 //! Numbers on cards: blanks, then digits.
 
-ghost use Rattle.std.specs.Prelude.{◌≡◌, ◌-◌, ◌^◌, ◌≤◌, ◌<◌, length, IsTrue};
+ghost use Rattle.std.specs.Prelude.{◌≡◌, ◌-◌, ◌^◌, ◌≤◌, ◌<◌, length};
 ghost use Rattle.std.specs.List.{list_all};
 ghost use Rattle.std.specs.Char.{is_ascii_digit};
 ghost use Rattle.std.specs.Str.Parse.{digits_value_after};
@@ -17,24 +17,21 @@ fn right_part(text: &[u8]) -> &[u8]
     &text[start..]
 }
 
-pub(crate) fn has_only_digits(text: &[u8]) -> bool
-    ensures { result ≡ list_all is_ascii_digit text.now }
-{
-    text.iter().all(|c| c.is_ascii_digit())
-}
-
-/// Returns the number that these digits make after those of `before`.
-pub(crate) fn value_after(before: u64, digits: &[u8]) -> u64
-    requires digits { IsTrue (list_all is_ascii_digit digits.now) }
+/// Returns the number that these digits make after those of `before`; None if they aren't all digits.
+#[inline(always)]
+pub(crate) fn number_after(before: u64, digits: &[u8]) -> Option<u64>
     requires short { length digits.now ≤ 10 }
     requires room { before < 10 ^ (10 - length digits.now) }
-    ensures value { result ≡ digits_value_after 10 before digits.now }
+    ensures { result ≡ values.when (list_all is_ascii_digit digits.now) (digits_value_after 10 before digits.now) }
 {
     let mut value = before;
     for digit in digits {
+        if !digit.is_ascii_digit() {
+            return None;
+        }
         value = value * 10 + (*digit - b'0') as u64;
     }
-    value
+    Some(value)
 }
 
 /// Reads digits in every column, four at most.
@@ -43,11 +40,11 @@ pub(crate) fn digits(text: &[u8]) -> Option<u16>
     requires { length text.now ≤ 4 }
     ensures { result ≡ values.digits text.now }
 {
-    if !text.is_empty() && has_only_digits(text) {
-        Some(value_after(0, text) as u16)
-    } else {
-        None
+    if text.is_empty() {
+        return None;
     }
+    let value = number_after(0, text)?;
+    Some(value as u16)
 }
 
 /// Reads right-aligned digits after blanks, in four columns at most.

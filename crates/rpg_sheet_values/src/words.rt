@@ -1,13 +1,15 @@
 //! Words that each mean one of a few things.
 
-ghost use Rattle.std.specs.Prelude.{◌≡◌, length, Some};
+ghost use Rattle.std.specs.Prelude.{◌≡◌, [], ◌∷◌, codes, if◌then◌else◌, length, Some};
 ghost use Rattle.std.specs.Str.{bytes_eq};
 ghost use Rattle.rpg_sheet_specs.specs.Cards as cards;
 ghost use Rattle.rpg_sheet_specs.specs.Tables as tables;
+ghost use Rattle.rpg_sheet_specs.specs.Values as values;
+ghost use Rattle.rpg_sheet_specs.specs.declared.file.FileRole.TheVariants as roles;
 
 use crate::indicators::indicator_within;
 use crate::numbers::digits;
-use rpg_sheet_specs::{ControlLevel, Device, FormType, LineTime, Operation, Within};
+use rpg_sheet_specs::{ControlLevel, Device, FileRole, FormType, LineTime, Operation, Within};
 
 /// Whether a text is this word.
 pub fn is(text: &[u8], word: &[u8]) -> bool
@@ -38,6 +40,18 @@ pub fn direction(text: &[u8]) -> Option<()>
 {
     match text {
         b"I" | b"O" => Some(()),
+        _ => None,
+    }
+}
+
+/// Returns the role with these letters, of an input or an output file.
+pub fn role(is_read: bool, text: &[u8]) -> Option<FileRole>
+    ensures { result ≡ values.one_of (if is_read then (codes "P", roles.Primary) ∷ (codes "S", roles.Secondary) ∷ [] else (codes " ", roles.Output) ∷ []) text.now }
+{
+    match (is_read, text) {
+        (true, b"P") => Some(FileRole::Primary),
+        (true, b"S") => Some(FileRole::Secondary),
+        (false, b" ") => Some(FileRole::Output),
         _ => None,
     }
 }

@@ -1,11 +1,11 @@
-use Rattle.std.proofs.Common.{◌≡◌, ℕ, zero, suc, ◌-◌, ◌∙◌, Bool, true, false, List, [], ◌∷◌, length, take, Option, Some, None, refl, sym, ap, arith}
-use Rattle.std.specs.Prelude.{position, not, option_map, slice_get, ◌&&◌, ◌||◌}
-use Rattle.std.specs.List.{list_all, prefix_len, suffix_len}
-use Rattle.std.specs.Option.{option_map_or}
+use Rattle.std.proofs.Common.{◌≡◌, ℕ, ◌∙◌, Bool, true, false, List, [], ◌∷◌, length, Some, None, refl, sym, ap, arith}
+use Rattle.std.specs.Prelude.{position, not, option_map, ◌&&◌, ◌||◌}
+use Rattle.std.specs.List.{list_all, prefix_len}
 use Rattle.std.proofs.lemmas.Bool.{and_parts, eqb-true}
 use Rattle.std.proofs.lemmas.Grind.{common_steps}
-use Rattle.rpg_text.specs.Texts.{is_blank, trimmed}
-use Rattle.rpg_sheet_specs.specs.Values.{when, is_letter, is_comma, is_name, is_name_character, name_of, plain, entry, entry_split, entry_spelled}
+use Rattle.rpg_text.specs.Texts.{trimmed}
+use Rattle.rpg_sheet_specs.specs.Values.{when, is_letter, is_comma, is_name, is_name_character, name_of, plain, entry}
+use Rattle.rpg_sheet_values.proofs.Lettered.{unlettered}
 use Rattle.rpg_sheet_values.proofs.entries.entry.Goals as goal
 
 no_comma : (c : ℕ) → is_name_character c ≡ true → is_comma c ≡ false
@@ -42,21 +42,6 @@ named columns text name is found =
     let all = none_len text (characters text (is_one text name found)) in
     let none : position is_comma text ≡ None = grind (arith, common_steps) in
     rw (sym is, none) (ap (option_map plain) found)
-
--- what doesn't begin with a letter is no entry
-unlettered_part : (n : ℕ) (columns : List ℕ) → option_map_or is_letter (slice_get columns 0) false ≡ false → None ≡ entry_spelled (take n columns)
-unlettered_part zero columns h = refl
-unlettered_part (suc n) [] h = refl
-unlettered_part (suc n) (c ∷ cs) h = by (position is_comma (c ∷ take n cs))
-  where
-    by : (p : Option ℕ) → None ≡ entry_split p (c ∷ take n cs)
-    by None = rw h refl
-    by (Some zero) = refl
-    by (Some (suc i)) = rw h refl
-
-unlettered : (columns : List ℕ) → option_map_or is_letter (slice_get columns 0) false ≡ false → None ≡ entry columns
-unfolding entry
-unlettered columns h = unlettered_part (length columns - suffix_len is_blank columns) columns h
 
 pub returns-then-not-begins_with_letter : goal.returns-then-not-begins_with_letter
 returns-then-not-begins_with_letter c = unlettered c.args.text.now (sym c.begins_with_letter.ensures ∙ c.if-not-begins_with_letter.true)

@@ -1,6 +1,0 @@
-use Rattle.std.proofs.Common.{◌≡◌, ◌+◌, ◌-◌, ◌^◌, ◌<◌, length, drop}
-use Rattle.std.specs.Str.Parse.{digits_value_after}
-use Rattle.rpg_sheet_values.proofs.numbers.value_after.Given as goal
-
-abbrev pub invariant-loop-digit : goal.invariant-loop-digit
-invariant-loop-digit l = record { value : digits_value_after 10 l.value (drop l.digit-index l.digits) ≡ digits_value_after 10 l.before l.digits; fits : l.value < 10 ^ (10 - length l.digits + l.digit-index) }
