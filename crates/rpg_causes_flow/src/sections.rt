@@ -7,7 +7,9 @@ ghost use Rattle.rpg_faults_flow.specs.Flow as rules;
 use crate::brackets::{count_begun, last_bracket, level_in, open_level, opens};
 use crate::labels::Target;
 use rpg_card_index::IndexedCards;
-use rpg_cards::{Named, Section, SpecCard, begins_subroutine, defined_name, last_card, target_name};
+use rpg_cards::{
+    Named, Section, SpecCard, begins_subroutine, defined_name, last_card, target_name,
+};
 use rpg_causes_operands::with_card;
 use rpg_sheet_specs::{CalculationSpec, ControlLevel, Word};
 use rpg_symbols::Name;
