@@ -1,21 +1,17 @@
 -- What the index of some cards finds.
-use Rattle.std.proofs.Common.{◌≡◌, ℕ, ◌+◌, ◌<◌, Bool, true, false, not, cond, List, [], ◌∷◌, ◌++◌, length, take, get_or, Option, None, Some, refl, sym, ap, ◌∙◌, arith}
-use Rattle.std.proofs.lemmas.Bool.{le-leb, lt-leb, ltb-false, ltb-true}
+use Rattle.std.proofs.Common.{◌≡◌, ℕ, ◌+◌, Bool, true, false, not, cond, List, [], ◌∷◌, take, Option, None, Some, refl, sym, ap, ◌∙◌}
 use Rattle.std.specs.Cmp.Lexicographic.{pointwise}
 use Rattle.std.specs.List.{list_any}
 use Rattle.std.specs.Map.{lookup}
-use Rattle.std.specs.Option.{option_or, is_none, is_some}
-use Rattle.std.specs.Prelude.{nat_eq, nat_le, nat_lt, ◌&&◌, ◌||◌}
-use Rattle.rpg_card_index.specs.Index.{defined_first, place_of_constant, placed_definition, IsConstantIndex, IsNameIndex}
-use Rattle.rpg_card_index.specs.declared.constant_index.ConstantIndex.{ConstantIndex}
+use Rattle.std.specs.Option.{is_none, is_some}
+use Rattle.std.specs.Prelude.{nat_eq, ◌&&◌, ◌||◌}
+use Rattle.rpg_card_index.specs.Index.{defined_first, placed_definition, IsNameIndex}
 use Rattle.rpg_card_index.specs.declared.name_index.FirstDefinition.{FirstDefinition}
 use Rattle.rpg_card_index.specs.declared.name_index.NameIndex.{NameIndex}
 use Rattle.rpg_cards.proofs.FieldLemmas.{known_fields}
 use Rattle.rpg_cards.proofs.FirstLemmas.{any_first, first_before, only_before}
-use Rattle.rpg_cards.specs.Constants.{is_same}
 use Rattle.rpg_cards.specs.First.{first_at}
 use Rattle.rpg_cards.specs.Names.{defined_as, first_form, is_new_name, is_of}
-use Rattle.rpg_cards.specs.declared.constants.Constant.{Constant}
 use Rattle.rpg_cards.specs.declared.names.Definition.{Definition}
 use Rattle.rpg_program.specs.declared.form.FieldForm.{FieldForm}
 use Rattle.rpg_symbols.specs.Fields.{defined_form, given}

@@ -1,5 +1,5 @@
 -- What totals come to with one more item after the others.
-use Rattle.std.proofs.Common.{◌≡◌, ℕ, ◌+◌, ◌*◌, ◌<◌, ◌≤◌, Bool, true, false, not, cond, ◌||◌, List, [], ◌∷◌, ◌++◌, length, take, drop, get_or, Some, refl, sym, ap, ◌∙◌, subst, arith}
+use Rattle.std.proofs.Common.{◌≡◌, ℕ, ◌+◌, ◌<◌, ◌≤◌, Bool, true, false, not, cond, ◌||◌, List, [], ◌∷◌, ◌++◌, length, take, drop, get_or, Some, refl, sym, ap, ◌∙◌, subst, arith}
 use Rattle.std.proofs.Math.ListN.{get_or-append}
 use Rattle.std.proofs.Math.Seq.{get_or-append_seam, take-append_seam}
 use Rattle.std.proofs.lemmas.Bool.{ltb-false, ltb-true}
@@ -15,7 +15,7 @@ use Rattle.rpg_cards.proofs.InsertLemmas.{with_one}
 use Rattle.rpg_cards.specs.Insertions.{insert_all, insert_key}
 use Rattle.rpg_cards.specs.Names.{same_name}
 use Rattle.rpg_cards.specs.declared.names.Definition.{Definition}
-use Rattle.rpg_symbols.specs.Totals.{Running, first_totals, with_item}
+use Rattle.rpg_symbols.specs.Totals.{Running, counts_at, first_totals, with_item}
 use Rattle.rpg_symbols.specs.declared.totals.Totals.{Totals}
 
 pub same_name_equiv : IsEquivalence same_name
@@ -134,3 +134,11 @@ module _ {X : Type 0} (totals : List X → Totals) (items : List X) (x : X) (old
       let number = ap (λ (t : Totals). t.number) item in
       let bytes = ap (λ (t : Totals). t.bytes) item in
       record { count = longer ∙ sym long; each = each_of; all = all; few = omega (arith, more.0); few_bytes = omega (arith, more.1) }
+
+-- ---- whether an item counts
+
+-- an item counts if the totals with it have more
+pub counts_more : {X : Type 0} (totals : List X → Totals) (items : List X) (r : Running) → AreRunning X totals items r → (n : ℕ)
+    → counts_at r n ≡ nat_lt (totals (take n items)).number (totals (take (n + 1) items)).number
+counts_more totals items r is n =
+    ap (λ (t : Totals). nat_lt t.number (first_totals r (n + 1)).number) (is.each n) ∙ ap (λ (t : Totals). nat_lt (totals (take n items)).number t.number) (is.each (n + 1))

@@ -1,5 +1,5 @@
 -- The first places of names, constants and files.
-use Rattle.std.specs.Prelude.{◌≡◌, ℕ, ◌+◌, ◌≤◌, ◌++◌, length, Bool, false, List, [], ◌∷◌, nat_eq, nat_lt, slice_get, if◌then◌else◌, Option, None, Some}
+use Rattle.std.specs.Prelude.{◌≡◌, ℕ, ◌≤◌, ◌++◌, length, take, Bool, false, List, nat_eq, nat_lt, slice_get, if◌then◌else◌, Option, None, Some}
 use Rattle.std.specs.Cmp.Lexicographic.{pointwise}
 use Rattle.std.specs.Map.{lookup}
 use Rattle.std.specs.Option.{option_and_then, option_map_or, option_or}
@@ -111,6 +111,16 @@ pub record AreFirstFiles (files : FirstFiles) (cards : List SpecCard) : Type 0 w
   pub named : (name : List ℕ) → lookup (pointwise nat_eq name) files.names.entries ≡ first_file (is_named name) cards
   pub used : (u : FileUse) → first_with files.uses u ≡ first_file (is_for u) cards
 
+-- ---- items at their places
+
+-- these items stand at that place among all
+abbrev pub StandAt : {X : Type 0} → ℕ → List X → List X → Type 0
+StandAt {X} place xs all = (front : List X) × (back : List X) × (place ≡ length front) × (all ≡ front ++ (xs ++ back))
+
+-- whether the item at a place is new, given those before it
+abbrev pub IsNewAt : {X : Type 0} → List X → ℕ → (X → List X → Bool) → Bool → Type 0
+IsNewAt {X} items place is_new b = (x : X) → slice_get items place ≡ Some x → b ≡ is_new x (take place items)
+
 -- ---- all of it
 
 -- the index of these cards
@@ -119,3 +129,4 @@ pub record IsIndexOf (index : CardIndex) (cards : List SpecCard) : Type 0 where
   pub constants : IsConstantIndex (constants_in cards) index.constants
   pub files : AreFirstFiles index.files cards
   pub matching : index.has_match_field ≡ has_match_field cards
+  pub few : length cards ≤ 1000000000

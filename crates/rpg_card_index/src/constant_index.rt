@@ -5,7 +5,7 @@ ghost use Rattle.std.specs.Map.{lookup};
 ghost use Rattle.std.specs.Option.{option_to_list};
 ghost use Rattle.rpg_cards.specs.Constants.{constants_on, factor_constants, is_same};
 ghost use Rattle.rpg_card_index.specs.Index.{IsConstantIndex, KnowsAtMost, Notes};
-ghost use Rattle.rpg_symbols.specs.Totals.{first_totals};
+ghost use Rattle.rpg_symbols.specs.Totals.{counts_at, first_totals};
 
 use crate::first_files::note;
 use rpg_cards::{Constant, SpecCard, constant_in, text_constant};
@@ -22,7 +22,7 @@ pub struct ConstantIndex {
 }
 
 impl ConstantIndex {
-    /// Returns the index of no constants, with room for as many.
+    /// Returns the index of no constants, with room for `count`.
     pub(crate) fn with_capacity(alloc: Global, count: usize) -> Result<Self, AllocError>
         ensures { IfOk result (IsConstantIndex []) }
     {
@@ -93,5 +93,12 @@ impl ConstantIndex {
         ensures { result ≡ self.now.totals.all }
     {
         self.totals.all()
+    }
+
+    /// Whether the constant at a place is the first of its kind.
+    pub(crate) fn counts(&self, place: usize) -> bool
+        ensures { result ≡ counts_at self.now.totals place }
+    {
+        self.totals.counts(place)
     }
 }

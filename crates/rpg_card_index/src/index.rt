@@ -1,17 +1,16 @@
 //! The cards of a source, with the first place of each name, constant and file.
 
-ghost use Rattle.std.specs.Prelude.{◌≡◌, ◌+◌, ◌*◌, ◌<◌, ◌≤◌, ◌^◌, Some, length, not, take, slice_get, option_copied, position, IfOk};
+ghost use Rattle.std.specs.Prelude.{◌≡◌, ◌+◌, ◌*◌, ◌≤◌, ◌∷◌, ◌++◌, [], length, not, take, option_copied, position, IfOk};
 ghost use Rattle.std.specs.List.{list_any};
 ghost use Rattle.rpg_cards.specs.Constants as constants;
 ghost use Rattle.rpg_cards.specs.Constants.{constants_in, is_same};
 ghost use Rattle.rpg_cards.specs.Files as files;
 ghost use Rattle.rpg_cards.specs.First.{first_at};
-ghost use Rattle.rpg_card_index.specs.Index.{defined_first, file_at, place_before, placed_definition, IsIndexOf};
+ghost use Rattle.rpg_card_index.specs.Index.{defined_first, file_at, place_before, placed_definition, IsIndexOf, IsNewAt};
 ghost use Rattle.rpg_cards.specs.Levels as levels;
 ghost use Rattle.rpg_cards.specs.Names as names;
 ghost use Rattle.rpg_cards.specs.Names.{is_of};
 ghost use Rattle.rpg_card_index.specs.Totals as totals;
-ghost use Rattle.rpg_cards.specs.declared.constants.Constant.{Constant};
 
 use crate::constant_index::ConstantIndex;
 use crate::first_files::FirstFiles;
@@ -24,7 +23,7 @@ use rpg_symbols::{Name, Totals};
 use std::alloc::{AllocError, Global};
 use std::marker::Model;
 
-/// More cards than a source can have, by far.
+/// The most cards that an index takes. A source without faults has at most 2,000.
 const MOST_CARDS: usize = 1_000_000_000;
 
 /// The names, constants and files of some cards, to look them up in constant time.
@@ -87,7 +86,7 @@ impl<'a> Model for IndexedCards<'a> {
 }
 
 impl<'a> IndexedCards<'a> {
-    /// Finds the first place of each name and constant. Fails only if memory runs out.
+    /// Indexes the names, constants and files of cards. Fails only if memory runs out or there are more than 1,000,000,000 cards.
     pub fn new(alloc: Global, cards: &'a [SpecCard]) -> Result<Self, AllocError>
         ensures { IfOk result (λ indexed. indexed ≡ cards.now) }
     {
@@ -105,6 +104,21 @@ impl<'a> IndexedCards<'a> {
         ensures { result.now ≡ self.now }
     {
         self.cards
+    }
+
+    /// There are at most 1,000,000,000 cards. Does nothing: its contract is the law.
+    pub fn keeps_limit(&self)
+        ensures { length self.now ≤ 1000000000 }
+    {
+        let _cards = self.cards;
+    }
+
+    /// Returns the cards before a card, and the card.
+    pub fn up_to(&self, before: &[SpecCard], card: &SpecCard, after: &[SpecCard]) -> &'a [SpecCard]
+        requires { self.now ≡ before.now ++ card.now ∷ after.now }
+        ensures { result.now ≡ before.now ++ card.now ∷ [] }
+    {
+        &self.cards[..before.len() + 1]
     }
 
     /// Returns the form of a name's first definition. UDATE and PAGE are defined before all cards.
@@ -181,7 +195,7 @@ impl<'a> IndexedCards<'a> {
         self.index.names.all()
     }
 
-    /// Returns how many different ones the first `count` constants are, and their bytes.
+    /// Returns how many different constants there are among the first `count`, and their bytes.
     pub fn constant_totals(&self, count: usize) -> Totals
         ensures value { result ≡ totals.constant_totals (take count (constants_in self.now)) }
         ensures few { result.number ≤ 2 + length (constants_in self.now) }
@@ -199,14 +213,31 @@ impl<'a> IndexedCards<'a> {
         self.index.constants.all()
     }
 
-    /// Whether the constant at a place isn't among those before it.
-    pub fn is_new_constant(&self, place: usize) -> bool
-        requires { place < 2 ^ 63 }
-        ensures { (x : Constant) → slice_get (constants_in self.now) place ≡ Some x → result ≡ not (list_any (is_same x) (take place (constants_in self.now))) }
+    /// Whether the definition at a place is the first of a name that not every program has.
+    pub fn is_first_name(&self, place: usize) -> bool
+        ensures { IsNewAt (names.definitions self.now) place (λ d before. names.is_new_name d.name before) result }
     {
-        let before = self.constant_totals(place).number;
-        let with = self.constant_totals(place + 1).number;
-        before < with
+        self.index.names.counts(place)
+    }
+
+    /// Whether the constant at a place is the first of its kind.
+    pub fn is_first_constant(&self, place: usize) -> bool
+        ensures { IsNewAt (constants_in self.now) place (λ x before. not (list_any (is_same x) before)) result }
+    {
+        self.index.constants.counts(place)
+    }
+
+    /// Returns a name's place among the different names.
+    pub fn name_place(&self, name: &Name) -> Option<u64>
+        ensures { result ≡ position (is_of name.now) (names.names self.now) }
+    {
+        match given_place(name) {
+            Some(place) => Some(place),
+            None => {
+                let first = self.first_definition(name)?;
+                Some(self.name_totals(first.place).number)
+            }
+        }
     }
 
     /// Returns a constant's place among the different constants.
@@ -272,5 +303,16 @@ fn defined_first(first: Option<FirstDefinition>) -> Defined
     match first.form {
         None => Defined::Bad,
         Some(form) => Defined::Valid(form),
+    }
+}
+
+/// Returns the place of a name that every program has.
+fn given_place(name: &Name) -> Option<u64>
+    ensures { result ≡ position (is_of name.now) names.given_names }
+{
+    match name.as_slice() {
+        b"UDATE" => Some(0),
+        b"PAGE" => Some(1),
+        _ => None,
     }
 }

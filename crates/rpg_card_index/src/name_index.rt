@@ -8,7 +8,7 @@ ghost use Rattle.rpg_card_index.specs.Index.{IsNameIndex, KnowsAtMost, Notes};
 ghost use Rattle.rpg_cards.specs.Names as names;
 ghost use Rattle.rpg_cards.specs.Names.{definitions_on};
 ghost use Rattle.rpg_program.specs.Forms.{size_of};
-ghost use Rattle.rpg_symbols.specs.Totals.{first_totals};
+ghost use Rattle.rpg_symbols.specs.Totals.{counts_at, first_totals};
 
 use crate::first_files::note;
 use rpg_cards::{
@@ -35,7 +35,7 @@ pub struct NameIndex {
 }
 
 impl NameIndex {
-    /// Returns the index of no definitions, with room for as many.
+    /// Returns the index of no definitions, with room for `count`.
     pub(crate) fn with_capacity(alloc: Global, count: usize) -> Result<Self, AllocError>
         ensures { IfOk result (IsNameIndex []) }
     {
@@ -107,6 +107,13 @@ impl NameIndex {
         ensures { result ≡ self.now.totals.all }
     {
         self.totals.all()
+    }
+
+    /// Whether the definition at a place is the first of its name.
+    pub(crate) fn counts(&self, place: usize) -> bool
+        ensures { result ≡ counts_at self.now.totals place }
+    {
+        self.totals.counts(place)
     }
 }
 

@@ -1,5 +1,5 @@
 -- How many names or constants there are, and the bytes that they take.
-use Rattle.std.specs.Prelude.{ℕ, ◌+◌, Bool, List, slice_get, unwrap_or, if◌then◌else◌}
+use Rattle.std.specs.Prelude.{ℕ, ◌+◌, Bool, List, nat_lt, slice_get, unwrap_or, if◌then◌else◌}
 use Rattle.rpg_symbols.specs.declared.totals.Totals.{Totals}
 
 -- the totals before each item of a list, and those of all items
@@ -14,3 +14,7 @@ with_item t is_new bytes = if is_new then record { number = t.number + 1; bytes 
 -- the totals of the first n items
 abbrev pub first_totals : Running → ℕ → Totals
 first_totals r n = unwrap_or (slice_get r.before n) r.all
+
+-- the item after the first n counts: there are more with it
+abbrev pub counts_at : Running → ℕ → Bool
+counts_at r n = nat_lt (first_totals r n).number (first_totals r (n + 1)).number

@@ -1,7 +1,7 @@
 //! How many names or constants there are, and the bytes that they take.
 
 ghost use Rattle.std.specs.Prelude.{◌≡◌, ◌++◌, ◌∷◌, [], ◌<◌, ◌^◌, length, IfOk, OnOk};
-ghost use Rattle.rpg_symbols.specs.Totals.{first_totals, with_item};
+ghost use Rattle.rpg_symbols.specs.Totals.{counts_at, first_totals, with_item};
 
 use std::alloc::{AllocError, Global};
 use std::marker::Model;
@@ -59,7 +59,7 @@ impl Model for RunningTotals {
 }
 
 impl RunningTotals {
-    /// Returns the totals of no items, after known ones, with room for as many items.
+    /// Returns the totals of no items, after those of known ones, with room for `count` items.
     pub fn with_capacity(alloc: Global, known: Totals, count: usize) -> Result<Self, AllocError>
         ensures { IfOk result (λ totals. totals ≡ record { before = []; all = known }) }
     {
@@ -102,6 +102,15 @@ impl RunningTotals {
         match self.before.get(count) {
             Some(totals) => *totals,
             None => self.all,
+        }
+    }
+    /// Whether the item at a place counts, because it was new.
+    pub fn counts(&self, place: usize) -> bool
+        ensures { result ≡ counts_at self.now place }
+    {
+        match self.before.get(place) {
+            Some(before) => before.number < self.first(place + 1).number,
+            None => false,
         }
     }
 }

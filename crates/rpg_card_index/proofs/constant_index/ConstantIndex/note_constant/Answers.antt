@@ -1,7 +1,7 @@
-use Rattle.std.proofs.Common.{◌≡◌, ◌≤◌, Bool, Some, None, cond, not, [], ◌∷◌, ◌||◌, length, ap, sym, ◌∙◌, arith}
+use Rattle.std.proofs.Common.{◌≡◌, ◌≤◌, Some, None, cond, not, [], ◌∷◌, length, ap, sym, ◌∙◌, arith}
 use Rattle.std.specs.List.{list_any}
 use Rattle.std.specs.Map.{lookup}
-use Rattle.std.specs.Option.{is_none, is_some, option_or}
+use Rattle.std.specs.Option.{is_none, option_or}
 use Rattle.std.specs.Prelude.{ℕ, Option}
 use Rattle.rpg_card_index.proofs.IndexLemmas.{none_some}
 use Rattle.rpg_card_index.proofs.TotalLemmas.{one_more, running_more}

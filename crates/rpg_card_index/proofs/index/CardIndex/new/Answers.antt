@@ -1,4 +1,4 @@
-use Rattle.std.proofs.Common.{arith, length, take, subst, sym, ◌∙◌}
+use Rattle.std.proofs.Common.{arith, take, subst, sym}
 use Rattle.std.proofs.lemmas.List.{length-take-le}
 use Rattle.rpg_card_index.specs.Index.{IsConstantIndex, IsNameIndex}
 use Rattle.rpg_cards.proofs.ItemLemmas.{constants_in-take, definitions-take, few_constants, few_definitions}

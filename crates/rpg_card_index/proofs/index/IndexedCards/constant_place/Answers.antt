@@ -14,7 +14,7 @@ returns-in_err-first c =
     let xs = constants_in c.args.self.now in
     let found : first_at (is_same x) place_of_constant 0 xs ≡ None =
     sym (ap (λ cards. first_at (is_same x) place_of_constant 0 (constants_in cards)) c.self.view_is) ∙ sym (c.self.invariant.constants.standing x) ∙ sym c.first.ensures ∙ c.in_err-first.was in
-    c.from_residual.ensures ∙ sym (placed is_same is_same_equiv x xs ∙ ap (option_map (λ p. length (insert_all is_same [] (take p xs)))) found)
+    c.from_residual.ensures ∙ sym (placed is_same is_same_equiv [] x xs ∙ ap (option_map (λ p. length (insert_all is_same [] (take p xs)))) found)
 
 pub returns : goal.returns
 returns c =
@@ -22,4 +22,4 @@ returns c =
     let xs = constants_in c.args.self.now in
     let found : first_at (is_same x) place_of_constant 0 xs ≡ Some c.in_ok-first.first =
     sym (ap (λ cards. first_at (is_same x) place_of_constant 0 (constants_in cards)) c.self.view_is) ∙ sym (c.self.invariant.constants.standing x) ∙ sym c.first.ensures ∙ c.in_ok-first.was in
-    ap (λ t. Some t.number) c.constant_totals.ensures.value ∙ sym (placed is_same is_same_equiv x xs ∙ ap (option_map (λ p. length (insert_all is_same [] (take p xs)))) found)
+    ap (λ t. Some t.number) c.constant_totals.ensures.value ∙ sym (placed is_same is_same_equiv [] x xs ∙ ap (option_map (λ p. length (insert_all is_same [] (take p xs)))) found)

@@ -1,4 +1,4 @@
-use Rattle.std.proofs.Common.{ap, arith, length, take, [], ◌∙◌}
+use Rattle.std.proofs.Common.{ap, arith, length, [], ◌∙◌}
 use Rattle.rpg_card_index.proofs.TotalLemmas.{totals_within}
 use Rattle.rpg_cards.specs.Constants.{constants_in, is_same}
 use Rattle.rpg_card_index.specs.Totals.{constant_size}

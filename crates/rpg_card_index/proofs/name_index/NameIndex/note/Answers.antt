@@ -1,9 +1,9 @@
-use Rattle.std.proofs.Common.{◌≡◌, ◌≤◌, Bool, true, false, Some, None, cond, not, [], ◌∷◌, ◌||◌, length, ap, sym, ◌∙◌, arith}
+use Rattle.std.proofs.Common.{◌≡◌, ◌≤◌, Some, None, cond, not, [], ◌∷◌, ◌||◌, length, ap, sym, ◌∙◌, arith}
 use Rattle.std.specs.Cmp.Lexicographic.{pointwise}
 use Rattle.std.specs.List.{list_any}
 use Rattle.std.specs.Map.{lookup}
 use Rattle.std.specs.Option.{is_none, is_some, option_or}
-use Rattle.std.specs.Prelude.{ℕ, Option, nat_eq, ◌&&◌}
+use Rattle.std.specs.Prelude.{Option, nat_eq, ◌&&◌}
 use Rattle.rpg_card_index.proofs.IndexLemmas.{new_of_two, none_some}
 use Rattle.rpg_card_index.proofs.TotalLemmas.{one_more, running_more, same_name_equiv}
 use Rattle.rpg_card_index.specs.Index.{placed_definition}

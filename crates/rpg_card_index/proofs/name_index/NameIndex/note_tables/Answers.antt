@@ -1,4 +1,4 @@
-use Rattle.std.proofs.Common.{◌≡◌, subst, ap, sym, [], ◌∷◌, ◌++◌, append_assoc, ◌∙◌, map}
+use Rattle.std.proofs.Common.{subst, ap, sym, [], ◌∷◌, ◌++◌, append_assoc, ◌∙◌, map}
 use Rattle.std.specs.Option.{option_to_list}
 use Rattle.rpg_card_index.specs.Index.{IsNameIndex}
 use Rattle.rpg_cards.specs.Names.{definition_in}
