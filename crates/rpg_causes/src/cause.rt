@@ -25,7 +25,6 @@ use rpg_causes_flow::{
 use rpg_causes_operands::{
     FieldCause, IndexCause, IndicatorCause, OperandCause, Redefined, SizeCause, field_cause,
     index_cause, indicator_cause, operand_cause, redefined_name, size_cause, undefined_name,
-    with_card,
 };
 use rpg_faults::FaultCode;
 use rpg_faults_data::{DataCause, data_cause};
@@ -94,7 +93,7 @@ pub fn fault_cause(source: &AnalyzedCards, number: u16, code: FaultCode) -> Opti
         if card.number == number {
             return cause_of(source, before, card, after, code);
         }
-        before = with_card(cards, before, card, after);
+        before = cards.up_to(before, card, after);
         rest = after;
     }
     None

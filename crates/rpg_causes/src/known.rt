@@ -6,7 +6,6 @@ ghost use Rattle.rpg_faults_limits.specs.State.{AreLimits};
 
 use rpg_card_index::IndexedCards;
 use rpg_cards::SpecCard;
-use rpg_causes_operands::with_card;
 use rpg_faults_limits::{Limits, Sheets};
 use rpg_faults_tree::AnalyzedCards;
 
@@ -38,7 +37,7 @@ pub(crate) fn sheets_before(
             return sheets;
         }
         sheets = sheets.with(cards, seen, next);
-        seen = with_card(cards, seen, next, following);
+        seen = cards.up_to(seen, next, following);
         rest = following;
     }
     sheets
@@ -65,7 +64,7 @@ pub(crate) fn limits_before(
             return limits;
         }
         limits.pass(seen, next, following);
-        seen = with_card(cards, seen, next, following);
+        seen = cards.up_to(seen, next, following);
         rest = following;
     }
     limits

@@ -2,7 +2,7 @@
 
 ghost use Rattle.std.specs.Prelude.{◌≡◌, Option, is_some, option_copied, option_and_then, Some};
 ghost use Rattle.rpg_cards.specs.Files.{file_by};
-ghost use Rattle.rpg_cards.specs.Groups.{input_role, open_file, output_role};
+ghost use Rattle.rpg_cards.specs.Groups.{input_role, open_file};
 ghost use Rattle.rpg_causes.specs.Files as files;
 ghost use Rattle.rpg_causes.specs.Places as causes;
 ghost use Rattle.rpg_causes.specs.Places.{SameLength};

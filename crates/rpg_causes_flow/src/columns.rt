@@ -6,7 +6,6 @@ ghost use Rattle.rpg_cards.specs.Calculations.{CalculationGroup, open_calculatio
 ghost use Rattle.rpg_cards.specs.Cards.{calculation_on};
 ghost use Rattle.rpg_causes_flow.specs.Columns as causes;
 ghost use Rattle.rpg_faults_flow.specs.Columns as rules;
-ghost use Rattle.rpg_faults_flow.specs.Marks as marks;
 ghost use Rattle.rpg_sheet_specs.specs.declared.column_range.ColumnRange.TheVariants as range;
 ghost use Rattle.rpg_sheet_specs.specs.declared.literal.Factor.TheVariants as factor;
 

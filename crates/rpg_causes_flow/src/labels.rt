@@ -12,7 +12,7 @@ ghost use Rattle.rpg_faults_flow.specs.Flow as rules;
 
 use rpg_card_index::IndexedCards;
 use rpg_cards::{Definition, Named, SpecCard, defined_name, last_card, target_name};
-use rpg_causes_operands::{first_defining, with_card};
+use rpg_causes_operands::first_defining;
 use rpg_sheet_specs::{CalculationSpec, Word};
 use rpg_symbols::Name;
 
@@ -200,7 +200,7 @@ fn if_field(
     ensures cause { result ≡ causes.if_names_field (before.now ++ card.now ∷ []) name.now }
     ensures rule { is_some result ≡ rules.is_defined name.now (names.definitions (before.now ++ card.now ∷ [])) }
 {
-    of_field(source, with_card(source, before, card, after), name)
+    of_field(source, source.up_to(before, card, after), name)
 }
 
 fn of_field(source: &IndexedCards, cards: &[SpecCard], name: &Name) -> Option<TwiceCause>

@@ -10,7 +10,6 @@ use rpg_card_index::IndexedCards;
 use rpg_cards::{
     Named, Section, SpecCard, begins_subroutine, defined_name, last_card, target_name,
 };
-use rpg_causes_operands::with_card;
 use rpg_sheet_specs::{CalculationSpec, ControlLevel, Word};
 use rpg_symbols::Name;
 
@@ -104,7 +103,7 @@ fn first_label(name: &Name, source: &IndexedCards) -> Option<LabelOnCard>
         if found.is_some() {
             return found;
         }
-        front = with_card(source, front, card, following);
+        front = source.up_to(front, card, following);
         rest = following;
     }
     None

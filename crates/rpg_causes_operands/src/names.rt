@@ -1,6 +1,6 @@
 //! F1 and F2: names that no card defines, names that are defined again, and the cards that define names.
 
-ghost use Rattle.std.specs.Prelude.{◌≡◌, List, [], ◌∷◌, ◌++◌, ◌≤◌, length, take, false, is_some, option_and_then, option_copied};
+ghost use Rattle.std.specs.Prelude.{◌≡◌, ◌∷◌, ◌++◌, ◌≤◌, length, take, false, is_some, option_and_then, option_copied};
 ghost use Rattle.std.specs.Option.{option_map_or};
 ghost use Rattle.rpg_cards.specs.Names.{definitions};
 ghost use Rattle.rpg_cards.specs.declared.names.Definition.{Definition};
@@ -26,19 +26,6 @@ pub struct Redefined {
     pub first: FieldForm,
     /// The first card that defines it; None for UDATE and PAGE.
     pub definer: Option<u16>,
-}
-
-/// Returns the cards up to a card.
-pub fn with_card<'a>(
-    source: &IndexedCards<'a>,
-    before: &[SpecCard],
-    card: &SpecCard,
-    after: &[SpecCard],
-) -> &'a [SpecCard]
-    requires { source.now ≡ before.now ++ card.now ∷ after.now }
-    ensures { result.now ≡ before.now ++ card.now ∷ [] }
-{
-    &source.as_slice()[..before.len() + 1]
 }
 
 // ---- the card that defines a name

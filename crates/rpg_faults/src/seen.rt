@@ -52,19 +52,6 @@ impl<'a> Seen<'a> {
         self.limits.pass(before, card, after);
         self.counts = self.counts.with(before, card, after);
         self.places.pass(source, before, card, after);
-        self.before = with_card(source, before, card, after);
+        self.before = source.up_to(before, card, after);
     }
-}
-
-/// Appends a card to those before the next one.
-fn with_card<'a>(
-    source: &IndexedCards<'a>,
-    before: &[SpecCard],
-    card: &SpecCard,
-    after: &[SpecCard],
-) -> &'a [SpecCard]
-    requires { source.now ≡ before.now ++ card.now ∷ after.now }
-    ensures { result.now ≡ before.now ++ card.now ∷ [] }
-{
-    &source.as_slice()[..before.len() + 1]
 }

@@ -1,21 +1,17 @@
 -- Names that are new have no other form before.
-use Rattle.std.proofs.Common.{◌≡◌, ℕ, ◌+◌, ◌≤◌, Bool, true, false, cond, ◌||◌, List, [], ◌∷◌, ◌++◌, length, Option, None, Some, refl, sym, ap, ◌∙◌, subst, arith, append_assoc}
-use Rattle.std.proofs.lemmas.Bool.{eqb-true}
-use Rattle.std.proofs.lemmas.List.{length_push}
-use Rattle.std.specs.Bool.{OnTrue}
+use Rattle.std.proofs.Common.{◌≡◌, ◌⊎◌, inl, inr, ℕ, ◌+◌, ◌<◌, ◌≤◌, Bool, true, false, cond, ◌||◌, List, [], ◌∷◌, length, take, drop, get_or, Option, None, Some, refl, sym, ap, ◌∙◌, arith}
+use Rattle.std.proofs.lemmas.Option.{slice_get_cases}
 use Rattle.std.specs.List.{list_any}
 use Rattle.std.specs.Option.{is_some, option_map_or}
-use Rattle.std.specs.Prelude.{fold, not}
-use Rattle.std.proofs.lemmas.List.Sums.{fold-append}
-use Rattle.rpg_card_index.proofs.TotalLemmas.{kept_grow, same_name_equiv}
-use Rattle.rpg_card_index.specs.Totals.{definition_bytes}
+use Rattle.std.specs.Prelude.{not, slice_get}
+use Rattle.rpg_card_index.proofs.PlaceLemmas.{stands}
+use Rattle.rpg_card_index.specs.Index.{StandAt}
 use Rattle.rpg_cards.proofs.FieldLemmas.{known_fields}
-use Rattle.rpg_cards.proofs.InsertLemmas.{with_one}
-use Rattle.rpg_cards.specs.Insertions.{insert_all, insert_key}
-use Rattle.rpg_cards.specs.Names.{defined_as, first_form, form_by, form_in, given_names, is_of, same_name, unless_given}
+use Rattle.rpg_cards.specs.Names.{defined_as, first_form, form_by, form_in, given_names, is_new_name, is_of, same_name, unless_given}
 use Rattle.rpg_cards.specs.declared.names.Defined.{Defined}
 use Rattle.rpg_cards.specs.declared.names.Defined.TheVariants.{Missing}
 use Rattle.rpg_cards.specs.declared.names.Definition.{Definition}
+use Rattle.rpg_faults_limits.proofs.NameLemmas.{one_less}
 use Rattle.rpg_faults_limits.specs.Names.{redefine, redefines_as}
 use Rattle.rpg_program.specs.declared.form.FieldForm.{FieldForm}
 use Rattle.rpg_symbols.specs.Fields.{defined_form, given, same_form}
@@ -48,31 +44,21 @@ neither : (a b : Bool) → (a || b) ≡ false → (a ≡ false) × (b ≡ false)
 neither true b e = absurd cc
 neither false b e = (refl, e)
 
--- if as many names more are kept as there are definitions, all of them are new
-pub all_new : (front ds : List Definition) → length (insert_all same_name given_names (front ++ ds)) ≡ length (insert_all same_name given_names front) + length ds → redefine front ds ≡ false
-all_new front [] e = refl
-all_new front (d ∷ ds) e =
-    let kept = insert_all same_name given_names front in
-    let more = kept_grow same_name definition_bytes (insert_all same_name given_names (front ++ d ∷ [])) ds in
-    let both : insert_all same_name given_names ((front ++ d ∷ []) ++ ds) ≡ insert_all same_name (insert_all same_name given_names (front ++ d ∷ [])) ds = fold-append (insert_key same_name) given_names (front ++ d ∷ []) ds in
-    let moved : front ++ d ∷ ds ≡ (front ++ d ∷ []) ++ ds = sym (append_assoc front (d ∷ []) ds) in
-    let total = ap (λ (l : List Definition). length (insert_all same_name given_names l)) moved in
-    let split = ap length both in
-    let one = with_one same_name same_name_equiv given_names front d in
-    let longer = length_push kept d in
-    let known = list_any (same_name d) given_names || list_any (same_name d) front in
-    let new : known ≡ false = by_test known (ap length one) (omega (arith, more.2)) longer in
-    let apart = neither (list_any (same_name d) given_names) (list_any (same_name d) front) new in
-    let size = ap length (one ∙ ap (λ b. cond b kept (kept ++ d ∷ [])) new) in
-    let rest = all_new (front ++ d ∷ []) ds (omega (arith, more.2)) in
-    ap (λ b. b || redefine (front ++ d ∷ []) ds) (new_alone front d apart.0 apart.1) ∙ rest
+-- one more definition that is the first of its name
+pub new_here : (all items : List Definition) (place i : ℕ) (new : Bool) → StandAt place items all → i < length items → ((d : Definition) → slice_get all (place + i) ≡ Some d → new ≡ is_new_name d.name (take (place + i) all)) → new ≡ true
+    → redefine (take (place + i) all) (drop i items) ≡ redefine (take (place + (i + 1)) all) (drop (i + 1) items)
+new_here all items place i new at lt is fresh = by_item (slice_get_cases items i).1
   where
-    by_test : (b : Bool) → length (insert_all same_name given_names (front ++ d ∷ [])) ≡ length (cond b (insert_all same_name given_names front) (insert_all same_name given_names front ++ d ∷ []))
-        → length (insert_all same_name given_names front) + 1 ≤ length (insert_all same_name given_names (front ++ d ∷ []))
-        → length (insert_all same_name given_names front ++ d ∷ []) ≡ length (insert_all same_name given_names front) + 1 → b ≡ false
-    by_test true same most long = absurd (omega arith)
-    by_test false same most long = refl
+    unknown : (b : Bool) → true ≡ not b → b ≡ false
+    unknown true e = absurd cc
+    unknown false e = refl
 
-pub on_equal : {P : Type 0} (a b : ℕ) (t : Bool) → ((t ≡ true) → a ≡ b) → (a ≡ b → P) → OnTrue t P
-on_equal a b true is made = made (is refl)
-on_equal a b false is made = tt
+    by_item : ((x : Definition) × (i < length items) × (slice_get items i ≡ Some x) × (get_or items i x ≡ x)) ⊎ ((length items ≤ i) × (slice_get items i ≡ None))
+        → redefine (take (place + i) all) (drop i items) ≡ redefine (take (place + (i + 1)) all) (drop (i + 1) items)
+    by_item (inr past) = absurd (let low = past.0 in omega arith)
+    by_item (inl found) =
+        let d = found.0 in
+        let here : d ≡ get_or items i d = sym found.3 in
+        let there : slice_get all (place + i) ≡ Some d = stands all items place i d at lt here in
+        let apart = neither (list_any (is_of d.name) given_names) (list_any (is_of d.name) (take (place + i) all)) (unknown (list_any (is_of d.name) given_names || list_any (is_of d.name) (take (place + i) all)) (sym fresh ∙ is d there)) in
+        one_less all at.0 items at.1 place at.2 at.3 i d lt here (new_alone (take (place + i) all) d apart.0 apart.1)

@@ -1,6 +1,6 @@
 //! F6: limits that are exceeded.
 
-ghost use Rattle.std.specs.Prelude.{◌≡◌, [], ◌∷◌, ◌++◌, ◌≤◌, is_some, length, option_and_then};
+ghost use Rattle.std.specs.Prelude.{◌≡◌, ◌∷◌, ◌++◌, ◌≤◌, is_some, length, option_and_then};
 ghost use Rattle.rpg_cards.specs.Cards.{extension_on};
 ghost use Rattle.rpg_cards.specs.Groups.{input_role, open_group, output_role};
 ghost use Rattle.rpg_faults_limits.specs.Sheets.{AreSheets};
@@ -14,7 +14,7 @@ use crate::lines::OpenLine;
 use crate::measures::{Limit, LimitCause, counted, first_past};
 use crate::sheets::Sheets;
 use crate::state::Limits;
-use crate::storage::{all_names, constants_in, keeps_storage, names_in, with_card};
+use crate::storage::{all_names, constants_in, keeps_storage, names_in};
 use crate::types::OpenType;
 use rpg_card_index::IndexedCards;
 use rpg_cards::SpecCard;
@@ -192,7 +192,7 @@ fn on_calculations(
     None
 }
 
-/// Checks names and constants, and their bytes. If all of the source are within the limits, no card passes one.
+/// Checks names and constants, and their bytes. If those of the whole source are within the limits, no card exceeds one.
 fn on_storage(
     source: &IndexedCards,
     items: Items,
@@ -208,7 +208,7 @@ fn on_storage(
     if keeps_storage(source) {
         return None;
     }
-    let front = with_card(source, before, card, after);
+    let front = source.up_to(before, card, after);
     let with = items.with(before, card);
     let all = all_names(source);
     let names = names_in(source, items.names, before);

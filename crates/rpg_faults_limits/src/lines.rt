@@ -1,6 +1,6 @@
 //! The counts of the open line.
 
-ghost use Rattle.std.specs.Prelude.{◌≡◌, ℕ, ◌+◌, ◌≤◌, [], ◌∷◌, ◌++◌, Option, length};
+ghost use Rattle.std.specs.Prelude.{ℕ, ◌+◌, ◌≤◌, [], ◌∷◌, ◌++◌, Option, length};
 ghost use Rattle.rpg_cards.specs.Groups.{Group, open_group, output_card_role, output_role, with_card};
 ghost use Rattle.rpg_faults_limits.specs.State.{HasFewOnLine, IsOpenLine};
 ghost use Rattle.rpg_sheet_specs.specs.declared.output.OutputRecord.{OutputRecord};

@@ -1,14 +1,13 @@
 //! F2 and F3: names that are defined again in another form, and sizes over their limit.
 
-ghost use Rattle.std.specs.Prelude.{◌≡◌, List, ◌∷◌, ◌++◌, ◌≤◌, false, length, take};
+ghost use Rattle.std.specs.Prelude.{◌≡◌, ◌∷◌, ◌++◌, ◌≤◌, false, length, take};
 ghost use Rattle.std.specs.Bool.{OnTrue};
-ghost use Rattle.rpg_cards.specs.Names.{definitions};
-ghost use Rattle.rpg_cards.specs.declared.names.Definition.{Definition};
+ghost use Rattle.rpg_card_index.specs.Index.{StandAt};
+ghost use Rattle.rpg_cards.specs.Names.{definitions, definitions_on};
 ghost use Rattle.rpg_faults_limits.specs.Names as names;
 ghost use Rattle.rpg_faults_limits.specs.State.{AreLimits};
 
 use crate::state::Limits;
-use crate::storage::{names_in, with_card};
 use rpg_card_index::IndexedCards;
 use rpg_cards::{Defined, Definition, SpecCard, field_form, sized_form};
 use rpg_sheet_specs::{ExtensionSpec, InputSpec, Spec, TableSpec};
@@ -28,39 +27,30 @@ pub fn redefines(
     ensures { result ≡ names.redefines before.now card.now }
 {
     let place = limits.items.names;
-    if are_new(source, place, before, card, after) {
+    if are_new(source, place, card) {
         return false;
     }
     are_other(source, place, card.definitions().as_slice())
 }
 
-/// Whether all names that a card defines after the first `place` definitions are new, as most are.
-fn are_new(
-    source: &IndexedCards,
-    place: usize,
-    before: &[SpecCard],
-    card: &SpecCard,
-    after: &[SpecCard],
-) -> bool
-    requires split { source.now ≡ before.now ++ card.now ∷ after.now }
-    requires few { length source.now ≤ 2000 }
-    requires place { place ≡ length (definitions before.now) }
-    ensures { OnTrue result (names.redefines before.now card.now ≡ false) }
+/// Whether all definitions of a card, which follow the first `place`, are the first of their names, as most are.
+fn are_new(source: &IndexedCards, place: usize, card: &SpecCard) -> bool
+    requires few { place ≤ 4000 }
+    requires stand { StandAt place (definitions_on card.now.spec) (definitions source.now) }
+    ensures { OnTrue result (names.redefine (take place (definitions source.now)) (definitions_on card.now.spec) ≡ false) }
 {
-    let count = card.definition_count();
-    let known = names_in(source, place, before);
-    let with = names_in(
-        source,
-        place + count,
-        with_card(source, before, card, after),
-    );
-    with.number == known.number + count as u64
+    for i in 0..card.definition_count() {
+        if !source.is_first_name(place + i) {
+            return false;
+        }
+    }
+    true
 }
 
 /// Whether one of these, which follow the first `place` definitions, differs in form from those before it.
 fn are_other(source: &IndexedCards, place: usize, items: &[Definition]) -> bool
     requires few { place ≤ 4000 }
-    requires stand { (front : List Definition) × (back : List Definition) × (place ≡ length front) × (definitions source.now ≡ front ++ (items.now ++ back)) }
+    requires stand { StandAt place items.now (definitions source.now) }
     ensures { result ≡ names.redefine (take place (definitions source.now)) items.now }
 {
     for (i, definition) in items.iter().enumerate() {

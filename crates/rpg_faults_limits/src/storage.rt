@@ -1,6 +1,6 @@
 //! The names and constants of cards, which take storage.
 
-ghost use Rattle.std.specs.Prelude.{◌≡◌, [], ◌∷◌, ◌++◌, ◌+◌, ◌≤◌, length};
+ghost use Rattle.std.specs.Prelude.{◌≡◌, ◌≤◌, length};
 ghost use Rattle.std.specs.Bool.{OnTrue};
 ghost use Rattle.rpg_cards.specs.Constants as constants;
 ghost use Rattle.rpg_cards.specs.Names.{definitions};
@@ -57,17 +57,4 @@ pub(crate) fn constants_in(source: &IndexedCards, count: usize, front: &[SpecCar
 {
     let _ = front;
     source.constant_totals(count)
-}
-
-/// Returns the cards before a card, and the card.
-pub(crate) fn with_card<'a>(
-    source: &IndexedCards<'a>,
-    before: &[SpecCard],
-    card: &SpecCard,
-    after: &[SpecCard],
-) -> &'a [SpecCard]
-    requires { source.now ≡ before.now ++ card.now ∷ after.now }
-    ensures { result.now ≡ before.now ++ card.now ∷ [] }
-{
-    &source.as_slice()[..before.len() + 1]
 }

@@ -20,8 +20,8 @@ loop-next-preserved c =
     let next = c.in-Some.next.now in
     let following = c.in-Some.following.now in
     let here : c.args.source.now.cards.now ≡ seen ++ next ∷ following = c.loop-next.invariant.split ∙ ap (λ rest. seen ++ rest) c.in-Some.ensures.cases.0 in
-    let front : c.with_card-seen.result.now ≡ seen ++ next ∷ [] = c.with_card-seen.ensures in
-    let longer : length c.with_card-seen.result.now ≡ length seen + 1 = ap (λ cs. length cs) front ∙ length_push seen next in
+    let front : c.up_to-seen.result.now ≡ seen ++ next ∷ [] = c.up_to-seen.ensures in
+    let longer : length c.up_to-seen.result.now ≡ length seen + 1 = ap (λ cs. length cs) front ∙ length_push seen next in
     record {
       split = here ∙ sym (append_assoc seen (next ∷ []) following) ∙ ap (λ b. b ++ following) (sym front);
       few = omega (arith, longer, c.if-place-count.false, c.loop-next.invariant.few);

@@ -11,17 +11,17 @@ pub returns-then-keeps_storage : goal.returns-then-keeps_storage
 returns-then-keeps_storage c = sym (kept_storage c.args.source.now c.args.before.now c.args.card.now c.args.after.now c.requires.split c.if-keeps_storage.ensures)
 
 pub names_in-names_with-requires-clause-front : goal.names_in-names_with-requires-clause-front
-names_in-names_with-requires-clause-front c = with_first c.args.source.now c.args.before.now c.args.card.now c.args.after.now c.with_card-front.result.now c.requires.split c.with_card-front.ensures
+names_in-names_with-requires-clause-front c = with_first c.args.source.now c.args.before.now c.args.card.now c.args.after.now c.up_to-front.result.now c.requires.split c.up_to-front.ensures
 
 pub constants_in-constants_with-requires-clause-front : goal.constants_in-constants_with-requires-clause-front
-constants_in-constants_with-requires-clause-front c = with_first c.args.source.now c.args.before.now c.args.card.now c.args.after.now c.with_card-front.result.now c.requires.split c.with_card-front.ensures
+constants_in-constants_with-requires-clause-front c = with_first c.args.source.now c.args.before.now c.args.card.now c.args.after.now c.up_to-front.result.now c.requires.split c.up_to-front.ensures
 
 pub returns : goal.returns
 returns c =
     let cards = c.args.source.now in
     let before = c.args.before.now in
     let card = c.args.card.now in
-    let front = c.with_card-front.ensures in
+    let front = c.up_to-front.ensures in
     let all = c.all_names-all.ensures in
     let with_names = c.names_in-names_with.ensures in
     let with_constants = c.constants_in-constants_with.ensures in

@@ -8,7 +8,7 @@ pub returns-clause-seen : goal.returns-clause-seen
 returns-clause-seen c =
     let cards = c.args.source.now in
     let after = c.args.after.now in
-    let same = sym c.with_card-self.ensures in
+    let same = sym c.up_to-self.ensures in
     record {
       split = c.requires.split ∙ sym (append_assoc c.args.self.now.before.now (c.args.card.now ∷ []) after) ∙ ap (λ b. b ++ after) same;
       few = c.requires.few;
@@ -16,5 +16,5 @@ returns-clause-seen c =
       sheets = subst (λ b. AreSheets cards b c.with-self.result) same c.with-self.ensures;
       limits = subst (λ b. AreLimits b after c.pass.new.self) same c.pass.ensures;
       counts = subst (λ b. AreCounts b after c.with-self-2.result) same c.with-self-2.ensures;
-      places = rw c.with_card-self.ensures c.pass-2.ensures;
+      places = rw c.up_to-self.ensures c.pass-2.ensures;
     }
