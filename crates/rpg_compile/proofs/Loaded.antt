@@ -25,7 +25,7 @@ use Rattle.rpg_sheet_specs.specs.declared.extension.ExtensionSpec.{ExtensionSpec
 use Rattle.rpg_sheet_specs.specs.declared.extension.TableSpec.{TableSpec}
 use Rattle.rpg_sheet_specs.specs.declared.spec.Spec.{Spec}
 use Rattle.rpg_sheet_specs.specs.declared.spec.Spec.TheVariants as spec
-use Rattle.rpg_compile_program.proofs.Definitions.{HasForm, IsForm}
+use Rattle.rpg_compile_program.specs.Defined.{HasForm, IsForm}
 use Rattle.rpg_compile_program.proofs.Lists.{Seen, or_first}
 use Rattle.rpg_compile_program.proofs.Redefined.{HasName}
 use Rattle.rpg_compile_program.specs.Data.{Loaded, all_loaded, decks, entry_value, extensions, loaded, tables_loaded, with_deck}

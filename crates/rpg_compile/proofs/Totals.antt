@@ -1,56 +1,32 @@
 -- The names and constants of a source without a fault are no more, and take no more storage, than an object program may have.
-use Rattle.std.proofs.Common.{◌≡◌, ℕ, ◌+◌, ◌≤◌, Bool, true, false, cond, map, List, [], ◌∷◌, ◌++◌, length, length-append, Option, None, Some, refl, sym, ap, ◌∙◌, arith}
+use Rattle.std.proofs.Common.{◌≡◌, ℕ, ◌+◌, ◌≤◌, Bool, true, false, cond, map, List, [], ◌∷◌, ◌++◌, length, length-append, None, Some, refl, ap, ◌∙◌, arith}
 use Rattle.std.proofs.lemmas.Bool.{ltb-true}
-use Rattle.std.proofs.lemmas.List.{length-map, map-append}
+use Rattle.std.proofs.lemmas.List.{length-map}
 use Rattle.std.proofs.lemmas.List.Sums.{sum_by-cons}
 use Rattle.std.proofs.lemmas.Map.Entries.{length-keys_of}
 use Rattle.std.specs.Cmp.Lexicographic.{pointwise}
 use Rattle.std.specs.List.{position_or_len}
 use Rattle.std.specs.Map.{keys_of}
 use Rattle.std.specs.Option.{option_map}
-use Rattle.std.specs.Prelude.{is_some, nat_eq, nat_lt, sum_by, unwrap_or}
+use Rattle.std.specs.Prelude.{nat_eq, nat_lt, sum_by, unwrap_or}
 use Rattle.rpg_card_index.specs.Totals.{constant_size, definition_bytes}
-use Rattle.rpg_cards.specs.Insertions.{insert_all, insert_key}
-use Rattle.rpg_cards.specs.Plain.{Each}
-use Rattle.rpg_cards.proofs.FieldLemmas.{known_fields}
 use Rattle.rpg_cards.specs.Constants.{constant_form, constants}
-use Rattle.rpg_cards.specs.Names.{defined_field, definitions, names, same_name}
+use Rattle.rpg_cards.specs.Names.{defined_field, names}
 use Rattle.rpg_cards.specs.declared.constants.Constant.{Constant}
-use Rattle.rpg_cards.specs.declared.names.Definition.{Definition}
 use Rattle.rpg_cards.specs.declared.spec_card.SpecCard.{SpecCard}
 use Rattle.rpg_program.specs.Forms.{size_of}
 use Rattle.rpg_program.specs.declared.form.FieldForm.{FieldForm}
 use Rattle.rpg_faults_limits.specs.Limits.{bytes_up_to, constant_bytes, fields_up_to, name_bytes, name_count}
 use Rattle.rpg_program.specs.Kept.{storage_of}
 use Rattle.rpg_compile.proofs.Walks.{unpassed}
-use Rattle.rpg_symbols.specs.Fields.{NamedForms, defined_form, given, storage}
-use Rattle.rpg_compile_program.proofs.Definitions.{HasForm, IsForm}
+use Rattle.rpg_symbols.specs.Fields.{NamedForms, storage}
+use Rattle.rpg_compile_program.proofs.Fields.{names_are}
 use Rattle.rpg_compile_program.proofs.Known.{defined}
 use Rattle.rpg_compile_program.proofs.Lists.{all_within}
 use Rattle.rpg_compile_program.specs.Rules.{KeepsCardRules}
-use Rattle.rpg_compile_program.specs.Table.{defined_fields, forms, name_forms, name_number, table_of, with_definition, with_definitions, with_form}
+use Rattle.rpg_compile_program.specs.Table.{defined_fields, forms, name_forms, name_number, table_of}
 
--- ---- where every definition has a form, the names are those of the fields
-
-abbrev with_its_form : List ℕ → Option FieldForm → Definition
-with_its_form name o = record { name = name; form = o }
-
-one_name : (fs : NamedForms) (d : Definition) → HasForm d → insert_key same_name (map defined_field fs) d ≡ map defined_field (with_definition fs d)
-one_name fs d valid = by_form d.form refl valid
-  where
-    by_cases : (b : Bool) (form : FieldForm) → cond b (map defined_field fs) (map defined_field fs ++ defined_field (d.name, form) ∷ []) ≡ map defined_field (cond b fs (fs ++ (d.name, form) ∷ []))
-    by_cases true form = refl
-    by_cases false form = sym (map-append defined_field fs ((d.name, form) ∷ []))
-
-    by_form : (o : Option FieldForm) → d.form ≡ o → IsForm o → insert_key same_name (map defined_field fs) d ≡ map defined_field (with_form fs d.name o)
-    by_form None e valid = absurd valid
-    by_form (Some form) e valid =
-        ap (λ b. cond b (map defined_field fs) (map defined_field fs ++ d ∷ [])) (known_fields fs d.name)
-        ∙ ap (λ (o : Option FieldForm). cond (is_some (defined_form fs d.name)) (map defined_field fs) (map defined_field fs ++ with_its_form d.name o ∷ [])) e ∙ by_cases (is_some (defined_form fs d.name)) form
-
-names_with : (fs : NamedForms) (ds : List Definition) → Each HasForm ds → insert_all same_name (map defined_field fs) ds ≡ map defined_field (with_definitions fs ds)
-names_with fs [] valid = refl
-names_with fs (d ∷ ds) valid = ap (λ (known : List Definition). insert_all same_name known ds) (one_name fs d valid.0) ∙ names_with (with_definition fs d) ds valid.1
+-- ---- bytes of names
 
 bytes_by_name : (fs : NamedForms) → sum_by definition_bytes (map defined_field fs) ≡ storage fs
 bytes_by_name [] = refl
@@ -89,14 +65,11 @@ number_within cards name =
     omega (arith, here, same)
 
 module _ (cards : List SpecCard) (rules : KeepsCardRules cards) where
-  names_are : names cards ≡ map defined_field (defined_fields cards)
-  names_are = names_with given (definitions cards) (defined cards rules)
-
   bytes_are : name_bytes cards ≡ storage (defined_fields cards)
-  bytes_are = ap (sum_by definition_bytes) names_are ∙ bytes_by_name (defined_fields cards)
+  bytes_are = ap (sum_by definition_bytes) (names_are cards (defined cards rules)) ∙ bytes_by_name (defined_fields cards)
 
   numbers_are : name_count cards ≡ length (defined_fields cards)
-  numbers_are = ap length names_are ∙ length-map (defined_fields cards) defined_field
+  numbers_are = ap length (names_are cards (defined cards rules)) ∙ length-map (defined_fields cards) defined_field
 
   -- ---- within the limits
 

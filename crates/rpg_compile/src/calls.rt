@@ -1,6 +1,6 @@
 //! Calls of subroutines by subroutines, and their levels.
 
-ghost use Rattle.std.specs.Prelude.{◌≡◌, ◌++◌, ◌+◌, ◌<◌, ◌≤◌, ℕ, List, Option, length, IfOk, OnOk};
+ghost use Rattle.std.specs.Prelude.{◌≡◌, ◌++◌, ◌+◌, ◌<◌, ℕ, List, Option, length, IfOk, OnOk};
 ghost use Rattle.rpg_cards.specs.Calculations.{calculations};
 ghost use Rattle.rpg_cards.specs.Statements.{statement_of};
 ghost use Rattle.rpg_cards.specs.Plain.{ArePlain, calls_of};

@@ -1,6 +1,6 @@
 //! Groups: a C card with the AN and OR cards that follow it.
 
-ghost use Rattle.std.specs.Prelude.{◌≡◌, ◌+◌, ◌≤◌, ◌<◌, ◌∷◌, [], length, take, drop, None, Some, unwrap_or, MatchOption};
+ghost use Rattle.std.specs.Prelude.{◌≡◌, ◌≤◌, ◌<◌, ◌∷◌, [], length, take, drop, None, Some, unwrap_or, MatchOption};
 ghost use Rattle.std.specs.List.{last_or};
 ghost use Rattle.rpg_cards.specs.Calculations as calculations;
 ghost use Rattle.rpg_compile_program.specs.Code as code_of;

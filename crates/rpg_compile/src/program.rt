@@ -3,15 +3,10 @@
 ghost use Rattle.std.specs.Prelude.{◌≡◌, ◌<◌, ◌≤◌, length, is_some, option_copied, IfOk};
 ghost use Rattle.std.specs.Option.{option_and_then};
 ghost use Rattle.rpg_faults.specs.Faults.{Faultless};
-ghost use Rattle.rpg_faults_flow.specs.Kept.{KeepsRule};
-ghost use Rattle.rpg_faults_limits.specs.Names.{bad_size};
-ghost use Rattle.rpg_program.specs.Kept.{AreValuesOf};
-ghost use Rattle.rpg_compile.specs.Limits.{KeepsLimits};
+ghost use Rattle.rpg_compile.specs.Limits.{HasProgram};
 ghost use Rattle.rpg_verify_rules.specs.Accepted.{IsAccepted};
-ghost use Rattle.rpg_compile_program.specs.Data.{values_of};
 ghost use Rattle.rpg_compile_program.specs.Lines as lines;
 ghost use Rattle.rpg_compile_program.specs.Program as programs;
-ghost use Rattle.rpg_compile_program.specs.Table.{forms, table_of};
 
 use crate::rows::{SectionRows, section_rows};
 use crate::{
@@ -19,7 +14,7 @@ use crate::{
     faultless_sources_keep_limits,
 };
 use rpg_card_index::IndexedCards;
-use rpg_cards::{FileUse, SpecCard, file_for, has_match_field};
+use rpg_cards::FileUse;
 use rpg_compile_layouts::{Fields, fields_of, lines_of, types_of};
 use rpg_program::Program;
 use rpg_program::rows::{Rows, Version};
@@ -42,25 +37,17 @@ pub fn translate(
     faultless_sources_are_accepted(cards);
     faultless_sources_keep_limits(cards);
     faultless_sources_fill_their_fields(cards);
-    program_of(alloc, source, cards, allowance)
+    program_of(alloc, source, allowance)
 }
 
 /// Compiles cards that keep the limits of a program.
-fn program_of(
-    alloc: Global,
-    source: &IndexedCards,
-    cards: &[SpecCard],
-    allowance: u16,
-) -> Result<Program, AllocError>
-    requires same { source.now ≡ cards.now }
+fn program_of(alloc: Global, source: &IndexedCards, allowance: u16) -> Result<Program, AllocError>
     requires allowed { 0 < allowance }
-    requires few { length cards.now ≤ 2000 }
-    requires limits { KeepsLimits cards.now }
-    requires sizes { KeepsRule (λ before c after. bad_size c) cards.now }
-    requires values { AreValuesOf (forms (table_of cards.now)) (values_of cards.now) }
-    requires accepted { IsAccepted (programs.program_of cards.now allowance) }
-    ensures { IfOk result (λ p. p ≡ programs.program_of cards.now allowance) }
+    requires few { length source.now ≤ 2000 }
+    requires kept { HasProgram source.now allowance }
+    ensures { IfOk result (λ p. p ≡ programs.program_of source.now allowance) }
 {
+    let cards = source.as_slice();
     let Fields {
         table,
         forms: fields,
@@ -73,15 +60,15 @@ fn program_of(
         total,
         subroutines,
     } = section_rows(alloc, &table, cards)?;
-    let secondary = file_for(FileUse::Secondary, cards);
-    let printer = file_for(FileUse::Printer, cards);
+    let secondary = source.file_for(FileUse::Secondary);
+    let printer = source.file_for(FileUse::Printer);
     Ok(Program::build(Rows {
-        version: version_for(secondary, has_match_field(cards)),
+        version: version_for(secondary, source.has_match_field()),
         allowance,
-        record_length: length_of(file_for(FileUse::Primary, cards)),
+        record_length: length_of(source.file_for(FileUse::Primary)),
         secondary_length: length_of(secondary),
         printer_length: length_of(printer),
-        disk_length: length_of(file_for(FileUse::Disk, cards)),
+        disk_length: length_of(source.file_for(FileUse::Disk)),
         overflow: overflow_of(printer),
         fields,
         values,

@@ -1,6 +1,8 @@
-pub mod Distinct
+pub mod Constants
 pub mod Held
 pub mod Loaded
+pub mod Names
+pub mod Numbered
 pub mod Parts
 pub mod Rows
 pub mod Tables

@@ -1,6 +1,6 @@
 //! The codes of record types.
 
-ghost use Rattle.std.specs.Prelude.{◌≡◌, ◌++◌, [], ◌∷◌, All, IfOk, OnOk};
+ghost use Rattle.std.specs.Prelude.{◌≡◌, ◌++◌, All, IfOk, OnOk};
 ghost use Rattle.std.specs.Option.{option_map, option_to_list};
 ghost use Rattle.rpg_compile_layouts.specs.Parts.{codes_after};
 ghost use Rattle.rpg_program.specs.Kept.{IsCodeRow};

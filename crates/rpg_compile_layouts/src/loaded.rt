@@ -1,6 +1,6 @@
 //! The data of arrays and tables, by their names.
 
-ghost use Rattle.std.specs.Prelude.{◌≡◌, [], ◌∷◌, ◌++◌, map, false, IfOk, OnOk, MatchOption};
+ghost use Rattle.std.specs.Prelude.{◌≡◌, [], ◌∷◌, ◌++◌, map, false, IfOk, OnOk};
 ghost use Rattle.rpg_program.specs.Values.{entries_held};
 ghost use Rattle.rpg_compile_layouts.specs.Loaded.{HasSameData, TakesDeck, tables_after};
 ghost use Rattle.rpg_compile_layouts.specs.Tables.{values_on};
@@ -126,6 +126,9 @@ impl<'a> Loaded<'a> {
     ) -> Result<FieldValues, AllocError>
         ensures { IfOk result (λ v. entries_held v ≡ loads.field_values self.now (name.now, form.now)) }
     {
+        if self.tables.is_empty() {
+            return empty_values(alloc, form);
+        }
         match self.tables.get(name) {
             Some(table) => table.values(alloc),
             None => empty_values(alloc, form),

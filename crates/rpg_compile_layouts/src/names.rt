@@ -1,174 +1,127 @@
-//! The names of a program.
+//! The fields of a program's names.
 
-ghost use Rattle.std.specs.Prelude.{◌≡◌, ◌≤◌, [], ◌∷◌, codes, length, map, IfOk, OnOk};
-ghost use Rattle.rpg_cards.specs.Names.{definitions_on};
-ghost use Rattle.rpg_compile_layouts.specs.Held.{held_values};
-ghost use Rattle.rpg_compile_program.specs.Data.{field_values};
+ghost use Rattle.std.specs.Prelude.{◌≡◌, ◌+◌, Some, length, slice_get, IfOk, OnOk};
+ghost use Rattle.rpg_cards.specs.Names.{definitions, definitions_on};
+ghost use Rattle.rpg_card_index.specs.Index.{StandAt};
+ghost use Rattle.rpg_compile_layouts.specs.Names.{AddsField, AddsNames, AreFieldsOf};
+ghost use Rattle.rpg_compile_program.specs.Defined.{AreDefined};
 ghost use Rattle.rpg_compile_program.specs.Table as fields;
-ghost use Rattle.rpg_symbols.specs.Fields.{given, storage};
+ghost use Rattle.rpg_symbols.specs.Fields.{given};
 
 use crate::loaded::Loaded;
+use rpg_card_index::IndexedCards;
 use rpg_cards::{Definition, SpecCard};
-use rpg_program::form::FieldForm;
+use rpg_program::form::{Class, FieldForm};
 use rpg_program::value::FieldValues;
-use rpg_sheet_specs::Spec;
-use rpg_symbols::{DefineFault, Name, Symbols};
+use rpg_symbols::{Name, number_form};
 use std::alloc::{AllocError, Global};
 
-/// The names of a program with their numbers, and, in numeric order, their forms and their values before the first cycle.
+/// The forms of fields and their values before the first cycle, in numeric order.
 #[derive(Drop)]
-pub(crate) struct NameTable {
-    pub(crate) symbols: Symbols,
+pub(crate) struct FieldRows {
     pub(crate) forms: Vec<FieldForm>,
     pub(crate) values: Vec<FieldValues>,
 }
 
-impl NameTable {
-    /// Returns the names that cards define, with room for so many fields.
+impl FieldRows {
+    /// Returns the fields of the names that cards define, with room for `room` fields.
     pub(crate) fn of_cards(
         alloc: Global,
         loaded: &Loaded,
-        cards: &[SpecCard],
+        source: &IndexedCards,
         room: usize,
     ) -> Result<Self, AllocError>
-        requires few { length (fields.defined_fields cards.now) ≤ 4000 }
-        requires storage { storage (fields.defined_fields cards.now) ≤ 65535 }
-        ensures symbols { IfOk result (λ t. t.symbols ≡ fields.defined_fields cards.now) }
-        ensures forms { IfOk result (λ t. t.forms.items ≡ fields.name_forms (fields.defined_fields cards.now)) }
-        ensures values { IfOk result (λ t. held_values t.values.items ≡ map (field_values loaded.now) (fields.defined_fields cards.now)) }
+        requires { AreDefined source.now }
+        ensures { IfOk result (AreFieldsOf loaded.now (fields.defined_fields source.now)) }
     {
-        let mut table = NameTable::given(alloc, loaded)?;
-        table.forms.reserve(room)?;
-        table.values.reserve(room)?;
-        for card in cards {
-            table.define_on(alloc, loaded, card)?;
+        let mut fields = FieldRows::given(alloc, loaded, room)?;
+        let mut place = 0;
+        for card in source.as_slice() {
+            place = fields.add_on(alloc, loaded, source, place, card)?;
         }
-        Ok(table)
+        Ok(fields)
     }
 
-    /// Returns the names that every program has.
-    fn given(alloc: Global, loaded: &Loaded) -> Result<Self, AllocError>
-        ensures symbols { IfOk result (λ t. t.symbols ≡ given) }
-        ensures forms { IfOk result (λ t. t.forms.items ≡ fields.name_forms given) }
-        ensures values { IfOk result (λ t. held_values t.values.items ≡ map (field_values loaded.now) given) }
+    /// Returns the fields that every program has, with room for `room` fields.
+    fn given(alloc: Global, loaded: &Loaded, room: usize) -> Result<Self, AllocError>
+        ensures { IfOk result (AreFieldsOf loaded.now given) }
     {
-        let Ok(symbols) = Symbols::new(alloc) else {
-            return Err(AllocError);
+        let mut fields = FieldRows {
+            forms: Vec::with_capacity(alloc, room)?,
+            values: Vec::with_capacity(alloc, room)?,
         };
-        let date = symbols.form(1);
-        let page = symbols.form(2);
-        let values = given_values(alloc, loaded, &date, &page)?;
-        let forms = vec![in alloc; date, page]?;
-        Ok(NameTable {
-            symbols,
-            forms,
-            values,
-        })
+        fields.add(
+            alloc,
+            loaded,
+            &Name::new(b"UDATE"),
+            number_form(Class::Date, 6),
+        )?;
+        fields.add(
+            alloc,
+            loaded,
+            &Name::new(b"PAGE"),
+            number_form(Class::Plain, 4),
+        )?;
+        Ok(fields)
     }
 
-    /// Adds a field for each new name that a card defines.
-    fn define_on(
+    /// Adds the names that a card is the first to define. Its first definition is at `start`. Returns the place after its last.
+    fn add_on(
         &mut self,
         alloc: Global,
         loaded: &Loaded,
+        source: &IndexedCards,
+        start: usize,
         card: &SpecCard,
-    ) -> Result<(), AllocError>
-        requires same { self.old.forms.items ≡ fields.name_forms self.old.symbols }
-        requires values { held_values self.old.values.items ≡ map (field_values loaded.now) self.old.symbols }
-        requires few { length (fields.with_definitions self.old.symbols (definitions_on card.now.spec)) ≤ 4000 }
-        requires room { storage (fields.with_definitions self.old.symbols (definitions_on card.now.spec)) ≤ 65535 }
-        ensures symbols { OnOk result (self.new.symbols ≡ fields.with_definitions self.old.symbols (definitions_on card.now.spec)) }
-        ensures forms { OnOk result (self.new.forms.items ≡ fields.name_forms self.new.symbols) }
-        ensures values { OnOk result (held_values self.new.values.items ≡ map (field_values loaded.now) self.new.symbols) }
+    ) -> Result<usize, AllocError>
+        requires defined { AreDefined source.now }
+        requires stand { StandAt start (definitions_on card.now.spec) (definitions source.now) }
+        ensures place { IfOk result (λ place. place ≡ start + length (definitions_on card.now.spec)) }
+        ensures added { IfOk result (λ place. AddsNames loaded.now source.now start place self.old self.new) }
     {
-        match &card.spec {
-            Spec::Output(_) | Spec::Data(_) => Ok(()),
-            _ => self.define_all(alloc, loaded, card.definitions().as_slice()),
+        source.keeps_limit();
+        let definitions = card.definitions();
+        let mut place = start;
+        for definition in definitions.as_slice() {
+            self.add_if_first(alloc, loaded, source, place, definition)?;
+            place += 1;
         }
+        Ok(place)
     }
 
-    fn define_all(
+    /// Adds the field of the definition at a place, if it is the first of its name.
+    fn add_if_first(
         &mut self,
         alloc: Global,
         loaded: &Loaded,
-        definitions: &[Definition],
-    ) -> Result<(), AllocError>
-        requires same { self.old.forms.items ≡ fields.name_forms self.old.symbols }
-        requires values { held_values self.old.values.items ≡ map (field_values loaded.now) self.old.symbols }
-        requires few { length (fields.with_definitions self.old.symbols definitions.now) ≤ 4000 }
-        requires room { storage (fields.with_definitions self.old.symbols definitions.now) ≤ 65535 }
-        ensures symbols { OnOk result (self.new.symbols ≡ fields.with_definitions self.old.symbols definitions.now) }
-        ensures forms { OnOk result (self.new.forms.items ≡ fields.name_forms self.new.symbols) }
-        ensures values { OnOk result (held_values self.new.values.items ≡ map (field_values loaded.now) self.new.symbols) }
-    {
-        for definition in definitions {
-            self.define(alloc, loaded, definition)?;
-        }
-        Ok(())
-    }
-
-    /// Adds a field, if the definition has a form and its name is new.
-    fn define(
-        &mut self,
-        alloc: Global,
-        loaded: &Loaded,
+        source: &IndexedCards,
+        place: usize,
         definition: &Definition,
     ) -> Result<(), AllocError>
-        requires same { self.old.forms.items ≡ fields.name_forms self.old.symbols }
-        requires values { held_values self.old.values.items ≡ map (field_values loaded.now) self.old.symbols }
-        requires few { length (fields.with_definition self.old.symbols definition.now) ≤ 4000 }
-        requires room { storage (fields.with_definition self.old.symbols definition.now) ≤ 65535 }
-        ensures symbols { OnOk result (self.new.symbols ≡ fields.with_definition self.old.symbols definition.now) }
-        ensures forms { OnOk result (self.new.forms.items ≡ fields.name_forms self.new.symbols) }
-        ensures values { OnOk result (held_values self.new.values.items ≡ map (field_values loaded.now) self.new.symbols) }
+        requires defined { AreDefined source.now }
+        requires stands { slice_get (definitions source.now) place ≡ Some definition.now }
+        ensures { OnOk result (AddsNames loaded.now source.now place (place + 1) self.old self.new) }
     {
+        if !source.is_first_name(place) {
+            return Ok(());
+        }
         match definition.form {
-            Some(form) => self.define_name(alloc, loaded, &definition.name, form),
-            None => Ok(()),
+            Some(form) => self.add(alloc, loaded, &definition.name, form),
+            None => unreachable!(),
         }
     }
 
-    /// Adds a field, if its name is new.
-    fn define_name(
+    fn add(
         &mut self,
         alloc: Global,
         loaded: &Loaded,
         name: &Name,
         form: FieldForm,
     ) -> Result<(), AllocError>
-        requires same { self.old.forms.items ≡ fields.name_forms self.old.symbols }
-        requires values { held_values self.old.values.items ≡ map (field_values loaded.now) self.old.symbols }
-        requires few { length (fields.with_name self.old.symbols name.now form) ≤ 4000 }
-        requires room { storage (fields.with_name self.old.symbols name.now form) ≤ 65535 }
-        ensures symbols { OnOk result (self.new.symbols ≡ fields.with_name self.old.symbols name.now form) }
-        ensures forms { OnOk result (self.new.forms.items ≡ fields.name_forms self.new.symbols) }
-        ensures values { OnOk result (held_values self.new.values.items ≡ map (field_values loaded.now) self.new.symbols) }
+        ensures { OnOk result (AddsField loaded.now name.now form self.old self.new) }
     {
-        match self.symbols.define(Name::new(name.as_slice()), form) {
-            Ok(number) => {
-                if number as usize > self.forms.len() {
-                    self.forms.push(form)?;
-                    self.values.push(loaded.values_of(alloc, name, &form)?)?;
-                }
-                Ok(())
-            }
-            Err(DefineFault::Other) => Ok(()),
-            Err(DefineFault::Full) => unreachable!(),
-            Err(DefineFault::NoMemory) => Err(AllocError),
-        }
+        self.forms.push(form)?;
+        self.values.push(loaded.values_of(alloc, name, &form)?)?;
+        Ok(())
     }
-}
-
-/// Returns the values of the fields that every program has.
-fn given_values(
-    alloc: Global,
-    loaded: &Loaded,
-    date: &FieldForm,
-    page: &FieldForm,
-) -> Result<Vec<FieldValues>, AllocError>
-    ensures { IfOk result (λ v. held_values v.items ≡ field_values loaded.now (codes "UDATE", date.now) ∷ field_values loaded.now (codes "PAGE", page.now) ∷ []) }
-{
-    let date = loaded.values_of(alloc, &Name::new(b"UDATE"), date)?;
-    let page = loaded.values_of(alloc, &Name::new(b"PAGE"), page)?;
-    Ok(vec![in alloc; date, page]?)
 }

@@ -1,58 +1,54 @@
 //! The numbers of names and constants.
 
-ghost use Rattle.std.specs.Prelude.{◌≡◌, ◌+◌, ◌≤◌, ◌<◌, length};
-ghost use Rattle.rpg_cards.specs.Constants.{constants};
+ghost use Rattle.std.specs.Prelude.{◌≡◌};
 ghost use Rattle.rpg_cards.specs.Keys as keys;
 ghost use Rattle.rpg_effect_renaming.specs.Naming.{renamed_index, renamed_operand};
+ghost use Rattle.rpg_compile_layouts.specs.Numbered.{IsNumbered};
 ghost use Rattle.rpg_compile_program.specs.Table as table;
 
 use rpg_card_index::IndexedCards;
 use rpg_cards::{Constant, factor_constant};
 use rpg_program::operation::{Index, Operand};
 use rpg_sheet_specs::{Entry, EntryIndex, Factor};
-use rpg_symbols::{Name, Symbols};
+use rpg_symbols::Name;
 use std::marker::Model;
 
 /// The fields of a program: names, then constants.
 #[derive(Drop)]
 pub struct FieldTable<'a> {
-    symbols: Symbols,
     /// How many names there are.
     names: u16,
-    /// The cards, which have the constants.
+    /// The cards, which define the names and have the constants.
     source: &'a IndexedCards<'a>,
 }
 
 impl<'a> Model for FieldTable<'a> {
-    ghost use Rattle.std.specs.Prelude.{◌≡◌, ◌+◌, ◌≤◌, length};
-    ghost use Rattle.rpg_cards.specs.Constants.{constants};
-    ghost use Rattle.rpg_compile_program.specs.Table.{Table};
+    ghost use Rattle.rpg_compile_layouts.specs.Numbered.{IsNumbered};
+    ghost use Rattle.rpg_compile_program.specs.Table.{table_of, Table};
 
     ghost Value = { Table };
 
-    ghost view = { λ t. record { names = t.symbols; constants = constants t.source.now } };
+    ghost view = { λ t. table_of t.source.now };
 
-    ghost invariant = { λ t. (t.names ≡ length t.symbols) × (length t.symbols + length (constants t.source.now) ≤ 4000) };
+    ghost invariant = { λ t. IsNumbered t.names t.source.now };
 }
 
 impl<'a> FieldTable<'a> {
-    pub(crate) fn new(symbols: Symbols, names: u16, source: &'a IndexedCards<'a>) -> Self
-        requires names { names ≡ length symbols }
-        requires few { length symbols + length (constants source.now) ≤ 4000 }
-        ensures { result ≡ record { names = symbols; constants = constants source.now } }
+    pub(crate) fn new(names: u16, source: &'a IndexedCards<'a>) -> Self
+        requires { IsNumbered names source.now }
+        ensures { result ≡ table.table_of source.now }
     {
-        FieldTable {
-            symbols,
-            names,
-            source,
-        }
+        FieldTable { names, source }
     }
 
     /// Returns the number of a name, 0 if it isn't defined.
     pub fn name_number(&self, name: &Name) -> u16
         ensures { result ≡ table.name_number self.now name.now }
     {
-        self.symbols.look(name).unwrap_or(0)
+        match self.source.name_place(name) {
+            None => 0,
+            Some(place) => place as u16 + 1,
+        }
     }
 
     /// Returns the number of a constant, 0 if no card has it.

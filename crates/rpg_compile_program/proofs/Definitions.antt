@@ -8,7 +8,6 @@ use Rattle.rpg_compile_program.proofs.Lists.{Seen, each_card, or_first, or_secon
 use Rattle.rpg_cards.specs.Plain.{Each}
 use Rattle.rpg_cards.specs.Cards.{calculation_on, extension_on, input_field_on}
 use Rattle.rpg_cards.specs.Names.{definition_by, definition_in, definition_of, definitions, definitions_on, form_with, sized, sized_form, table_class, tables_on}
-use Rattle.rpg_cards.specs.declared.names.Definition.{Definition}
 use Rattle.rpg_cards.specs.declared.spec_card.SpecCard.{SpecCard}
 use Rattle.rpg_compile_program.proofs.Each.{each_append}
 use Rattle.rpg_program.specs.declared.form.Class.TheVariants as class
@@ -23,16 +22,7 @@ use Rattle.rpg_sheet_specs.specs.declared.extension.ExtensionSpec.{ExtensionSpec
 use Rattle.rpg_sheet_specs.specs.declared.extension.TableSpec.{TableSpec}
 use Rattle.rpg_sheet_specs.specs.declared.input.InputFieldSpec.{InputFieldSpec}
 use Rattle.rpg_text.specs.Texts.{is_between}
-
-abbrev pub IsForm : Option FieldForm → Type 0
-IsForm None = ⊥
-IsForm (Some form) = Unit {0}
-
-abbrev pub HasForm : Definition → Type 0
-HasForm d = IsForm d.form
-
-abbrev pub AreDefined : List SpecCard → Type 0
-AreDefined cards = Each HasForm (definitions cards)
+use Rattle.rpg_compile_program.specs.Defined.{AreDefined, HasForm, IsForm}
 
 -- what has a size as a field has one in any class
 sized_there : (made : Kind → ℕ → ℕ → FieldForm) (len : ℕ) (decimals : Option ℕ) → is_none (sized_form len decimals) ≡ false → IsForm (sized made len decimals)

@@ -35,7 +35,7 @@ use Rattle.rpg_sheet_specs.specs.declared.input.RecordType.{RecordType}
 use Rattle.rpg_sheet_specs.specs.declared.spec.Spec.{Spec}
 use Rattle.rpg_sheet_specs.specs.declared.spec.Spec.TheVariants as spec
 use Rattle.rpg_text.specs.Texts.{is_between}
-use Rattle.rpg_compile_program.proofs.Definitions.{HasForm, IsForm}
+use Rattle.rpg_compile_program.specs.Defined.{HasForm, IsForm}
 use Rattle.rpg_compile_program.proofs.FiledGroups as filed
 use Rattle.rpg_compile_program.proofs.Known.{input_kept}
 use Rattle.rpg_compile_program.proofs.Lists.{or_first, or_second}

@@ -14,7 +14,8 @@ use Rattle.rpg_faults_operands.specs.Names.{is_undefined}
 use Rattle.rpg_faults.specs.Places.{joins_badly, outside_line, outside_on_input, own_file}
 use Rattle.rpg_sheet_specs.specs.declared.input.InputSpec.{InputSpec}
 use Rattle.rpg_sheet_specs.specs.declared.input.InputSpec.TheVariants as input
-use Rattle.rpg_compile_program.proofs.Definitions.{AreDefined, all_defined, is_turned}
+use Rattle.rpg_compile_program.proofs.Definitions.{all_defined, is_turned}
+use Rattle.rpg_compile_program.specs.Defined.{AreDefined}
 use Rattle.rpg_compile_program.proofs.Lists.{Seen, or_first, or_second}
 use Rattle.rpg_compile_program.proofs.Names.{name_form, name_there}
 use Rattle.rpg_compile_program.specs.Rules.{KeepsCardRules}

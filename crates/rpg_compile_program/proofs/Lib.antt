@@ -6,6 +6,7 @@ pub mod Counts
 pub mod Definitions
 pub mod Each
 pub mod Entries
+pub mod Fields
 pub mod FiledGroups
 pub mod Flow
 pub mod Heights

@@ -7,7 +7,7 @@ use Rattle.std.specs.Option.{option_or, option_to_list}
 use Rattle.std.specs.Prelude.{is_some, nat_eq}
 use Rattle.std.proofs.lemmas.Bool.{or_left, or_right}
 use Rattle.std.proofs.lemmas.List.Folds.{list_any-append}
-use Rattle.rpg_compile_program.proofs.Definitions.{AreDefined, HasForm, IsForm}
+use Rattle.rpg_compile_program.specs.Defined.{AreDefined, HasForm, IsForm}
 use Rattle.rpg_cards.specs.Keys.{Fixed, Named}
 use Rattle.rpg_cards.specs.Plain.{Each}
 use Rattle.rpg_cards.proofs.FirstLemmas.{known_stays, lookup_push, option_or_assoc}

@@ -15,7 +15,7 @@ use Rattle.rpg_program.specs.declared.form.FieldForm.{FieldForm}
 use Rattle.rpg_faults_limits.specs.Names.{redefine, redefines_as}
 use Rattle.rpg_symbols.proofs.Forms.{same_form-equal}
 use Rattle.rpg_symbols.specs.Fields.{defined_form, given, same_form}
-use Rattle.rpg_compile_program.proofs.Definitions.{HasForm, IsForm}
+use Rattle.rpg_compile_program.specs.Defined.{HasForm, IsForm}
 use Rattle.rpg_compile_program.proofs.Known.{defined, name_known}
 use Rattle.rpg_compile_program.proofs.Lists.{or_first, or_second}
 use Rattle.rpg_compile_program.specs.Rules.{KeepsCardRules}

@@ -1,5 +1,6 @@
 pub mod Code
 pub mod Data
+pub mod Defined
 pub mod Levels
 pub mod Lines
 pub mod Program

@@ -13,31 +13,32 @@ use Rattle.rpg_compile_layouts.specs.Rows.{rows_of}
 use Rattle.rpg_program.specs.Kept.{IsLineRow, IsProgram, IsTypeRow}
 use Rattle.rpg_program.specs.Object.{LineRow, SubroutineRow}
 use Rattle.rpg_effect_renaming.specs.Naming.{renamed_type}
-use Rattle.rpg_compile_program.specs.Data.{values_of}
 use Rattle.rpg_compile_program.specs.Lines.{record_length_of}
 use Rattle.rpg_compile_program.specs.Program.{version_with}
-use Rattle.rpg_compile_program.specs.Table.{Table, defined_fields, forms, key_number, table_of}
+use Rattle.rpg_compile_program.specs.Table.{Table, forms, key_number, table_of}
 use Rattle.rpg_compile_program.specs.Types.{types_on}
 use Rattle.rpg_compile.proofs.Programs.{is_program, made_of}
 use Rattle.rpg_compile.proofs.program.program_of.Goals as goal
 
 pub build-requires : goal.build-requires
 build-requires c =
-    let cards = c.args.cards.now in
-    let table = c.in_ok-table.ensures.table ∙ ap table_of c.requires.same in
-    let types = c.in_ok-types.ensures.types ∙ ap (λ (t : Table). map (renamed_type (key_number t)) (types_on cards)) table in
-    let lines = c.in_ok-lines.ensures.lines ∙ ap (λ (t : Table). rows_of t cards) table in
-    let detail = c.in_ok-detail.ensures.detail ∙ ap (λ (t : Table). whole.detail_code (key_number t) (sections_of (calculations cards))) table in
-    let total = c.in_ok-detail.ensures.total ∙ ap (λ (t : Table). whole.total_code (key_number t) (sections_of (calculations cards))) table in
-    let bodies = c.in_ok-detail.ensures.subroutines ∙ ap (λ (t : Table). whole.subroutine_rows (key_number t) (subroutine_level (subroutines_in cards)) (sections_of (calculations cards))) table in
-    let same = made_of cards _ c.args.allowance _ _ _ _ _ _ _ _ _ _ _ _
+    let cards = c.args.source.now in
+    let same = c.as_slice-cards.ensures in
+    let table = c.in_ok-table.ensures.table in
+    let types = c.in_ok-types.ensures.types ∙ ap (λ (t : Table). map (renamed_type (key_number t)) (types_on c.as_slice-cards.result.now)) table ∙ ap (λ cs. map (renamed_type (key_number (table_of cards))) (types_on cs)) same in
+    let lines = c.in_ok-lines.ensures.lines ∙ ap (λ (t : Table). rows_of t c.as_slice-cards.result.now) table ∙ ap (rows_of (table_of cards)) same in
+    let detail = c.in_ok-detail.ensures.detail ∙ ap (λ (t : Table). whole.detail_code (key_number t) (sections_of (calculations c.as_slice-cards.result.now))) table ∙ ap (λ cs. whole.detail_code (key_number (table_of cards)) (sections_of (calculations cs))) same in
+    let total = c.in_ok-detail.ensures.total ∙ ap (λ (t : Table). whole.total_code (key_number t) (sections_of (calculations c.as_slice-cards.result.now))) table ∙ ap (λ cs. whole.total_code (key_number (table_of cards)) (sections_of (calculations cs))) same in
+    let bodies = c.in_ok-detail.ensures.subroutines ∙ ap (λ (t : Table). whole.subroutine_rows (key_number t) (subroutine_level (subroutines_in c.as_slice-cards.result.now)) (sections_of (calculations c.as_slice-cards.result.now))) table
+    ∙ ap (λ cs. whole.subroutine_rows (key_number (table_of cards)) (subroutine_level (subroutines_in cs)) (sections_of (calculations cs))) same in
+    let made = made_of cards _ c.args.allowance _ _ _ _ _ _ _ _ _ _ _ _
     (c.version_for.ensures ∙ (λ i. version_with (is_some (c.file_for-secondary.ensures i)) (c.has_match_field.ensures i)))
     (c.length_of.ensures ∙ ap record_length_of c.file_for.ensures) (c.length_of-2.ensures ∙ ap record_length_of c.file_for-secondary.ensures) (c.length_of-3.ensures ∙ ap record_length_of c.file_for-printer.ensures)
     (c.length_of-4.ensures ∙ ap record_length_of c.file_for-2.ensures)
     (c.overflow_of.ensures ∙ ap (option_and_then (λ f. f.overflow)) c.file_for-printer.ensures)
-    (c.in_ok-table.ensures.forms ∙ ap (λ cs. forms (table_of cs)) c.requires.same) (c.in_ok-table.ensures.values ∙ ap values_of c.requires.same) types lines detail total bodies in
-    subst IsProgram (sym same)
-    (is_program cards c.args.allowance c.requires.allowed (omega arith) c.requires.limits c.requires.values c.requires.accepted
+    c.in_ok-table.ensures.forms c.in_ok-table.ensures.values types lines detail total bodies in
+    subst IsProgram (sym made)
+    (is_program cards c.args.allowance c.requires.allowed (omega arith) c.requires.kept.limits c.requires.kept.values c.requires.kept.accepted
     (subst (λ (ts : List (TypeRow ℕ)). All IsTypeRow ts) types c.in_ok-types.ensures.rows)
     (subst (λ (ls : List LineRow). All IsLineRow ls) lines c.in_ok-lines.ensures.rows)
     (subst (λ (is : List (Instruction ℕ)). All IsMarked is) detail c.in_ok-detail.ensures.detail_kept)
@@ -46,16 +47,18 @@ build-requires c =
 
 pub returns : goal.returns
 returns c =
-    let cards = c.args.cards.now in
-    let table = c.in_ok-table.ensures.table ∙ ap table_of c.requires.same in
+    let cards = c.args.source.now in
+    let same = c.as_slice-cards.ensures in
+    let table = c.in_ok-table.ensures.table in
     c.build.ensures ∙ made_of cards _ c.args.allowance _ _ _ _ _ _ _ _ _ _ _ _
     (c.version_for.ensures ∙ (λ i. version_with (is_some (c.file_for-secondary.ensures i)) (c.has_match_field.ensures i)))
     (c.length_of.ensures ∙ ap record_length_of c.file_for.ensures) (c.length_of-2.ensures ∙ ap record_length_of c.file_for-secondary.ensures) (c.length_of-3.ensures ∙ ap record_length_of c.file_for-printer.ensures)
     (c.length_of-4.ensures ∙ ap record_length_of c.file_for-2.ensures)
     (c.overflow_of.ensures ∙ ap (option_and_then (λ f. f.overflow)) c.file_for-printer.ensures)
-    (c.in_ok-table.ensures.forms ∙ ap (λ cs. forms (table_of cs)) c.requires.same) (c.in_ok-table.ensures.values ∙ ap values_of c.requires.same)
-    (c.in_ok-types.ensures.types ∙ ap (λ (t : Table). map (renamed_type (key_number t)) (types_on cards)) table)
-    (c.in_ok-lines.ensures.lines ∙ ap (λ (t : Table). rows_of t cards) table)
-    (c.in_ok-detail.ensures.detail ∙ ap (λ (t : Table). whole.detail_code (key_number t) (sections_of (calculations cards))) table)
-    (c.in_ok-detail.ensures.total ∙ ap (λ (t : Table). whole.total_code (key_number t) (sections_of (calculations cards))) table)
-    (c.in_ok-detail.ensures.subroutines ∙ ap (λ (t : Table). whole.subroutine_rows (key_number t) (subroutine_level (subroutines_in cards)) (sections_of (calculations cards))) table)
+    c.in_ok-table.ensures.forms c.in_ok-table.ensures.values
+    (c.in_ok-types.ensures.types ∙ ap (λ (t : Table). map (renamed_type (key_number t)) (types_on c.as_slice-cards.result.now)) table ∙ ap (λ cs. map (renamed_type (key_number (table_of cards))) (types_on cs)) same)
+    (c.in_ok-lines.ensures.lines ∙ ap (λ (t : Table). rows_of t c.as_slice-cards.result.now) table ∙ ap (rows_of (table_of cards)) same)
+    (c.in_ok-detail.ensures.detail ∙ ap (λ (t : Table). whole.detail_code (key_number t) (sections_of (calculations c.as_slice-cards.result.now))) table ∙ ap (λ cs. whole.detail_code (key_number (table_of cards)) (sections_of (calculations cs))) same)
+    (c.in_ok-detail.ensures.total ∙ ap (λ (t : Table). whole.total_code (key_number t) (sections_of (calculations c.as_slice-cards.result.now))) table ∙ ap (λ cs. whole.total_code (key_number (table_of cards)) (sections_of (calculations cs))) same)
+    (c.in_ok-detail.ensures.subroutines ∙ ap (λ (t : Table). whole.subroutine_rows (key_number t) (subroutine_level (subroutines_in c.as_slice-cards.result.now)) (sections_of (calculations c.as_slice-cards.result.now))) table
+    ∙ ap (λ cs. whole.subroutine_rows (key_number (table_of cards)) (subroutine_level (subroutines_in cs)) (sections_of (calculations cs))) same)

@@ -11,5 +11,5 @@ returns-in-Some c =
 
 pub returns-in-None : goal.returns-in-None
 returns-in-None c =
-    subst (λ (x : List Value). IfOk c.empty_values.result (λ v. entries_held v ≡ x))
-    (field_found c.self.inside.tables.entries c.args.self.now c.self.view_is c.args.name.now c.args.form.now None c.in-None.ensures.value) c.empty_values.ensures
+    subst (λ (x : List Value). IfOk c.empty_values-in-None.result (λ v. entries_held v ≡ x))
+    (field_found c.self.inside.tables.entries c.args.self.now c.self.view_is c.args.name.now c.args.form.now None c.in-None.ensures.value) c.empty_values-in-None.ensures
