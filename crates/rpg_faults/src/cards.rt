@@ -38,7 +38,7 @@ fn numbered(alloc: Global, specs: Vec<Option<Spec>>) -> Result<Vec<SpecCard>, Al
     let mut rest = specs.into_iter();
     while let Some(spec) = rest.next() {
         if let Some(spec) = spec {
-            known.push(SpecCard { number, spec })?;
+            known.push_reserved(SpecCard { number, spec });
         }
         number += 1;
     }

@@ -44,7 +44,7 @@ pub fn misplaces(
     }
 }
 
-/// Whether control or match fields don't agree. Most types have none.
+/// Whether the control or match fields of a record type don't agree with each other or with those of earlier types.
 #[inline(never)]
 fn join_badly(places: &Places, card: &SpecCard, after: &[SpecCard]) -> bool
     requires { length after.now ≤ 2000 }

@@ -14,7 +14,7 @@ use rpg_sheet_specs::{
     CalculationSpec, ColumnFault, ConditionSpec, ControlLevel, Spec, Three, ranges,
 };
 
-/// Reads a C card to `spec`, or returns the leftmost of its bad values.
+/// Reads a C card into `spec`, or returns the leftmost of its bad values.
 #[inline(never)]
 pub(crate) fn read_calculation(spec: &mut Option<Spec>, card: &Card) -> Result<(), ColumnFault>
     ensures { put spec.new result ≡ mapped (λ k. Some (specs.Calculation k)) (tables.calculation_card.reading card.now) }

@@ -56,18 +56,22 @@ impl Card {
         Ok(Some(at(columns, rpg_sheet_values::name(text))?))
     }
 
-    /// Reads a factor `to` a place, or leaves it None for blanks. A factor takes 56 bytes, so moving it is costly.
+    /// Reads a factor into `factor`, which stays None for blanks. A factor takes 56 bytes, so moving it is costly.
     #[inline(always)]
-    pub(crate) fn read_factor(&self, to: &mut Option<Factor>, columns: CardColumns<10>) -> Read<()>
-        requires { to.old ≡ None }
-        ensures { put to.new result ≡ (line_from columns.first 10 (values.blank_or values.factor)).reading self.now }
+    pub(crate) fn read_factor(
+        &self,
+        factor: &mut Option<Factor>,
+        columns: CardColumns<10>,
+    ) -> Read<()>
+        requires { factor.old ≡ None }
+        ensures { put factor.new result ≡ (line_from columns.first 10 (values.blank_or values.factor)).reading self.now }
     {
         let text = self.columns(columns);
         if has_only_blanks(text) {
             return Ok(());
         }
-        *to = rpg_sheet_values::factor_of(text);
-        unless(to.is_some(), columns)
+        *factor = rpg_sheet_values::factor_of(text);
+        fault_unless(factor.is_some(), columns)
     }
 
     /// Reads right-aligned digits after blanks.
@@ -121,7 +125,7 @@ impl Card {
         optional(columns, text, rpg_sheet_values::operation(text))
     }
 
-    /// Reads an entry to `entry`, or leaves it None for blanks.
+    /// Reads an entry into `entry`, which stays None for blanks.
     #[inline(always)]
     pub(crate) fn read_entry(&self, entry: &mut Option<Entry>, columns: CardColumns<6>) -> Read<()>
         requires { entry.old ≡ None }
@@ -132,7 +136,7 @@ impl Card {
             return Ok(());
         }
         *entry = rpg_sheet_values::entry(text);
-        unless(entry.is_some(), columns)
+        fault_unless(entry.is_some(), columns)
     }
 
     pub(crate) fn optional_level(
@@ -167,27 +171,27 @@ impl Card {
         optional(columns, text, rpg_sheet_values::skip(text))
     }
 
-    /// Reads a text to `word`, or leaves it None for blanks.
+    /// Reads a text into `literal`, which stays None for blanks.
     #[inline(always)]
     pub(crate) fn read_text(
         &self,
-        word: &mut Option<TextLiteral<24>>,
+        literal: &mut Option<TextLiteral<24>>,
         columns: CardColumns<26>,
     ) -> Read<()>
-        requires { word.old ≡ None }
-        ensures { put word.new result ≡ (line_from columns.first 26 (values.blank_or values.quoted)).reading self.now }
+        requires { literal.old ≡ None }
+        ensures { put literal.new result ≡ (line_from columns.first 26 (values.blank_or values.quoted)).reading self.now }
     {
         let text = self.columns(columns);
         if text[0] == b' ' && has_only_blanks(text) {
             return Ok(());
         }
-        *word = rpg_sheet_values::quoted(text);
-        unless(word.is_some(), columns)
+        *literal = rpg_sheet_values::quoted(text);
+        fault_unless(literal.is_some(), columns)
     }
 }
 
 /// Returns the fault of columns whose value isn't found.
-fn unless<const WIDTH: usize>(found: bool, columns: CardColumns<WIDTH>) -> Read<()>
+fn fault_unless<const WIDTH: usize>(found: bool, columns: CardColumns<WIDTH>) -> Read<()>
     ensures { result ≡ (if found then Ok tt else Err (column_fault_from columns.entry.first WIDTH)) }
 {
     if found { Ok(()) } else { Err(columns.fault()) }

@@ -16,7 +16,7 @@ use rpg_sheet_specs::{
     ranges,
 };
 
-/// Reads an O card to `spec`, or returns the leftmost of its bad values.
+/// Reads an O card into `spec`, or returns the leftmost of its bad values.
 #[inline(never)]
 pub(crate) fn read_output(spec: &mut Option<Spec>, card: &Card) -> Result<(), ColumnFault>
     ensures { put spec.new result ≡ mapped (λ o. Some (specs.Output o)) (tables.output_card.reading card.now) }
@@ -87,7 +87,7 @@ fn line_conditions(card: &Card) -> Result<Three<Option<ConditionSpec>>, ColumnFa
     Ok(conditions)
 }
 
-/// Reads an output field to `spec`.
+/// Reads an output field into `spec`.
 #[inline(never)]
 fn read_field(spec: &mut Option<Spec>, card: &Card) -> Result<(), ColumnFault>
     ensures { put spec.new result ≡ mapped (λ f. Some (specs.Output (outputs.Field f))) (tables.output_field_card.reading card.now) }

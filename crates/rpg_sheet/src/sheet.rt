@@ -12,7 +12,7 @@ ghost use Rattle.rpg_sheet.specs.declared.sheet.SheetFault.TheVariants.{NoMemory
 
 use crate::Card;
 use rpg_sheet_specs::{ColumnFault, DataCard, DataSpec, FormType, Spec};
-use std::alloc::AllocFailed;
+use std::alloc::AllocError;
 use std::marker::Model;
 
 /// Returns a sheet's place in the order of the sheets.
@@ -108,10 +108,10 @@ pub enum SheetFault {
     NoMemory,
 }
 
-impl<T: Drop> From<AllocFailed<T>> for SheetFault {
+impl From<AllocError> for SheetFault {
     ghost from_gives = { λ _ fault. fault ≡ NoMemory };
 
-    fn from(_: AllocFailed<T>) -> Self {
+    fn from(_: AllocError) -> Self {
         SheetFault::NoMemory
     }
 }
@@ -149,7 +149,7 @@ impl Cards {
     }
 }
 
-/// Reads a card after a sheet at place `latest` to `spec`, or returns the fault of its form type or columns. `data_begun` says whether data
+/// Reads a card after a sheet at place `latest` into `spec`, or returns the fault of its form type or columns. `data_begun` says whether data
 /// has begun.
 pub(crate) fn read(
     spec: &mut Option<Spec>,
@@ -173,7 +173,7 @@ pub(crate) fn read(
     Ok(card.read_to(spec, sheet)?)
 }
 
-/// Reads a card that belongs to no sheet to `spec`.
+/// Reads a card that belongs to no sheet into `spec`.
 #[inline(never)]
 fn read_data(spec: &mut Option<Spec>, card: &Card, data_begun: bool)
     ensures { spec.new ≡ option_map specs.Data (data_spec_of data_begun card.now) }

@@ -65,9 +65,7 @@ pub fn cards(alloc: Global, text: &[u8]) -> Result<Cards, SheetFault>
     ensures faultless { OnOk result (sheets.first_sheet_fault (sheets.source text.now) ≡ None) }
     ensures fault { IfErr result (λ fault. sheets.IsSheetRefusal fault text.now) }
 {
-    let Ok(mut specs) = Vec::with_capacity(alloc, room_for(text)) else {
-        return Err(SheetFault::NoMemory);
-    };
+    let mut specs = Vec::with_capacity(alloc, room_for(text))?;
     let mut earlier = NO_LINES;
     let mut rest = text;
     while !rest.is_empty() {
@@ -75,7 +73,10 @@ pub fn cards(alloc: Global, text: &[u8]) -> Result<Cards, SheetFault>
         let columns = columns_of(line);
         let mut spec = None;
         match checked(&mut spec, earlier, line, &columns) {
-            Ok(()) => specs.push(spec)?,
+            Ok(()) => {
+                specs.reserve(1)?;
+                specs.push_reserved(spec);
+            }
             Err(CardFault { code, columns }) => {
                 return Err(SheetFault::At {
                     card: earlier.count + 1,
@@ -98,7 +99,7 @@ fn room_for(text: &[u8]) -> usize {
     (text.len() / 40).min(usize::from(CARDS))
 }
 
-/// Reads a line with these columns after earlier ones to `spec`, or returns its fault.
+/// Reads a line with these columns, which comes after earlier ones, into `spec`, or returns its fault.
 pub(crate) fn checked(
     spec: &mut Option<Spec>,
     earlier: Earlier,

@@ -87,7 +87,7 @@ impl Card {
         Ok(output)
     }
 
-    /// Reads a card of this sheet to `spec`, or returns the leftmost of its bad values. A meaning takes 240 bytes, so moving it is costly.
+    /// Reads a card of this sheet into `spec`, or returns the leftmost of its bad values. A meaning takes 240 bytes, so moving it is costly.
     pub(crate) fn read_to(&self, spec: &mut Option<Spec>, sheet: FormType) -> Read<()>
         ensures value { OnOk result (spec.new ≡ result_ok ((card_on sheet).reading self.now)) }
         ensures valid { OnOk result (has_bad_column sheet self.now ≡ false) }
@@ -118,6 +118,7 @@ impl Card {
     }
 }
 
+/// Reads an H, F or E card into `spec`.
 #[inline(never)]
 fn read_description(spec: &mut Option<Spec>, card: &Card, sheet: FormType) -> Read<()>
     ensures { put spec.new result ≡ mapped (λ s. Some s) ((card_on sheet).reading card.now) }
@@ -131,6 +132,7 @@ fn read_description(spec: &mut Option<Spec>, card: &Card, sheet: FormType) -> Re
     Ok(())
 }
 
+/// Reads an I card into `spec`.
 #[inline(never)]
 fn read_input(spec: &mut Option<Spec>, card: &Card) -> Read<()>
     ensures { put spec.new result ≡ mapped (λ i. Some (specs.Input i)) (tables.input_card.reading card.now) }

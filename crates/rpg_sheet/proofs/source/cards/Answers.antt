@@ -18,10 +18,12 @@ loop-rest-preserved c =
     let earlier = c.loop-rest.earlier in
     let line = c.first_line.result.0.now in
     let done = kept.done in
-    let read = c.in-Ok-checked.ensures in
+    let read = c.in-Ok.ensures in
     let more : ends_source (card_of line) ≡ _ = rw c.columns_of-columns.ensures at (sym c.ends_source.ensures ∙ c.if-ends_source.false) in
     let on = source_continues c.loop-rest.rest.now line c.first_line.result.1.now c.first_line.ensures.cut more in
-    let one_more : vec_len c.push.new.self ≡ vec_len c.loop-rest.specs + 1 = c.in_ok-push-in-Ok-checked.ensures.len in
+    let pushed = c.push_reserved.ensures in
+    let reserved = c.in_ok-reserve-in-Ok.ensures in
+    let one_more : vec_len c.push_reserved.new.self ≡ vec_len c.loop-rest.specs + 1 = pushed.len ∙ ap (λ n. n + 1) reserved.len in
     let few : earlier.count < 2000 = few_seen earlier.count earlier.latest earlier.data_begun line read.valid in
     let seen = c.with-earlier.ensures done line c.columns_of-columns.ensures kept.seen in
     let counted : c.with-earlier.result.count ≡ earlier.count + 1 = let before = kept.seen.count_is in let after = seen.count_is in omega (arith, length-append done (line ∷ [])) in
@@ -29,7 +31,7 @@ loop-rest-preserved c =
     record {
       done = done ++ line ∷ [];
       cut = kept.cut ∙ ap (λ (r : List (List ℕ)). done ++ r) on ∙ sym (append_assoc done (line ∷ []) _);
-      made = rw (c.in_ok-push-in-Ok-checked.ensures.items, kept.made, read.spec, kept.seen.data_begun_is, c.columns_of-columns.ensures) (sym (specs-push false done line));
+      made = rw (c.push_reserved.ensures.items, c.in_ok-reserve-in-Ok.ensures.items, kept.made, read.spec, kept.seen.data_begun_is, c.columns_of-columns.ensures) (sym (specs-push false done line));
       valid = kept.valid ∙ rw on (fault_after-valid done (source c.first_line.result.1.now) earlier.count earlier.latest earlier.data_begun line kept.seen read.valid);
       seen = seen;
       one_each = omega arith;
@@ -41,7 +43,7 @@ returns-then-ends_source-clause-cards c =
     let kept = c.loop-rest.invariant in
     let line = c.first_line.result.0.now in
     let done = kept.done in
-    let read = c.in-Ok-checked.ensures in
+    let read = c.in-Ok.ensures in
     let ends : ends_source (card_of line) ≡ _ = rw c.columns_of-columns.ensures at (sym c.ends_source.ensures ∙ c.if-ends_source.true) in
     let last = source_ends c.loop-rest.rest.now line c.first_line.result.1.now c.first_line.ensures.cut ends in
-    rw (c.new.ensures, c.in_ok-push-in-Ok-checked.ensures.items, kept.made, read.spec, kept.seen.data_begun_is, kept.cut, last, c.columns_of-columns.ensures) (sym (specs-push false done line))
+    rw (c.new.ensures, c.push_reserved.ensures.items, c.in_ok-reserve-in-Ok.ensures.items, kept.made, read.spec, kept.seen.data_begun_is, kept.cut, last, c.columns_of-columns.ensures) (sym (specs-push false done line))
