@@ -74,12 +74,19 @@ pub fn identity_at<R: Files>(rt: &R, path: &str) -> Option<FileIdentity> {
     identity_in(&fs::metadata(rt, path).ok()?)
 }
 
-/// Opens a file for reading. A folder isn't one.
-pub fn input_file<R: Files>(rt: &R, path: &str) -> Result<R::File, FileFault> {
+/// Opens a file for reading, and returns it with its metadata. A folder isn't one.
+fn opened<R: Files>(rt: &R, path: &str) -> Result<(R::File, Metadata), FileFault> {
     let file = fs::open(rt, path).map_err(input_fault)?;
-    if file.metadata().map_err(input_fault)?.is_dir() {
+    let about = file.metadata().map_err(input_fault)?;
+    if about.is_dir() {
         return Err(FileFault::Input(Reason::Folder));
     }
+    Ok((file, about))
+}
+
+/// Opens a file for reading. A folder isn't one.
+pub fn input_file<R: Files>(rt: &R, path: &str) -> Result<R::File, FileFault> {
+    let (file, _) = opened(rt, path)?;
     Ok(file)
 }
 
@@ -87,8 +94,12 @@ pub fn input_file<R: Files>(rt: &R, path: &str) -> Result<R::File, FileFault> {
 pub fn file_bytes<R: Files + AllocGlobal>(rt: &R, path: &str) -> Result<Vec<u8>, FileFault>
     ensures few { IfOk result (λ bytes. length bytes.items ≤ 16777216) }
 {
-    let file = input_file(rt, path)?;
-    let mut bytes = Vec::new(rt.alloc());
+    let (file, about) = opened(rt, path)?;
+    // A byte more than the file has, so that the read that finds its end has room.
+    let room = about.len().min(MOST_BYTES as u64) as usize + 1;
+    let Ok(mut bytes) = Vec::with_capacity(rt.alloc(), room) else {
+        return Err(FileFault::NoMemory);
+    };
     file.take(MOST_BYTES as u64 + 1)
         .read_to_end(&mut bytes)
         .map_err(input_fault)?;
