@@ -139,11 +139,15 @@ pub(crate) struct Argument {
     pub other: Option<&'static str>,
 }
 
+/// Returns what follows a key and a blank at the start of a line.
+fn after_key(line: &'static str, key: &str) -> Option<&'static str> {
+    line.strip_prefix(key)?.strip_prefix(' ')
+}
+
 /// Returns what follows a key in the line of its argument.
 fn row_of(key: &str) -> &'static str {
     for line in ARGUMENTS.lines() {
-        let (found, row) = cut(line, " ");
-        if found == key {
+        if let Some(row) = after_key(line, key) {
             return row;
         }
     }
