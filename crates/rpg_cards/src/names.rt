@@ -1,7 +1,6 @@
 //! The names that cards define, and their forms.
 
-ghost use Rattle.std.specs.Prelude.{◌≡◌, ◌≤◌, [], ◌∷◌, length, map, if◌then◌else◌};
-ghost use Rattle.std.specs.Option.{option_to_list};
+ghost use Rattle.std.specs.Prelude.{◌≡◌, length, map};
 ghost use Rattle.rpg_cards.specs.Names as names;
 ghost use Rattle.rpg_symbols.specs.Fields as fields;
 

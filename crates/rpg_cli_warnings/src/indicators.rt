@@ -1,6 +1,6 @@
 //! W1, W2 and W5: indicators that are tested but never turned on, or turned on but never tested, and levels that no field has.
 
-ghost use Rattle.std.specs.Prelude.{◌≡◌, ◌++◌, ◌≤◌, OnOk};
+ghost use Rattle.std.specs.Prelude.{◌≡◌, ◌++◌, OnOk};
 ghost use Rattle.std.specs.List.{list_any};
 ghost use Rattle.rpg_cli_warnings.specs.Indicators as indicators;
 

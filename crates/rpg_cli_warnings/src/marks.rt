@@ -1,6 +1,6 @@
 //! Which indicators cards test, and which they turn on to be tested. Each card is read once.
 
-ghost use Rattle.std.specs.Prelude.{◌≡◌, ℕ, ◌||◌, length};
+ghost use Rattle.std.specs.Prelude.{◌≡◌, ℕ, ◌||◌};
 ghost use Rattle.std.specs.List.{list_any};
 ghost use Rattle.rpg_cli_warnings.specs.Indicators as indicators;
 ghost use Rattle.rpg_cli_warnings.specs.Marks.{is_marked};

@@ -91,7 +91,7 @@ fn line_feeds(block: &[u8; 64]) -> u8 {
     count
 }
 
-/// Skips blocks of a text that end more than a line before this card's. Returns how many line feeds they have, and what follows them.
+/// Skips the blocks of a text that end more than a line before a card's line. Returns how many lines end in them, and the rest.
 fn after_lines(text: &[u8], card: u16) -> (u16, &[u8]) {
     let mut skipped = 0u16;
     let mut rest = text;
@@ -106,8 +106,8 @@ fn after_lines(text: &[u8], card: u16) -> (u16, &[u8]) {
     (skipped, rest)
 }
 
-/// Returns the diagnostics for these warnings of the source `path`: at most `most` of them, each written like a fault, and how many there
-/// are. Empty if there are none.
+/// Returns the diagnostics for the warnings of the source `path`, which are in the order of their cards: at most `most` of them, each
+/// written like a fault, and how many there are. Empty if there are none.
 pub fn warning_messages(
     alloc: Global,
     path: &str,

@@ -30,76 +30,76 @@ pub(crate) fn bad_entries(
             Some(DataSpec::Begin) => return false,
             Some(DataSpec::Card(data)) => {
                 let text = data.as_slice();
-                let number = left.min(layout.per_card);
-                if any_wrong(table, before, number, layout, text) {
+                let count = left.min(layout.per_card);
+                if any_wrong(table, before, count, layout, text) {
                     return true;
                 }
-                before = last_entry(before, number, layout, text);
-                left -= number;
+                before = last_entry(before, count, layout, text);
+                left -= count;
             }
         }
     }
     false
 }
 
-/// Returns the last of `number` entries of a card, or the one before them if there are none.
+/// Returns the last of `count` entries of a card, or the one before them if there are none.
 pub(crate) fn last_entry<'a>(
     before: Option<&'a [u8]>,
-    number: usize,
+    count: usize,
     layout: Layout,
     card: &'a [u8],
 ) -> Option<&'a [u8]>
     requires card { length card.now ≡ 80 }
-    requires number { number ≤ layout.per_card }
+    requires count { count ≤ layout.per_card }
     requires before { IfSome before (λ b. length b.now ≡ layout.length) }
-    ensures last { option_copied result ≡ last_or (option_copied before.entry) (texts_on_card layout card.now number) }
+    ensures last { option_copied result ≡ last_or (option_copied before.entry) (texts_on_card layout card.now count) }
     ensures length { IfSome result (λ b. length b.now ≡ layout.length) }
 {
-    if number == 0 {
+    if count == 0 {
         return before;
     }
-    Some(layout.entry(card, number - 1))
+    Some(layout.entry(card, count - 1))
 }
 
-/// Whether one of `number` entries of a card is wrong, given the one before them.
+/// Whether one of `count` entries of a card is wrong, given the one before them.
 fn any_wrong(
     table: &TableSpec,
     before: Option<&[u8]>,
-    number: usize,
+    count: usize,
     layout: Layout,
     card: &[u8],
 ) -> bool
     requires card { length card.now ≡ 80 }
-    requires number { number ≤ layout.per_card }
+    requires count { count ≤ layout.per_card }
     requires table { HasNumberSize table.now.decimals layout.length }
     requires before { IfSome before (λ b. length b.now ≡ layout.length) }
-    ensures { result ≡ any_wrong table.now (option_copied before.entry) (texts_on_card layout card.now number) }
+    ensures { result ≡ any_wrong table.now (option_copied before.entry) (texts_on_card layout card.now count) }
 {
     if !table.ascending {
-        return any_bad(table.decimals, number, layout, card);
+        return any_bad(table.decimals, count, layout, card);
     }
     match table.decimals {
-        None => any_wrong_text(table, before, number, layout, card),
-        Some(_) => any_wrong_number(number_before(before), number, layout, card),
+        None => any_wrong_text(table, before, count, layout, card),
+        Some(_) => any_wrong_number(number_before(before), count, layout, card),
     }
 }
 
-/// Whether one of `number` texts of a card is wrong, given the one before them.
+/// Whether one of `count` texts of a card is wrong, given the one before them.
 fn any_wrong_text(
     table: &TableSpec,
     before: Option<&[u8]>,
-    number: usize,
+    count: usize,
     layout: Layout,
     card: &[u8],
 ) -> bool
     requires card { length card.now ≡ 80 }
-    requires number { number ≤ layout.per_card }
+    requires count { count ≤ layout.per_card }
     requires table { HasNumberSize table.now.decimals layout.length }
     requires before { IfSome before (λ b. length b.now ≡ layout.length) }
-    ensures { result ≡ any_wrong table.now (option_copied before.entry) (texts_on_card layout card.now number) }
+    ensures { result ≡ any_wrong table.now (option_copied before.entry) (texts_on_card layout card.now count) }
 {
     let mut before = before;
-    for i in 0..number {
+    for i in 0..count {
         let entry = layout.entry(card, i);
         if is_wrong(table, before, entry) {
             return true;

@@ -11,7 +11,7 @@ use rpg_cards::{OperationColumns, Shown, SpecCard, columns, last_card};
 use rpg_program::form::{FieldForm, is_array, is_table};
 use rpg_sheet_specs::{CalculationSpec, OutputField, OutputSpec, Spec};
 
-/// F9 for output fields and for the sequence of what LOKUP searches. Inlined, since each card is tested.
+/// F9 for output fields and for the sequence of what LOKUP searches. Inlined, because it runs for every card.
 #[inline(always)]
 pub fn bad_columns(source: &IndexedCards, card: &SpecCard, after: &[SpecCard]) -> bool
     ensures { result ≡ words.bad_operand_columns source.now card.now after.now }

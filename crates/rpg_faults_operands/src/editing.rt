@@ -1,6 +1,6 @@
 //! F17: edit codes and words that don't fit; and the width of an output field.
 
-ghost use Rattle.std.specs.Prelude.{◌≡◌, ◌≤◌, ◌&&◌, true, is_some, option_and_then, IfSome};
+ghost use Rattle.std.specs.Prelude.{◌≡◌, ◌&&◌, true, is_some, option_and_then, IfSome};
 ghost use Rattle.std.specs.Option.{is_none};
 ghost use Rattle.rpg_edit_marks.specs.How.{width_of};
 ghost use Rattle.rpg_edit_marks.specs.declared.how.How.TheVariants as how;
@@ -104,7 +104,7 @@ fn is_unedited(field: &OutputField) -> bool
     field.code.is_none() && field.text.is_none()
 }
 
-/// F17: an edit code or word that doesn't fit. Inlined, since each card is tested.
+/// F17: an edit code or word that doesn't fit. Inlined, because it runs for every card.
 #[inline(always)]
 pub fn bad_editing(source: &IndexedCards, card: &SpecCard) -> bool
     ensures { result ≡ editing.bad_editing source.now card.now }
@@ -152,7 +152,7 @@ pub fn width(source: &IndexedCards, field: &OutputField) -> Option<usize>
     }
 }
 
-/// Returns the width of a named field; most fields are as long as they are stored.
+/// Returns the width of a named field. Without editing that is its length in storage.
 #[inline(never)]
 fn field_width(source: &IndexedCards, entry: &Entry, field: &OutputField) -> Option<usize>
     ensures { result ≡ option_and_then (λ form. editing.edited_width form field.now) (card_entry_form source.now entry.now) }

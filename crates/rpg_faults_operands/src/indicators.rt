@@ -10,7 +10,7 @@ use rpg_sheet_specs::{
     CalculationSpec, ConditionSpec, Indicator, InputFieldSpec, InputSpec, OutputSpec, Spec, Three,
 };
 
-/// F8: an indicator that its columns don't allow. Inlined, since each card is tested.
+/// F8: an indicator that its columns don't allow. Inlined, because it runs for every card.
 #[inline(always)]
 pub fn bad_indicator(source: &IndexedCards, card: &SpecCard) -> bool
     ensures { result ≡ indicators.bad_indicator source.now card.now }

@@ -1,8 +1,6 @@
 //! How many labels and names are defined before a card.
 
 ghost use Rattle.std.specs.Prelude.{◌≡◌, ◌≤◌, [], ◌∷◌, ◌++◌, List, length};
-ghost use Rattle.std.specs.Option.{option_to_list};
-ghost use Rattle.rpg_cards.specs.Names as names;
 ghost use Rattle.rpg_cards.specs.declared.spec_card.SpecCard.{SpecCard};
 ghost use Rattle.rpg_faults_tree.specs.Counted as counted;
 ghost use Rattle.rpg_faults_tree.specs.Counted.{AreCounts};

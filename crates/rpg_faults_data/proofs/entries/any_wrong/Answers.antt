@@ -6,9 +6,9 @@ use Rattle.rpg_faults_data.proofs.entries.any_wrong.Goals as goal
 
 pub returns-then-not-table : goal.returns-then-not-table
 returns-then-not-table c =
-    c.any_bad.ensures ∙ sym (any_wrong-bad c.args.table.now (option_copied c.args.before) (texts_on_card c.args.layout c.args.card.now c.args.number) c.if-not-table.true)
+    c.any_bad.ensures ∙ sym (any_wrong-bad c.args.table.now (option_copied c.args.before) (texts_on_card c.args.layout c.args.card.now c.args.count) c.if-not-table.true)
 
 pub returns-in-Some : goal.returns-in-Some
 returns-in-Some c =
-    c.any_wrong_number.ensures ∙ ap (λ o. any_wrong_number o (texts_on_card c.args.layout c.args.card.now c.args.number)) c.number_before.ensures
-    ∙ sym (any_wrong-number c.args.table.now c.in-Some.field-0 c.in-Some.is c.if-not-table.false (option_copied c.args.before) (texts_on_card c.args.layout c.args.card.now c.args.number))
+    c.any_wrong_number.ensures ∙ ap (λ o. any_wrong_number o (texts_on_card c.args.layout c.args.card.now c.args.count)) c.number_before.ensures
+    ∙ sym (any_wrong-number c.args.table.now c.in-Some.field-0 c.in-Some.is c.if-not-table.false (option_copied c.args.before) (texts_on_card c.args.layout c.args.card.now c.args.count))

@@ -7,7 +7,7 @@ use Rattle.rpg_faults_data.proofs.entries.any_wrong_text.Given as goal
 
 abbrev pub invariant-loop-i : goal.invariant-loop-i
 invariant-loop-i l = record {
-  same : any_wrong l.table (option_copied l.fn.before) (map (entry_on l.layout.width l.layout.from l.layout.length l.card) (range_with_len 0 l.number))
-      ≡ any_wrong l.table (option_copied l.before) (map (entry_on l.layout.width l.layout.from l.layout.length l.card) (range_with_len l.i (l.number - l.i)));
+  same : any_wrong l.table (option_copied l.fn.before) (map (entry_on l.layout.width l.layout.from l.layout.length l.card) (range_with_len 0 l.count))
+      ≡ any_wrong l.table (option_copied l.before) (map (entry_on l.layout.width l.layout.from l.layout.length l.card) (range_with_len l.i (l.count - l.i)));
   size : IfSome l.before (λ b. length b.now ≡ l.layout.length);
 }

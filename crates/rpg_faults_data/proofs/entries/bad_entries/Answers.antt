@@ -19,8 +19,8 @@ returns-then-any_wrong c =
     let lay = c.args.layout in
     let text = c.as_slice-text.result.now in
     let on : data_on c.card-item.result.spec ≡ Some (deck.Card text) = cc in
-    found_on_card c.args.table.now (option_copied c.loop-card.before) lay.width lay.from lay.length c.loop-card.left lay.per_card c.min-number.result text _ _ _
-    c.min-number.ensures (texts-card c.args.deck.now c.loop-card.card-index c.card-item.result text c.loop-card-test.true c.card-item.is on) c.loop-card.invariant.same
+    found_on_card c.args.table.now (option_copied c.loop-card.before) lay.width lay.from lay.length c.loop-card.left lay.per_card c.min-count.result text _ _ _
+    c.min-count.ensures (texts-card c.args.deck.now c.loop-card.card-index c.card-item.result text c.loop-card-test.true c.card-item.is on) c.loop-card.invariant.same
     (sym c.any_wrong.ensures ∙ c.if-any_wrong.true)
 
 pub loop-card-preserved : goal.loop-card-preserved
@@ -40,9 +40,9 @@ loop-card-preserved c = elim c.match-data.branch [
       let text = w.as_slice-text.result.now in
       let on : data_on c.card-item.result.spec ≡ Some (deck.Card text) = cc in
       record {
-        same = not_on_card c.args.table.now (option_copied c.loop-card.before) lay.width lay.from lay.length c.loop-card.left lay.per_card w.min-number.result text _ _ _
+        same = not_on_card c.args.table.now (option_copied c.loop-card.before) lay.width lay.from lay.length c.loop-card.left lay.per_card w.min-count.result text _ _ _
             (option_copied c.match-data.before) c.match-data.left
-            w.min-number.ensures (texts-card c.args.deck.now c.loop-card.card-index c.card-item.result text c.loop-card-test.true c.card-item.is on) c.loop-card.invariant.same
+            w.min-count.ensures (texts-card c.args.deck.now c.loop-card.card-index c.card-item.result text c.loop-card-test.true c.card-item.is on) c.loop-card.invariant.same
             (sym w.any_wrong.ensures ∙ w.if-any_wrong.false) (ap option_copied w.before-is ∙ w.last_entry-before.ensures.last) w.left-is;
         size = subst (λ (o : Option (Bor (List ℕ))). IfSome o (λ b. length b.now ≡ lay.length)) (sym w.before-is) w.last_entry-before.ensures.length;
       }

@@ -7,4 +7,4 @@ use Rattle.rpg_faults_data.proofs.entries.last_entry.Goals as goal
 pub returns-clause-last : goal.returns-clause-last
 returns-clause-last c =
     ap (λ e. Some e) c.entry.ensures.value
-    ∙ sym (last_or-entries (option_copied c.args.before) (entry_on c.args.layout.width c.args.layout.from c.args.layout.length c.args.card.now) c.args.number c.if-number-eq0.false)
+    ∙ sym (last_or-entries (option_copied c.args.before) (entry_on c.args.layout.width c.args.layout.from c.args.layout.length c.args.card.now) c.args.count c.if-count-eq0.false)
