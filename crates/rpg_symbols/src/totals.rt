@@ -59,7 +59,7 @@ impl Model for RunningTotals {
 }
 
 impl RunningTotals {
-    /// Returns the totals of no items, after those of known ones, with room for `count` items.
+    /// Returns the totals of known items alone, with room for `count` items after them.
     pub fn with_capacity(alloc: Global, known: Totals, count: usize) -> Result<Self, AllocError>
         ensures { IfOk result (λ totals. totals ≡ record { before = []; all = known }) }
     {
@@ -104,6 +104,7 @@ impl RunningTotals {
             None => self.all,
         }
     }
+
     /// Whether the item at a place counts, because it was new.
     pub fn counts(&self, place: usize) -> bool
         ensures { result ≡ counts_at self.now place }
