@@ -36,9 +36,8 @@ impl Card {
         requires characters { IsTrue (list_all is_character line.now) }
         ensures { result ≡ take 80 line.now ++ replicate (80 - length line.now) 32 }
     {
-        Card {
-            characters: columns_of(line),
-        }
+        let characters = columns_of(line);
+        Card { characters }
     }
 
     /// Makes a card of these columns.
@@ -46,9 +45,8 @@ impl Card {
         requires { IsTrue (list_all is_character characters.now) }
         ensures { result ≡ characters.now }
     {
-        Card {
-            characters: *characters,
-        }
+        let characters = *characters;
+        Card { characters }
     }
 
     pub fn as_slice(&self) -> &[u8]

@@ -190,7 +190,7 @@ impl Card {
     }
 }
 
-/// Returns the fault of columns whose value isn't found.
+/// Returns the fault of columns, unless their value was found.
 fn fault_unless<const WIDTH: usize>(found: bool, columns: CardColumns<WIDTH>) -> Read<()>
     ensures { result ≡ (if found then Ok tt else Err (column_fault_from columns.entry.first WIDTH)) }
 {

@@ -25,8 +25,7 @@ fn is_skipped(card: &[u8; 80]) -> bool
     is_empty(card) || &card[6..7] == b"*".as_slice()
 }
 
-/// Whether all columns are blank. Nearly every card has a form type in column 6, so that column is tested
-/// first.
+/// Whether all columns are blank. Nearly every card has a form type in column 6, so that column is tested first.
 #[inline(always)]
 #[tactic(auto, using(std::proofs::lemmas::List::Folds::list_all_at))]
 fn is_empty(card: &[u8; 80]) -> bool
@@ -53,11 +52,10 @@ fn form_type(card: &[u8; 80]) -> Option<FormType>
 pub(crate) fn sheet(card: &[u8; 80], data_begun: bool) -> Option<FormType>
     ensures { result ≡ cards.sheet_of data_begun card.now }
 {
-    if is_sheet(card, data_begun) {
-        form_type(card)
-    } else {
-        None
+    if !is_sheet(card, data_begun) {
+        return None;
     }
+    form_type(card)
 }
 
 impl Card {

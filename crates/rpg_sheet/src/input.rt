@@ -72,10 +72,9 @@ fn further_codes(card: &Card) -> Result<Three<Option<RecordCode>>, ColumnFault>
     ensures { result ≡ tables.and_codes.reading card.now }
 {
     if rpg_sheet_values::has_only_blanks(card.columns(ranges::CODES)) {
-        at(ranges::CODES, None)
-    } else {
-        record_codes(card)
+        return at(ranges::CODES, None);
     }
+    record_codes(card)
 }
 
 fn record_codes(card: &Card) -> Result<Three<Option<RecordCode>>, ColumnFault>

@@ -149,8 +149,7 @@ impl Cards {
     }
 }
 
-/// Reads a card after a sheet at place `latest` into `spec`, or returns the fault of its form type or columns. `data_begun` says whether data
-/// has begun.
+/// Reads a card, after a sheet at place `latest` and perhaps after data, into `spec`, or returns the fault of its form type or columns.
 pub(crate) fn read(
     spec: &mut Option<Spec>,
     card: &Card,

@@ -99,7 +99,7 @@ fn room_for(text: &[u8]) -> usize {
     (text.len() / 40).min(usize::from(CARDS))
 }
 
-/// Reads a line with these columns, which comes after earlier ones, into `spec`, or returns its fault.
+/// Reads the line after `earlier`, with these columns, into `spec`, or returns its fault.
 pub(crate) fn checked(
     spec: &mut Option<Spec>,
     earlier: Earlier,

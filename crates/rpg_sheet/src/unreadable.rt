@@ -24,8 +24,7 @@ pub struct UnreadableCard {
     pub columns: Option<ColumnFault>,
 }
 
-/// Returns all cards of a source that can't be read, in order, each with its lowest code. Nothing is read after the card `/*` or after card
-/// 2,001. Fails only if memory runs out.
+/// Returns the cards that can't be read, in order, each with its lowest code, up to the card `/*` or card 2,001. Fails only if memory runs out.
 #[tactic(auto, using(crate::proofs::UnreadableLemmas::cut_short))]
 pub fn unreadable_cards(alloc: Global, text: &[u8]) -> Result<Vec<UnreadableCard>, AllocError>
     ensures { IfOk result (λ cards. cards.items ≡ every.unreadable_cards (sheets.source text.now)) }
