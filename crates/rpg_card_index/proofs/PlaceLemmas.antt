@@ -1,10 +1,10 @@
 -- The place of an item among items of which equal ones are kept once.
-use Rattle.std.proofs.Common.{◌≡◌, ℕ, ◌+◌, ◌<◌, ◌≤◌, Bool, true, false, not, cond, ◌||◌, List, [], ◌∷◌, ◌++◌, length, take, get_or, Option, None, Some, refl, sym, ap, ◌∙◌, subst, arith, append_assoc, append-nil, length-append}
+use Rattle.std.proofs.Common.{◌≡◌, ℕ, ◌+◌, ◌<◌, ◌≤◌, Bool, true, false, not, cond, ◌||◌, List, [], ◌∷◌, ◌++◌, length, take, drop, get_or, Option, None, Some, refl, sym, ap, ◌∙◌, subst, arith, append_assoc, append-nil, length-append}
 use Rattle.std.proofs.Math.ListN.{get_or-append}
 use Rattle.std.proofs.Math.Seq.{take-append_seam}
 use Rattle.std.proofs.lemmas.Bool.{ltb-false, ltb-true}
 use Rattle.std.proofs.lemmas.Bool.Decides.{nat_tests}
-use Rattle.std.proofs.lemmas.List.{get_or-append-add, length_push, take-append-le, take_more}
+use Rattle.std.proofs.lemmas.List.{get_or-append-add, length_push, take-append-drop, take-append-le, take_more}
 use Rattle.std.proofs.lemmas.List.Folds.{position_or_len_push}
 use Rattle.std.proofs.lemmas.List.Sums.{prefix_len-le-length}
 use Rattle.std.proofs.lemmas.Option.{get_or_from_slice_get, slice_get_read, slice_get_within}
@@ -19,6 +19,7 @@ use Rattle.rpg_card_index.specs.declared.name_index.FirstDefinition.{FirstDefini
 use Rattle.rpg_cards.specs.First.{first_at}
 use Rattle.rpg_cards.specs.Insertions.{insert_all}
 use Rattle.rpg_cards.specs.declared.names.Definition.{Definition}
+use Rattle.rpg_cards.specs.declared.spec_card.SpecCard.{SpecCard}
 
 -- ---- the place of the first item that passes a test, with one more item
 
@@ -210,3 +211,47 @@ stands {X} all xs start i x at lt is =
     let here : x ≡ get_or all (start + i) x =
     is ∙ sym (ap (λ (l : List X). get_or l (start + i) x) at.3 ∙ ap (λ n. get_or (front ++ (xs ++ back)) (n + i) x) at.2 ∙ get_or-append-add front (xs ++ back) i x ∙ get_or-append xs back x i lt) in
     slice_get_read all (length all) (start + i) x refl (omega (arith, at.2)) here
+
+-- they are among all
+pub stand_within : {X : Type 0} (all xs : List X) (start : ℕ) → StandAt start xs all → start + length xs ≤ length all
+stand_within all xs start at =
+    let long = ap length at.3 in
+    let both = length-append at.0 (xs ++ at.1) in
+    let rest = length-append xs at.1 in
+    omega (arith, at.2)
+
+-- the first ones of them, and those after these
+pub stand_first : {X : Type 0} (all xs ys : List X) (start : ℕ) → StandAt start (xs ++ ys) all → StandAt start xs all
+stand_first {X} all xs ys start at = (at.0, ys ++ at.1, at.2, at.3 ∙ ap (λ (l : List X). at.0 ++ l) (append_assoc xs ys at.1))
+
+pub stand_second : {X : Type 0} (all xs ys : List X) (start next : ℕ) → StandAt start (xs ++ ys) all → next ≡ start + length xs → StandAt next ys all
+stand_second {X} all xs ys start next at is =
+    let long = length-append at.0 xs in
+    (at.0 ++ xs, at.1, omega (arith, at.2, is), at.3 ∙ ap (λ (l : List X). at.0 ++ l) (append_assoc xs ys at.1) ∙ sym (append_assoc at.0 xs (ys ++ at.1)))
+
+-- a single one of them
+pub stands_alone : {X : Type 0} (all : List X) (place : ℕ) (x : X) → StandAt place (x ∷ []) all → slice_get all place ≡ Some x
+stands_alone all place x at =
+    let read = stands all (x ∷ []) place 0 x at (omega arith) refl in
+    let same : place + 0 ≡ place = omega arith in
+    sym (ap (slice_get all) same) ∙ read
+
+module _ {X : Type 0} (on : SpecCard → List X) (of : List SpecCard → List X) (append : (cs ds : List SpecCard) → of (cs ++ ds) ≡ of cs ++ of ds)
+    (taken : (cards : List SpecCard) (i : ℕ) (c : SpecCard) → i < length cards → c ≡ get_or cards i c → of (take (i + 1) cards) ≡ of (take i cards) ++ on c) where
+  -- the items of a card stand after those of the cards before it
+  pub card_stands : (cards : List SpecCard) (i place : ℕ) (c : SpecCard) → i < length cards → c ≡ get_or cards i c → place ≡ length (of (take i cards)) → StandAt place (on c) (of cards)
+  card_stands cards i place c lt is at =
+      let whole : cards ≡ take (i + 1) cards ++ drop (i + 1) cards = sym (take-append-drop (i + 1) cards) in (
+        of (take i cards),
+        of (drop (i + 1) cards),
+        at,
+        ap of whole ∙ append (take (i + 1) cards) (drop (i + 1) cards) ∙ ap (λ (xs : List X). xs ++ of (drop (i + 1) cards)) (taken cards i c lt is)
+            ∙ append_assoc (of (take i cards)) (on c) (of (drop (i + 1) cards)),
+      )
+
+  -- the next card's items stand after them
+  pub next_place : (cards : List SpecCard) (i place : ℕ) (c : SpecCard) → i < length cards → c ≡ get_or cards i c → place ≡ length (of (take i cards)) → place + length (on c) ≡ length (of (take (i + 1) cards))
+  next_place cards i place c lt is at =
+      let both = length-append (of (take i cards)) (on c) in
+      let longer = ap length (taken cards i c lt is) in
+      omega (arith, at)

@@ -1,6 +1,7 @@
 -- The first places of names, constants and files.
-use Rattle.std.specs.Prelude.{◌≡◌, ℕ, ◌≤◌, ◌++◌, length, take, Bool, false, List, nat_eq, nat_lt, slice_get, if◌then◌else◌, Option, None, Some}
+use Rattle.std.specs.Prelude.{◌≡◌, ℕ, ◌≤◌, ◌++◌, length, take, Bool, false, List, nat_eq, nat_lt, slice_get, if◌then◌else◌, Option, None, Some, is_some}
 use Rattle.std.specs.Cmp.Lexicographic.{pointwise}
+use Rattle.std.specs.List.{list_all}
 use Rattle.std.specs.Map.{lookup}
 use Rattle.std.specs.Option.{option_and_then, option_map_or, option_or}
 use Rattle.rpg_cards.specs.Cards.{file_on}
@@ -38,10 +39,15 @@ abbrev pub defined_first : Option FirstDefinition → Defined
 defined_first None = Missing
 defined_first (Some d) = defined_as d.form
 
--- each name with its first definition, and the totals of the names
+-- the definition's length, decimals and entries are within their limits
+abbrev pub has_form : Definition → Bool
+has_form d = is_some d.form
+
+-- each name with its first definition, the totals of the names, and whether each definition has a form
 pub record IsNameIndex (items : List Definition) (index : NameIndex) : Type 0 where
   pub defined : (name : List ℕ) → lookup (pointwise nat_eq name) index.first.entries ≡ first_at (is_of name) placed_definition 0 items
   pub running : AreRunning Definition name_totals items index.totals
+  pub formed : index.all_have_forms ≡ list_all has_form items
 
 -- each constant with its first place, and the totals of the constants
 pub record IsConstantIndex (items : List Constant) (index : ConstantIndex) : Type 0 where
@@ -129,4 +135,3 @@ pub record IsIndexOf (index : CardIndex) (cards : List SpecCard) : Type 0 where
   pub constants : IsConstantIndex (constants_in cards) index.constants
   pub files : AreFirstFiles index.files cards
   pub matching : index.has_match_field ≡ has_match_field cards
-  pub few : length cards ≤ 1000000000

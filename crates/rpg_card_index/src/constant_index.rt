@@ -1,6 +1,6 @@
 //! The first place of each constant, and how many different constants there are.
 
-ghost use Rattle.std.specs.Prelude.{◌≡◌, ◌∷◌, [], IfOk, OnOk};
+ghost use Rattle.std.specs.Prelude.{◌≡◌, ◌∷◌, [], length, IfOk, OnOk};
 ghost use Rattle.std.specs.Map.{lookup};
 ghost use Rattle.std.specs.Option.{option_to_list};
 ghost use Rattle.rpg_cards.specs.Constants.{constants_on, factor_constants, is_same};
@@ -73,6 +73,13 @@ impl ConstantIndex {
         let is_first = note(&mut self.first, constant, place)?;
         self.totals.push(is_first, bytes)?;
         Ok(())
+    }
+
+    /// Returns the number of constants, also of equal ones.
+    pub(crate) fn count(&self) -> usize
+        ensures { result ≡ length self.now.totals.before }
+    {
+        self.totals.count()
     }
 
     /// Returns the first place of a constant.

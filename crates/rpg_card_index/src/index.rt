@@ -1,12 +1,12 @@
 //! The cards of a source, with the first place of each name, constant and file.
 
-ghost use Rattle.std.specs.Prelude.{◌≡◌, ◌+◌, ◌*◌, ◌≤◌, ◌∷◌, ◌++◌, [], length, not, take, option_copied, position, IfOk};
-ghost use Rattle.std.specs.List.{list_any};
+ghost use Rattle.std.specs.Prelude.{◌≡◌, ◌+◌, ◌*◌, ◌^◌, ◌<◌, ◌≤◌, ◌∷◌, ◌++◌, [], length, not, take, option_copied, position, IfOk};
+ghost use Rattle.std.specs.List.{list_all, list_any};
 ghost use Rattle.rpg_cards.specs.Constants as constants;
 ghost use Rattle.rpg_cards.specs.Constants.{constants_in, is_same};
 ghost use Rattle.rpg_cards.specs.Files as files;
 ghost use Rattle.rpg_cards.specs.First.{first_at};
-ghost use Rattle.rpg_card_index.specs.Index.{defined_first, file_at, place_before, placed_definition, IsIndexOf, IsNewAt};
+ghost use Rattle.rpg_card_index.specs.Index.{defined_first, file_at, has_form, place_before, placed_definition, IsIndexOf, IsNewAt};
 ghost use Rattle.rpg_cards.specs.Levels as levels;
 ghost use Rattle.rpg_cards.specs.Names as names;
 ghost use Rattle.rpg_cards.specs.Names.{is_of};
@@ -106,11 +106,20 @@ impl<'a> IndexedCards<'a> {
         self.cards
     }
 
-    /// There are at most 1,000,000,000 cards. Does nothing: its contract is the law.
+    /// The places of definitions and of constants are numbers of 64 bits. Does nothing: its contract is the law.
     pub fn keeps_limit(&self)
-        ensures { length self.now ≤ 1000000000 }
+        ensures definitions { length (names.definitions self.now) < 2 ^ 64 }
+        ensures constants { length (constants_in self.now) < 2 ^ 64 }
     {
-        let _cards = self.cards;
+        let _definitions = self.index.names.count();
+        let _constants = self.index.constants.count();
+    }
+
+    /// Whether each definition has a form: its length, decimals and entries are within their limits.
+    pub fn all_have_forms(&self) -> bool
+        ensures { result ≡ list_all has_form (names.definitions self.now) }
+    {
+        self.index.names.all_have_forms()
     }
 
     /// Returns the cards before a card, and the card.
@@ -213,7 +222,7 @@ impl<'a> IndexedCards<'a> {
         self.index.constants.all()
     }
 
-    /// Whether the definition at a place is the first of a name that not every program has.
+    /// Whether the definition at a place is the first of its name, and the name isn't UDATE or PAGE.
     pub fn is_first_name(&self, place: usize) -> bool
         ensures { IsNewAt (names.definitions self.now) place (λ d before. names.is_new_name d.name before) result }
     {
@@ -227,7 +236,7 @@ impl<'a> IndexedCards<'a> {
         self.index.constants.counts(place)
     }
 
-    /// Returns a name's place among the different names.
+    /// Returns a name's place among the different names, or None if it isn't defined.
     pub fn name_place(&self, name: &Name) -> Option<u64>
         ensures { result ≡ position (is_of name.now) (names.names self.now) }
     {
@@ -240,7 +249,7 @@ impl<'a> IndexedCards<'a> {
         }
     }
 
-    /// Returns a constant's place among the different constants.
+    /// Returns a constant's place among the different constants, or None if no card has it.
     pub fn constant_place(&self, constant: &Constant) -> Option<u64>
         ensures { result ≡ position (is_same constant.now) (constants.constants self.now) }
     {

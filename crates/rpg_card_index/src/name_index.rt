@@ -1,6 +1,6 @@
 //! The first definition of each name, and how many names there are.
 
-ghost use Rattle.std.specs.Prelude.{◌≡◌, ◌∷◌, [], map, nat_eq, IfOk, OnOk};
+ghost use Rattle.std.specs.Prelude.{◌≡◌, ◌∷◌, [], length, map, nat_eq, IfOk, OnOk};
 ghost use Rattle.std.specs.Cmp.Lexicographic.{pointwise};
 ghost use Rattle.std.specs.Map.{lookup};
 ghost use Rattle.std.specs.Option.{option_map_or};
@@ -32,6 +32,7 @@ pub struct FirstDefinition {
 pub struct NameIndex {
     first: HashMap<Name, FirstDefinition>,
     totals: RunningTotals,
+    all_have_forms: bool,
 }
 
 impl NameIndex {
@@ -42,6 +43,7 @@ impl NameIndex {
         Ok(NameIndex {
             first: HashMap::with_capacity(alloc, count)?,
             totals: RunningTotals::with_capacity(alloc, Totals::GIVEN, count)?,
+            all_have_forms: true,
         })
     }
 
@@ -81,12 +83,27 @@ impl NameIndex {
         ensures { OnOk result (Notes IsNameIndex (definition ∷ []) self.old self.new) }
     {
         let Definition { name, form } = definition;
+        self.all_have_forms &= form.is_some();
         let is_given = given_form(&name).is_some();
         let place = self.totals.count();
         let is_first = note(&mut self.first, name, FirstDefinition { place, form })?;
         let is_new = is_first && !is_given;
         self.totals.push(is_new, bytes_of(form))?;
         Ok(())
+    }
+
+    /// Returns the number of definitions.
+    pub(crate) fn count(&self) -> usize
+        ensures { result ≡ length self.now.totals.before }
+    {
+        self.totals.count()
+    }
+
+    /// Whether each definition has a form.
+    pub(crate) fn all_have_forms(&self) -> bool
+        ensures { result ≡ self.now.all_have_forms }
+    {
+        self.all_have_forms
     }
 
     /// Returns the first definition of a name.
@@ -109,7 +126,7 @@ impl NameIndex {
         self.totals.all()
     }
 
-    /// Whether the definition at a place is the first of its name.
+    /// Whether the definition at a place is the first of its name, and the name isn't UDATE or PAGE.
     pub(crate) fn counts(&self, place: usize) -> bool
         ensures { result ≡ counts_at self.now.totals place }
     {
