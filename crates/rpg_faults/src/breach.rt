@@ -11,8 +11,7 @@ use crate::seen::Seen;
 use rpg_cards::SpecCard;
 use rpg_faults_tree::AnalyzedCards;
 
-/// Whether a card breaks the rule of a code. Inlined, because it runs for every card and code. If its operands are known to be valid, the
-/// rules on them aren't tested.
+/// Whether a card breaks the rule of a code. Doesn't test operands that are known to be valid. Inlined: it runs for every card and code.
 #[inline(always)]
 #[tactic(auto, unfolding(crate::specs::Rules::rule))]
 pub(crate) fn breaks(

@@ -17,8 +17,7 @@ use rpg_faults_operands::has_valid_operands;
 use rpg_faults_tree::AnalyzedCards;
 use std::alloc::{AllocError, Global};
 
-/// Returns all faults by card, then by code, each with its columns, in one pass over the cards. There are none exactly if `faultless_index`
-/// finds none. Fails only if memory runs out.
+/// Returns all faults by card, then by code, each with its columns. Fails only if memory runs out.
 pub(crate) fn all_faults(alloc: Global, cards: &OrderedCards) -> Result<Vec<CardFault>, AllocError>
     ensures { IfOk result (λ faults. reported.AreFaultsOf cards.now.cards.items faults.items) }
 {

@@ -5,7 +5,7 @@ ghost use Rattle.rpg_decimal_words.specs.Zoned.{number_in};
 
 use rpg_decimal::read_zoned;
 
-/// Returns the number that a text spells. Most texts are plain digits, which are read first; others have a sign in the last character.
+/// Returns the number that a text spells. Tries plain digits first, as most texts are; others have a sign in the last character.
 pub fn number_in(text: &[u8]) -> Option<i64>
     requires low { 1 ≤ length text.now }
     requires high { length text.now ≤ 15 }

@@ -14,7 +14,7 @@ use Rattle.rpg_symbols.specs.Fields.{same_form}
 
 -- ---- F2: a name that is defined again in another form, also by the alternating table of one card
 
--- a definition whose form differs from that of its name's first valid definition
+-- a definition whose form differs from that of its name's first definition, if both have one
 abbrev pub redefines_as : List Definition → Definition → Bool
 redefines_as before d = option_map_or (λ form. option_map_or (λ first. not (same_form first form)) (form_in (form_by d.name before)) false) d.form false
 

@@ -33,7 +33,7 @@ pub fn redefines(
     are_other(source, place, card.definitions().as_slice())
 }
 
-/// Whether all definitions of a card, which follow the first `place`, are the first of their names, as most are.
+/// Whether all definitions of a card, which follow the first `place`, are the first of their names; usually they are.
 fn are_new(source: &IndexedCards, place: usize, card: &SpecCard) -> bool
     requires few { place ≤ 4000 }
     requires stand { StandAt place (definitions_on card.now.spec) (definitions source.now) }
