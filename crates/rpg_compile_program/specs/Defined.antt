@@ -1,4 +1,4 @@
--- Cards whose definitions all have forms, as those of a source without a fault have.
+-- Cards whose definitions all have forms, as in a source without a fault.
 use Rattle.std.specs.Prelude.{List, Option, None, Some}
 use Rattle.rpg_cards.specs.Names.{definitions}
 use Rattle.rpg_cards.specs.Plain.{Each}
