@@ -9,7 +9,7 @@ top=$(cd "$(dirname "$0")/.." && pwd)
 rpg2=${RPG2:-$top/crates/rpg2/out/rpg2}
 rounds=${ROUNDS:-5}
 kinds=${KINDS:-names literals both constants plain labels groups group calls entries levels data decks
-    no-files no-uses no-data no-labels no-ends SHEET-H SHEET-F SHEET-E SHEET-I SHEET-C SHEET-O SHEET-D}
+    no-files no-uses no-data no-labels no-ends $(printf 'FAULT-%s ' {1..18})SHEET-H SHEET-F SHEET-E SHEET-I SHEET-C SHEET-O SHEET-D}
 
 work=$(mktemp -d)
 trap 'rm -rf "$work"' EXIT
@@ -17,7 +17,7 @@ trap 'rm -rf "$work"' EXIT
 # The words for a source of a kind.
 words_of() {
     case $1 in
-        no-*) echo check "$work/source" ;;
+        no-* | FAULT-*) echo check "$work/source" ;;
         *) echo compile "$work/source" "$work/object" ;;
     esac
 }
@@ -25,7 +25,7 @@ words_of() {
 # Whether the status is the one that a source of this kind has: 3 where it has faults.
 is_status_of() {
     case $1 in
-        no-* | SHEET-*) [ "$2" = 3 ] ;;
+        no-* | FAULT-* | SHEET-*) [ "$2" = 3 ] ;;
         *) [ "$2" = 0 ] ;;
     esac
 }

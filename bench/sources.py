@@ -20,8 +20,9 @@ usage: bench/sources.py KIND CARDS > SOURCE
     no-data     arrays whose data are missing
     no-labels   jumps to labels that no card gives
     no-ends     subroutines without an end, each in the one before it
+    FAULT-N     cards that have the fault with the code FN, for N from 1 to 18
     SHEET-X     cards of the sheet X (H, F, E, I, C, O), or of data (D), as full as they can be, of which only the last can't be read
-The sources with `no-` have a fault on nearly each card, the others up to SHEET-X none.
+The sources with `no-` and `FAULT-` have a fault on nearly each card, except FAULT-6, where only the card that exceeds a limit has one, the others up to SHEET-X none.
 CARDS counts all cards of the source. A program has at most 4,000 fields and constants, 1,000 calculations, 100 subroutines, and 200 fields a line.
 """
 
@@ -164,6 +165,65 @@ def no_ends(cards):
         yield card("C", (7, "SR"), (18, name(number)), (28, "BEGSR"))
 
 
+def self_calls(cards):
+    """A subroutine that calls itself."""
+    yield card("C", (7, "SR"), (18, "SUB"), (28, "BEGSR"))
+    for _ in range(cards - 2):
+        yield card("C", (7, "SR"), (28, "EXSR"), (33, "SUB"))
+    yield card("C", (7, "SR"), (28, "ENDSR"))
+
+
+def jumps_away(cards):
+    """Jumps to a label of another section."""
+    for _ in range(cards - 1):
+        yield card("C", (28, "GOTO"), (33, "AWAY"))
+    yield card("C", (7, "LR"), (18, "AWAY"), (28, "TAG"))
+
+
+def detail_after_total(cards):
+    """Detail calculations after a total calculation."""
+    for number in range(cards):
+        yield card("C", (7, "" if number else "LR"), (28, "Z-ADD"), (33, "COUNT"), (43, "COUNT"))
+
+
+# For each N a card with the fault FN; n makes its name unique.
+FAULTY_CARDS = {
+    1: lambda n: card("C", (28, "Z-ADD"), (33, name(n)), (43, "COUNT")),
+    2: lambda n: card("C", (28, "Z-ADD"), (33, "COUNT"), (43, "COUNT"), (49, "  7"), (52, "0")),
+    3: lambda n: card("C", (28, "Z-ADD"), (33, "COUNT"), (43, name(n)), (49, " 16"), (52, "0")),
+    4: lambda n: card("C", (28, "Z-ADD"), (33, "COUNT"), (43, "WORD")),
+    5: lambda n: card("C", (28, "Z-ADD"), (33, "AR"), (43, "COUNT")),
+    6: lambda n: card("C", (28, "MOVE"), (33, "WORD"), (43, name(n)), (49, "256")),
+    8: lambda n: card("I", (7, "INPUT"), (15, "AA"), (19, "L0")),
+    9: lambda n: card("C", (33, "COUNT"), (43, "COUNT")),
+    11: lambda n: card("C", (18, "TWICE"), (28, "TAG")),
+    15: lambda n: card("C", (28, "MOVE"), (33, "COUNT"), (43, "COUNT"), (53, "H")),
+    16: lambda n: card("I", (44, "  81"), (48, "  85"), (52, "0"), (53, name(n))),
+    17: lambda n: card("O", (32, "COUNT"), (40, " 120"), (45, "'  '")),
+}
+
+# For each N cards that have the fault FN only together.
+FAULTY_GROUPS = {7: no_files, 10: no_labels, 12: detail_after_total, 13: jumps_away, 14: self_calls, 18: no_data}
+
+
+def fault(code, cards):
+    """Cards with this fault, after those of the fields that they use."""
+    if code in (7, 18):
+        yield from FAULTY_GROUPS[code](cards)
+        return
+    yield card("E", (27, "AR"), (36, "  10"), (40, "  5"), (44, "0"))
+    yield card("I", (7, "INPUT"), (15, "AA"), (19, "01"))
+    yield card("I", (44, "   1"), (48, "   5"), (52, "0"), (53, "COUNT"))
+    yield card("I", (44, "   6"), (48, "  10"), (53, "WORD"))
+    if code == 17:
+        yield card("O", (7, "PRINT"), (15, "D"), (23, " 01"))
+    left = cards - (5 if code == 17 else 4)
+    if code in FAULTY_GROUPS:
+        yield from FAULTY_GROUPS[code](left)
+    else:
+        yield from map(FAULTY_CARDS[code], range(left))
+
+
 FULL = {
     "H": [(7, "PROGRAM")],
     "F": [(7, "FILENAME"), (15, "O"), (18, "A"), (19, "F"), (24, "9999"), (33, "OF"), (40, "PRINTER")],
@@ -248,6 +308,9 @@ def source(kind, cards):
     yield from files()
     if kind in FAULTY:
         yield from FAULTY[kind](cards - 2)
+        return
+    if kind.startswith("FAULT-"):
+        yield from fault(int(kind[len("FAULT-") :]), cards - 2)
         return
     before = extension(kind, cards)
     yield from before

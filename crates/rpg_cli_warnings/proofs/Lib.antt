@@ -1,4 +1,5 @@
 pub mod Allowed
+pub mod FirstForms
 pub mod Marking
 pub mod Unnamed
 pub mod UpTo

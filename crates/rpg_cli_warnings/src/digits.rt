@@ -2,13 +2,16 @@
 
 ghost use Rattle.std.specs.Prelude.{◌≡◌, ◌++◌, OnOk};
 ghost use Rattle.std.specs.List.{filter_map};
+ghost use Rattle.std.specs.Option.{option_to_list};
+ghost use Rattle.rpg_card_index.specs.Index.{StandAt};
+ghost use Rattle.rpg_cards.specs.Names.{defined_as, definition_by, definitions, definitions_on, sized_form};
 ghost use Rattle.rpg_cli_warnings.specs.Digits as digits;
 
 use crate::warning::{Warning, WarningKind};
 use rpg_card_index::IndexedCards;
-use rpg_cards::{Defined, SpecCard};
+use rpg_cards::{Defined, SpecCard, sized_form};
 use rpg_program::form::{FieldForm, Kind};
-use rpg_sheet_specs::{CalculationSpec, ColumnFault, Entry, Factor, Literal, Operation};
+use rpg_sheet_specs::{CalculationSpec, ColumnFault, Factor, Literal, Operation};
 use std::alloc::AllocError;
 
 /// The columns of a result field.
@@ -50,13 +53,29 @@ fn factor_digits(source: &IndexedCards, factor: &Option<Factor>) -> Option<u16>
     }
 }
 
-#[tactic(auto, unfolding(crate::specs::Digits::result_digits))]
-fn result_digits(source: &IndexedCards, result_field: &Option<Entry>) -> Option<u16>
-    ensures { result ≡ digits.result_digits source.now result_field.now }
+/// Returns how many digits a result field of this length has before its decimal point; None for a text or an invalid size.
+fn given_digits(length: u16, decimals: Option<u8>) -> Option<u16>
+    ensures { result ≡ digits.whole_digits_of (defined_as (sized_form length decimals)) }
 {
-    match result_field {
+    match sized_form(length, decimals) {
         None => None,
-        Some(entry) => digits_of(source.form_of_name(&entry.name)),
+        Some(form) => whole_digits(form),
+    }
+}
+
+/// Returns how many digits the result field of a calculation has before its decimal point. Its definition, if it has one, is at `place`. If
+/// that is the first of its name, no lookup is needed.
+#[tactic(auto, unfolding(crate::specs::Digits::result_digits))]
+fn result_digits(source: &IndexedCards, place: usize, calculation: &CalculationSpec) -> Option<u16>
+    requires { StandAt place (option_to_list (definition_by calculation.now)) (definitions source.now) }
+    ensures { result ≡ digits.result_digits source.now calculation.now.result_field }
+{
+    let entry = calculation.result_field.as_ref()?;
+    match calculation.length {
+        Some(length) if source.is_first_name(place) => {
+            given_digits(length, calculation.decimals)
+        }
+        _ => digits_of(source.form_of_name(&entry.name)),
     }
 }
 
@@ -121,20 +140,34 @@ fn shorter(wanted: Option<u16>, result_field: Option<u16>) -> Option<WarningKind
 }
 
 #[tactic(auto, unfolding(crate::specs::Digits::shorter_on))]
-fn shorter_on(source: &IndexedCards, card: &SpecCard) -> Option<Warning>
+fn shorter_on(source: &IndexedCards, place: usize, card: &SpecCard) -> Option<Warning>
+    requires { StandAt place (definitions_on card.now.spec) (definitions source.now) }
     ensures { result ≡ digits.shorter_on source.now card.now }
 {
     let calculation = card.calculation()?;
     let wanted = wanted_digits(source, calculation)?;
-    let kind = shorter(
-        Some(wanted),
-        result_digits(source, &calculation.result_field),
-    )?;
+    let kind = shorter(Some(wanted), result_digits(source, place, calculation))?;
     Some(Warning {
         card: card.number,
         columns: RESULT,
         kind,
     })
+}
+
+/// Appends the warning of a card if its result is too short. The card's definitions are at `place`.
+fn put_shorter_on(
+    warnings: &mut Vec<Warning>,
+    source: &IndexedCards,
+    place: usize,
+    card: &SpecCard,
+) -> Result<(), AllocError>
+    requires { StandAt place (definitions_on card.now.spec) (definitions source.now) }
+    ensures { OnOk result (warnings.new.items ≡ warnings.old.items ++ option_to_list (digits.shorter_on source.now card.now)) }
+{
+    if let Some(warning) = shorter_on(source, place, card) {
+        warnings.push(warning)?;
+    }
+    Ok(())
 }
 
 /// Appends the warnings of results that are too short, in the order of their cards.
@@ -144,10 +177,11 @@ pub(crate) fn put_shorter(
 ) -> Result<(), AllocError>
     ensures { OnOk result (warnings.new.items ≡ warnings.old.items ++ filter_map (digits.shorter_on source.now) source.now) }
 {
+    source.keeps_limit();
+    let mut place = 0;
     for card in source.as_slice() {
-        if let Some(warning) = shorter_on(source, card) {
-            warnings.push(warning)?;
-        }
+        put_shorter_on(warnings, source, place, card)?;
+        place += card.definition_count();
     }
     Ok(())
 }
