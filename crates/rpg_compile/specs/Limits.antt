@@ -15,7 +15,6 @@ use Rattle.rpg_faults_flow.specs.Kept.{KeepsRule}
 use Rattle.rpg_faults_limits.specs.Names.{bad_size}
 use Rattle.rpg_verify_rules.specs.Accepted.{IsAccepted}
 use Rattle.rpg_compile_program.specs.Data.{values_of}
-use Rattle.rpg_compile_program.specs.Defined.{AreDefined}
 use Rattle.rpg_program.specs.Sections.{places_of}
 use Rattle.rpg_symbols.specs.Fields as symbols
 use Rattle.rpg_compile_program.specs.Lines.{lines_on, record_length_of}
@@ -48,10 +47,9 @@ pub record KeepsLimits (cards : List SpecCard) : Type 0 where
   pub few_subroutines : length (sections cards).subroutines ≤ 100
   pub few_instructions : (allowance : ℕ) → places_of (program_of cards allowance) ≤ 8192
 
--- what cards without a fault keep, so that their program can be written
+-- what cards without a fault keep, so that their program can be made
 pub record HasProgram (cards : List SpecCard) (allowance : ℕ) : Type 0 where
   pub limits : KeepsLimits cards
   pub sizes : KeepsRule (λ before c after. bad_size c) cards
-  pub defined : AreDefined cards
   pub values : AreValuesOf (forms (table_of cards)) (values_of cards)
   pub accepted : IsAccepted (program_of cards allowance)

@@ -10,7 +10,7 @@ ghost use Rattle.rpg_effect_renaming.specs.Naming.{renamed_action, renamed_opera
 ghost use Rattle.rpg_compile_program.specs.Table.{key_number};
 
 use rpg_cards::shows_of;
-use rpg_compile_layouts::FieldTable;
+use rpg_compile_fields::FieldTable;
 use rpg_program::operation::{Action, Index, Operand, Operator, Side};
 use rpg_sheet_specs::{CalculationSpec, Entry, Factor, Operation};
 

@@ -3,7 +3,7 @@
 ghost use Rattle.std.specs.Prelude.{◌≡◌, ◌++◌, ◌+◌, ◌<◌, ℕ, List, Option, length, IfOk, OnOk};
 ghost use Rattle.rpg_cards.specs.Calculations.{calculations};
 ghost use Rattle.rpg_cards.specs.Statements.{statement_of};
-ghost use Rattle.rpg_cards.specs.Plain.{ArePlain, calls_of};
+ghost use Rattle.rpg_cards.specs.Plain.{ArePlain};
 ghost use Rattle.rpg_cards.specs.Sections.{callee, sections_of};
 ghost use Rattle.rpg_compile.specs.Called as called;
 ghost use Rattle.rpg_compile.specs.Numbers.{body_sizes, number_by};

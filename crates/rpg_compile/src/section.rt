@@ -1,6 +1,6 @@
 //! The instructions of a section.
 
-ghost use Rattle.std.specs.Prelude.{◌≡◌, ◌+◌, ◌++◌, ◌<◌, Some, length, OnOk};
+ghost use Rattle.std.specs.Prelude.{◌≡◌, ◌+◌, ◌++◌, ◌<◌, length, OnOk};
 ghost use Rattle.std.specs.Option.{ForSome};
 ghost use Rattle.rpg_cards.specs.Calculations as calculations;
 ghost use Rattle.rpg_compile_program.specs.Code as code_of;

@@ -1,9 +1,3 @@
-pub mod Constants
-pub mod Held
-pub mod Loaded
-pub mod Names
-pub mod Numbered
 pub mod Parts
 pub mod Rows
-pub mod Tables
 pub mod Within

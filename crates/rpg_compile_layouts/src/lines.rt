@@ -6,12 +6,12 @@ ghost use Rattle.rpg_compile_layouts.specs.Within.{IsLineWithin};
 ghost use Rattle.rpg_program.specs.Kept.{IsLineRow};
 ghost use Rattle.rpg_program.specs.Object.{line_row};
 
-use crate::FieldTable;
 use crate::alternatives::alternatives_of;
 use crate::files::{own_or, put_on};
 use crate::output_fields::fields_of;
 use crate::spacing::spacing_of;
 use rpg_cards::{SpecCard, time_of};
+use rpg_compile_fields::FieldTable;
 use rpg_program::line::File;
 use rpg_program::rows::Line;
 use rpg_sheet_specs::OutputRecord;

@@ -10,8 +10,8 @@ ghost use Rattle.rpg_effect_renaming.specs.Naming.{renamed_editing, renamed_oper
 ghost use Rattle.rpg_compile_program.specs.Lines as lines;
 ghost use Rattle.rpg_compile_program.specs.Table.{key_number};
 
-use crate::FieldTable;
 use rpg_cards::{Constant, SpecCard, in_places};
+use rpg_compile_fields::FieldTable;
 use rpg_edit_marks::Fill;
 use rpg_program::condition::Conditions;
 use rpg_program::line::{Editing, LineField, Source};

@@ -9,11 +9,11 @@ ghost use Rattle.rpg_effect_renaming.specs.Naming.{renamed_input, renamed_type};
 ghost use Rattle.rpg_compile_program.specs.Table.{key_number};
 ghost use Rattle.rpg_compile_program.specs.Types as types;
 
-use crate::FieldTable;
 use crate::codes::codes_of;
 use crate::files::{own_or, read_from};
 use crate::levels::levels_of;
 use rpg_cards::{SpecCard, number_of, shows_of};
+use rpg_compile_fields::FieldTable;
 use rpg_program::input::{InputField, InputFile};
 use rpg_program::operation::Shows;
 use rpg_program::rows::RecordType;

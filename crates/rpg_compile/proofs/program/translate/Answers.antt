@@ -2,7 +2,6 @@ use Rattle.std.proofs.Common.{◌≤◌, List, length, subst, sym}
 use Rattle.rpg_cards.specs.declared.spec_card.SpecCard.{SpecCard}
 use Rattle.rpg_compile.proofs.Kept.{keeps_rules}
 use Rattle.rpg_compile.specs.Limits.{HasProgram}
-use Rattle.rpg_compile_program.proofs.Known.{defined}
 use Rattle.rpg_faults.specs.Faults.{Faultless}
 use Rattle.rpg_compile.proofs.program.translate.Goals as goal
 
@@ -16,7 +15,6 @@ program_of-requires-clause-kept c =
     subst (λ (cs : List SpecCard). HasProgram cs c.args.allowance) same record {
       limits = c.faultless_sources_keep_limits.ensures faultless few;
       sizes = rules.f3;
-      defined = defined cards rules;
       values = c.faultless_sources_fill_their_fields.ensures faultless;
       accepted = c.faultless_sources_are_accepted.ensures c.args.allowance faultless;
     }

@@ -1,0 +1,5 @@
+pub mod FieldLemmas
+pub mod FormedLemmas
+pub mod LoadedLemmas
+pub mod PlaceLemmas
+pub mod TableLemmas

@@ -1,0 +1,69 @@
+-- What a table takes from a card, and from the cards after it.
+use Rattle.std.proofs.Common.{◌≡◌, ℕ, suc, ◌+◌, ◌-◌, ◌<◌, List, [], ◌∷◌, ◌++◌, map, length, drop, min, get_or, Option, Some, refl, sym, ap, ◌∙◌, arith, drop-cons, add-one}
+use Rattle.std.proofs.lemmas.List.{append_assoc, append-nil, map-append}
+use Rattle.std.proofs.lemmas.List.FromFn.{map-range_with_len_more}
+use Rattle.std.specs.List.{range_with_len}
+use Rattle.rpg_cards.specs.Cards.{data_on}
+use Rattle.rpg_cards.specs.Groups.{data_card_role, data_role, followers, followers_with, role_on}
+use Rattle.rpg_cards.specs.declared.spec_card.SpecCard.{SpecCard}
+use Rattle.rpg_program.specs.Values.{Value}
+use Rattle.rpg_compile_fields.specs.Tables.{values_on_card}
+use Rattle.rpg_compile_fields.specs.declared.tables.TableData.{TableData}
+use Rattle.rpg_faults_data.proofs.EntryLemmas.{entries-card, entries-none}
+use Rattle.rpg_faults_data.specs.Data.{data_entries, entry_on}
+use Rattle.rpg_sheet_specs.specs.declared.data.DataSpec.{DataSpec}
+use Rattle.rpg_sheet_specs.specs.declared.data.DataSpec.TheVariants as deck
+use Rattle.rpg_compile_program.specs.Data.{entry_value}
+
+map-map : {X Y Z : Type 0} (g : Y → Z) (f : X → Y) (xs : List X) → map g (map f xs) ≡ map (λ x. g (f x)) xs
+map-map g f [] = refl
+map-map g f (x ∷ xs) = ap (λ rest. g (f x) ∷ rest) (map-map g f xs)
+
+-- ---- the texts of a deck
+
+texts_at : (cards : List SpecCard) (i : ℕ) (c : SpecCard) → i < length cards → c ≡ get_or cards i c
+    → followers data_role (drop i cards) ≡ followers_with (data_role c.spec) (followers data_role (drop (i + 1) cards))
+texts_at cards i c less is =
+    ap (followers data_role) (drop-cons cards i c less) ∙ ap (λ (d : SpecCard). followers data_role (d ∷ drop (suc i) cards)) (sym is)
+    ∙ ap (λ k. followers_with (data_role c.spec) (followers data_role (drop k cards))) (sym (add-one i))
+
+pub texts-begin : (cards : List SpecCard) (i : ℕ) (c : SpecCard) → i < length cards → c ≡ get_or cards i c → data_on c.spec ≡ Some deck.Begin → followers data_role (drop i cards) ≡ []
+texts-begin cards i c less is on = texts_at cards i c less is ∙ ap (λ (d : Option DataSpec). followers_with (role_on data_card_role d) (followers data_role (drop (i + 1) cards))) on
+
+-- ---- the values of a table, card by card
+
+module _ (d : TableData) where
+  -- of so many entries, on these texts
+  abbrev pub values_in : ℕ → List (List ℕ) → List Value
+  values_in left texts = map (entry_value d.table.now) (data_entries left d.per_card d.width d.from d.table.now.length texts)
+
+  values-card : (left : ℕ) (text : List ℕ) (texts : List (List ℕ))
+      → values_in left (text ∷ texts) ≡ values_on_card d text (min left d.per_card) ++ values_in (left - min left d.per_card) texts
+  values-card left text texts =
+      let first = map (entry_on d.width d.from d.table.now.length text) (range_with_len 0 (min left d.per_card)) in
+      let later = data_entries (left - min left d.per_card) d.per_card d.width d.from d.table.now.length texts in
+      ap (map (entry_value d.table.now)) (entries-card d.width d.from d.table.now.length left d.per_card text texts)
+      ∙ map-append (entry_value d.table.now) first later
+      ∙ ap (λ vs. vs ++ map (entry_value d.table.now) later) (map-map (entry_value d.table.now) (entry_on d.width d.from d.table.now.length text) (range_with_len 0 (min left d.per_card)))
+
+  pub at_card : (left number rest : ℕ) (text : List ℕ) (texts all : List (List ℕ)) (old new done : List Value) → number ≡ min left d.per_card → rest ≡ left - number → all ≡ text ∷ texts
+      → new ≡ old ++ values_on_card d text number → old ++ values_in left all ≡ done → new ++ values_in rest texts ≡ done
+  at_card left number rest text texts all old new done least fewer first put so_far =
+      ap (λ vs. vs ++ values_in rest texts) put ∙ append_assoc old (values_on_card d text number) (values_in rest texts)
+      ∙ ap (λ vs. old ++ vs) (ap (λ k. values_on_card d text number ++ values_in k texts) fewer
+      ∙ ap (λ k. values_on_card d text k ++ values_in (left - k) texts) least ∙ sym (values-card left text texts) ∙ ap (values_in left) (sym first))
+      ∙ so_far
+
+  pub at_end : (left : ℕ) (all : List (List ℕ)) (old done : List Value) → all ≡ [] → old ++ values_in left all ≡ done → old ≡ done
+  at_end left all old done none so_far =
+      sym (append-nil old)
+      ∙ ap (λ vs. old ++ vs) (sym (ap (values_in left) none ∙ ap (map (entry_value d.table.now)) (entries-none d.width d.from d.table.now.length left d.per_card))) ∙ so_far
+
+  -- one entry more of a card
+  pub values_on_card-more : (card : List ℕ) (i : ℕ) (v : Value) (old new all : List Value) → new ≡ old ++ v ∷ []
+      → v ≡ entry_value d.table.now (entry_on d.width d.from d.table.now.length card i) → old ≡ all ++ values_on_card d card i → new ≡ all ++ values_on_card d card (i + 1)
+  values_on_card-more card i v old new all pushed is so_far =
+      let value = λ (k : ℕ). entry_value d.table.now (entry_on d.width d.from d.table.now.length card k) in
+      pushed ∙ ap (λ vs. vs ++ v ∷ []) so_far ∙ append_assoc all (values_on_card d card i) (v ∷ [])
+      ∙ ap (λ w. all ++ (values_on_card d card i ++ w ∷ [])) is
+      ∙ ap (λ vs. all ++ vs) (sym (map-range_with_len_more value 0 i i (omega arith)))
