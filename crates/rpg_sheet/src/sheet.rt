@@ -149,7 +149,8 @@ impl Cards {
     }
 }
 
-/// Reads a card, after a sheet at place `latest` and perhaps after data, into `spec`, or returns the fault of its form type or columns.
+/// Reads a card that follows a sheet at place `latest`, and data if `data_begun`, into `spec`, or returns the fault of its form type or
+/// columns.
 pub(crate) fn read(
     spec: &mut Option<Spec>,
     card: &Card,
