@@ -39,7 +39,7 @@ abbrev pub defined_first : Option FirstDefinition → Defined
 defined_first None = Missing
 defined_first (Some d) = defined_as d.form
 
--- the definition's length, decimals and entries are within their limits
+-- the definition has a form
 abbrev pub has_form : Definition → Bool
 has_form d = is_some d.form
 

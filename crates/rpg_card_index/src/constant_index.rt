@@ -75,7 +75,7 @@ impl ConstantIndex {
         Ok(())
     }
 
-    /// Returns the number of constants, also of equal ones.
+    /// Returns the number of constants, with duplicates.
     pub(crate) fn count(&self) -> usize
         ensures { result ≡ length self.now.totals.before }
     {

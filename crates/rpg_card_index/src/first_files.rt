@@ -104,7 +104,7 @@ pub(crate) fn note<K: Eq + Hash + Drop, V: Drop>(
     key: K,
     value: V,
 ) -> Result<bool, AllocError>
-    ensures noted { OnOk result ((q : K) → lookup (K.eq q) map.new.entries ≡ option_or (lookup (K.eq q) map.old.entries) (if K.eq q key then Some value else None)) }
+    ensures map { OnOk result ((q : K) → lookup (K.eq q) map.new.entries ≡ option_or (lookup (K.eq q) map.old.entries) (if K.eq q key then Some value else None)) }
     ensures first { IfOk result (λ is_first. is_first ≡ is_none (lookup (K.eq key) map.old.entries)) }
 {
     let entry = map.entry(key)?;

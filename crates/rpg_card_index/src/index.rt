@@ -106,7 +106,7 @@ impl<'a> IndexedCards<'a> {
         self.cards
     }
 
-    /// The places of definitions and of constants are numbers of 64 bits. Does nothing: its contract is the law.
+    /// There are fewer than 2^64 definitions, and fewer than 2^64 constants. Does nothing: its contract is the law.
     pub fn keeps_limit(&self)
         ensures definitions { length (names.definitions self.now) < 2 ^ 64 }
         ensures constants { length (constants_in self.now) < 2 ^ 64 }
@@ -265,7 +265,7 @@ impl<'a> IndexedCards<'a> {
     }
 
     /// Returns the first F card with this name, if it is among the first `count` cards.
-    pub fn file_named_before(&self, name: &Word<8>, count: usize) -> Option<&'a FileSpec>
+    pub(crate) fn file_named_before(&self, name: &Word<8>, count: usize) -> Option<&'a FileSpec>
         ensures { option_copied result ≡ files.file_named name.now (take count self.now) }
     {
         self.file_at(self.index.files.named(name), count)
@@ -279,7 +279,7 @@ impl<'a> IndexedCards<'a> {
     }
 
     /// Returns the first file with this use, if it is among the first `count` cards.
-    pub fn file_for_before(&self, file_use: FileUse, count: usize) -> Option<&'a FileSpec>
+    pub(crate) fn file_for_before(&self, file_use: FileUse, count: usize) -> Option<&'a FileSpec>
         ensures { option_copied result ≡ files.file_for file_use (take count self.now) }
     {
         self.file_at(self.index.files.used(file_use), count)

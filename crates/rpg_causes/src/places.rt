@@ -1,6 +1,6 @@
 //! F16: columns outside the record, end positions outside the line, and fields that are too wide.
 
-ghost use Rattle.std.specs.Prelude.{◌≡◌, Option, is_some, option_copied, option_and_then, Some};
+ghost use Rattle.std.specs.Prelude.{◌≡◌, Option, is_some, option_copied, option_and_then};
 ghost use Rattle.rpg_cards.specs.Files.{file_by};
 ghost use Rattle.rpg_cards.specs.Groups.{input_role, open_file};
 ghost use Rattle.rpg_causes.specs.Files as files;

@@ -1,5 +1,5 @@
 -- F1, F2: the name that no card defines, or that is defined again in another form; and the card that defines a name.
-use Rattle.std.specs.Prelude.{◌≡◌, ℕ, length, List, [], ◌∷◌, ◌++◌, Bool, Option, None, Some, option_and_then, if◌then◌else◌}
+use Rattle.std.specs.Prelude.{ℕ, List, [], ◌∷◌, ◌++◌, Bool, Option, None, Some, option_and_then, if◌then◌else◌}
 use Rattle.std.specs.List.{list_any}
 use Rattle.std.specs.Option.{option_or}
 use Rattle.rpg_cards.specs.Names.{definitions, definitions_on, form_by, form_in, given_names, is_of}
@@ -60,10 +60,6 @@ redefined_by cards before d = option_and_then (λ here. option_and_then (redefin
 abbrev pub redefined_among : List SpecCard → List Definition → List Definition → Option Redefined
 redefined_among cards before [] = None
 redefined_among cards before (d ∷ ds) = option_or (redefined_by cards before d) (redefined_among cards (before ++ d ∷ []) ds)
-
--- these are among all of them, after the given number of others
-abbrev pub StandAt : ℕ → List Definition → List Definition → Type 0
-StandAt place items all = (front : List Definition) × (back : List Definition) × (place ≡ length front) × (all ≡ front ++ (items ++ back))
 
 -- F2 of a card
 abbrev pub redefined : List SpecCard → List SpecCard → SpecCard → Option Redefined

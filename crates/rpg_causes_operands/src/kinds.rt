@@ -1,11 +1,11 @@
 //! F4: operands of the wrong kind.
 
-ghost use Rattle.std.specs.Prelude.{◌≡◌, Option, None, is_some, false, option_and_then};
+ghost use Rattle.std.specs.Prelude.{◌≡◌, None, is_some, false, option_and_then};
 ghost use Rattle.std.specs.Option.{option_map_or};
 ghost use Rattle.rpg_cards.specs.Calculations.{card_ending};
 ghost use Rattle.rpg_causes_operands.specs.Operands as causes;
 ghost use Rattle.rpg_faults_operands.specs.Kinds as rules;
-ghost use Rattle.rpg_faults_operands.specs.Operands.{factor_entry, field_content};
+ghost use Rattle.rpg_faults_operands.specs.Operands.{factor_entry};
 
 use crate::names::definer;
 use rpg_card_index::IndexedCards;

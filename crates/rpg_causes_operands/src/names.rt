@@ -3,9 +3,8 @@
 ghost use Rattle.std.specs.Prelude.{◌≡◌, ◌∷◌, ◌++◌, ◌≤◌, length, take, false, is_some, option_and_then, option_copied};
 ghost use Rattle.std.specs.Option.{option_map_or};
 ghost use Rattle.rpg_cards.specs.Names.{definitions};
-ghost use Rattle.rpg_cards.specs.declared.names.Definition.{Definition};
+ghost use Rattle.rpg_card_index.specs.Index.{StandAt};
 ghost use Rattle.rpg_causes_operands.specs.Names as causes;
-ghost use Rattle.rpg_causes_operands.specs.Names.{StandAt};
 ghost use Rattle.rpg_faults_limits.specs.Names as redefinitions;
 ghost use Rattle.rpg_faults_operands.specs.Names as rules;
 

@@ -1,9 +1,8 @@
 -- The state after the cards before a card.
-use Rattle.std.specs.Prelude.{◌≡◌, ◌≤◌, ◌++◌, List, length, option_copied}
+use Rattle.std.specs.Prelude.{◌≡◌, ◌≤◌, ◌++◌, List, length}
 use Rattle.rpg_faults_limits.specs.Sheets.{AreSheets}
 use Rattle.rpg_cards.specs.declared.spec_card.SpecCard.{SpecCard}
 use Rattle.rpg_faults.specs.declared.seen.Seen.{Seen}
-use Rattle.rpg_faults_flow.specs.GroupEnd.{EndsGroup}
 use Rattle.rpg_faults_tree.specs.Counted.{AreCounts}
 use Rattle.rpg_faults_limits.specs.State.{AreLimits}
 use Rattle.rpg_faults.specs.State.{IsPlaces}
@@ -12,7 +11,7 @@ use Rattle.rpg_faults.specs.State.{IsPlaces}
 pub record AreCardsSeen (cards rest : List SpecCard) (s : Seen) : Type 0 where
   pub split : cards ≡ s.before.now ++ rest
   pub few : length cards ≤ 2000
-  pub group_end : EndsGroup rest (option_copied s.group_end)
+  pub remaining : s.remaining ≡ rest
   pub sheets : AreSheets cards s.before.now s.sheets
   pub limits : AreLimits s.before.now rest s.limits
   pub counts : AreCounts s.before.now rest s.counts

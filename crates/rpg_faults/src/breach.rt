@@ -8,6 +8,7 @@ ghost use Rattle.rpg_faults_operands.specs.Valid.{HasValidOperands};
 
 use crate::code::FaultCode;
 use crate::seen::Seen;
+use rpg_card_index::FirstCards;
 use rpg_cards::SpecCard;
 use rpg_faults_tree::AnalyzedCards;
 
@@ -44,11 +45,12 @@ pub(crate) fn breaks(
             rpg_faults_limits::passes_limit(cards, &seen.sheets, &seen.limits, before, card, after)
         }
         FaultCode::F7 => {
-            rpg_faults_limits::breaks_files(cards, &seen.sheets, before, card, after)
+            let before = FirstCards::before(cards, before, card, after);
+            rpg_faults_limits::breaks_files(cards, &seen.sheets, &before, card)
         }
         FaultCode::F8 => rpg_faults_operands::bad_indicator(cards, card),
         FaultCode::F9 => {
-            rpg_faults_flow::bad_columns(seen.group_end, before, card, after)
+            rpg_faults_flow::bad_columns(before, &seen.remaining)
                 || rpg_faults_operands::bad_columns(cards, card, after)
                 || rpg_faults_limits::moves_disk(cards, &seen.sheets, before, card)
         }

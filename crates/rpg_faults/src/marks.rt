@@ -13,7 +13,7 @@ use crate::columns::{is_outside, outside_record, own_length};
 use crate::lengths::JoinedLengths;
 use crate::seen::Seen;
 use crate::state::Places;
-use rpg_card_index::IndexedCards;
+use rpg_card_index::{FirstCards, IndexedCards};
 use rpg_cards::SpecCard;
 use rpg_faults_limits::Sheets;
 use rpg_faults_tree::AnalyzedCards;
@@ -55,7 +55,10 @@ fn fault_range(
         FaultCode::F4 => rpg_faults_operands::wrong_columns(cards, card, after),
         FaultCode::F5 => Some(rpg_faults_operands::wrong_index(cards, card, after)),
         FaultCode::F6 => rpg_faults_limits::limit_columns(card),
-        FaultCode::F7 => rpg_faults_limits::file_columns(cards, before, card, after),
+        FaultCode::F7 => {
+            let before = FirstCards::before(cards, before, card, after);
+            rpg_faults_limits::file_columns(&before, card)
+        }
         FaultCode::F8 => rpg_faults_operands::indicator_columns(cards, card),
         FaultCode::F9 => missing_columns(cards, seen, card, after),
         FaultCode::F10 | FaultCode::F13 | FaultCode::F14 => Some(rpg_faults_flow::target_range()),
@@ -81,7 +84,7 @@ fn missing_columns(
     requires { AreCardsSeen source.now (card.now ∷ after.now) seen.now }
     ensures { result ≡ marks.missing_columns seen.now.before.now card.now after.now }
 {
-    if rpg_faults_flow::bad_columns(seen.group_end, seen.before, card, after) {
+    if rpg_faults_flow::bad_columns(seen.before, &seen.remaining) {
         rpg_faults_flow::calculation_columns(card, after)
     } else if rpg_faults_operands::bad_columns(source, card, after) {
         rpg_faults_operands::missing_columns(card, after)

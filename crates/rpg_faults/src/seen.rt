@@ -6,17 +6,16 @@ ghost use Rattle.rpg_faults.specs.Seen.{AreCardsSeen};
 use crate::Places;
 use rpg_card_index::IndexedCards;
 use rpg_cards::SpecCard;
-use rpg_faults_flow::{first_group_end, next_group_end};
+use rpg_faults_flow::RemainingCards;
 use rpg_faults_limits::{Limits, Sheets};
 use rpg_faults_tree::{AnalyzedCards, Counts};
-use rpg_sheet_specs::CalculationSpec;
 
 /// The cards before a card, with the state after them.
-#[derive(Clone, Copy)]
+#[derive(Drop)]
 pub(crate) struct Seen<'a> {
     pub before: &'a [SpecCard],
-    /// The last card of the card's group, if the card is a calculation.
-    pub group_end: Option<&'a CalculationSpec>,
+    /// The card and those after it.
+    pub remaining: RemainingCards<'a>,
     pub sheets: Sheets,
     pub limits: Limits,
     pub counts: Counts,
@@ -32,7 +31,7 @@ impl<'a> Seen<'a> {
         let cards = source.cards;
         Seen {
             before: &cards.as_slice()[..0],
-            group_end: first_group_end(cards.as_slice()),
+            remaining: RemainingCards::new(cards.as_slice()),
             sheets: Sheets::none(),
             limits: Limits::nothing(),
             counts: Counts::nothing(),
@@ -47,7 +46,7 @@ impl<'a> Seen<'a> {
         ensures seen { AreCardsSeen source.now after.now self.new }
     {
         let before = self.before;
-        self.group_end = next_group_end(self.group_end, after);
+        self.remaining.pass();
         self.sheets = self.sheets.with(source, before, card);
         self.limits.pass(before, card, after);
         self.counts = self.counts.with(before, card, after);

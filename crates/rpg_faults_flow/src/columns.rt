@@ -8,11 +8,21 @@ ghost use Rattle.rpg_faults_flow.specs.Columns as spec;
 ghost use Rattle.rpg_faults_flow.specs.ByCard as by_card;
 ghost use Rattle.rpg_sheet_specs.specs.declared.literal.Factor.TheVariants as factor;
 
+use crate::group_end::RemainingCards;
 use rpg_cards::{Column, Content, Shown, SpecCard, columns, continues, depends, joins, plain_name};
 use rpg_sheet_specs::{CalculationSpec, Entry, Factor, Indicator, Operation, Three};
 
-/// F9 of calculation cards, except for the sequence of what LOKUP searches. `group_end` is the last card of the card's group.
-pub fn bad_columns(
+/// F9 of calculation cards, for the first of the remaining cards. The sequence of what LOKUP searches isn't looked at.
+pub fn bad_columns(before: &[SpecCard], remaining: &RemainingCards) -> bool
+    ensures { result ≡ spec.bad_next_columns before.now remaining.now }
+{
+    let Some((card, after)) = remaining.as_slice().split_first() else {
+        return false;
+    };
+    has_bad_columns(remaining.group_end(), before, card, after)
+}
+
+fn has_bad_columns(
     group_end: Option<&CalculationSpec>,
     before: &[SpecCard],
     card: &SpecCard,

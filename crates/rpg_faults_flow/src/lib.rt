@@ -7,7 +7,7 @@ mod laws;
 mod marks;
 
 pub use columns::{bad_columns, has_more, may_depend};
-pub use group_end::{first_group_end, next_group_end};
+pub use group_end::RemainingCards;
 pub use laws::faultless_sections_are_plain;
 pub use marks::{
     calculation_columns, further_range, order_columns, rounding_columns, target_range,

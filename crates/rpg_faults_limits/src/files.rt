@@ -1,6 +1,6 @@
 //! F7: files that are unknown, described twice or of the wrong use. F9 of lines: spaces and skips for the disk file.
 
-ghost use Rattle.std.specs.Prelude.{◌≡◌, ◌∷◌, ◌++◌, false, option_map, take};
+ghost use Rattle.std.specs.Prelude.{◌≡◌, false, option_map};
 ghost use Rattle.std.specs.Option.{option_map_or, option_or};
 ghost use Rattle.rpg_cards.specs.Files as known;
 ghost use Rattle.rpg_cards.specs.Groups.{open_file, output_role};
@@ -8,7 +8,7 @@ ghost use Rattle.rpg_faults_limits.specs.Sheets.{AreSheets};
 ghost use Rattle.rpg_faults_limits.specs.Files as files;
 
 use crate::sheets::Sheets;
-use rpg_card_index::IndexedCards;
+use rpg_card_index::{FirstCards, IndexedCards};
 use rpg_cards::{FileUse, SpecCard, use_of};
 use rpg_sheet_specs::{FileSpec, Movement, OutputRecord, Word};
 
@@ -17,16 +17,14 @@ use rpg_sheet_specs::{FileSpec, Movement, OutputRecord, Word};
 pub fn breaks_files(
     source: &IndexedCards,
     sheets: &Sheets,
-    before: &[SpecCard],
+    before: &FirstCards,
     card: &SpecCard,
-    after: &[SpecCard],
 ) -> bool
-    requires split { source.now ≡ before.now ++ card.now ∷ after.now }
-    requires sheets { AreSheets source.now before.now sheets.now }
+    requires { AreSheets source.now before.now sheets.now }
     ensures { result ≡ files.breaks_files source.now before.now card.now }
 {
     if let Some(file) = card.file() {
-        return is_bad_file(source, before.len(), file);
+        return is_bad_file(before, file);
     }
     if let Some(record_type) = card.record_type() {
         return lacks_input_file(source, sheets.types.is_open, &record_type.file);
@@ -44,25 +42,24 @@ pub fn lacks_input(source: &IndexedCards) -> bool
     source.file_for(FileUse::Primary).is_none()
 }
 
-/// Whether a file is wrong after the first `count` cards.
-fn is_bad_file(source: &IndexedCards, count: usize, file: &FileSpec) -> bool
-    ensures { result ≡ files.bad_file (take count source.now) file.now }
+fn is_bad_file(before: &FirstCards, file: &FileSpec) -> bool
+    ensures { result ≡ files.bad_file before.now file.now }
 {
     let serves_as = use_of(file);
-    source.file_named_before(&file.name, count).is_some()
-        || source.file_for_before(serves_as, count).is_some()
-        || ends_apart(source, count, file)
+    before.file_named(&file.name).is_some()
+        || before.file_for(serves_as).is_some()
+        || ends_apart(before, file)
         || !(1..=longest(serves_as)).contains(&file.record_length)
 }
 
-/// Whether the other input file is among the first `count` cards, and just one of the two ends the job.
-pub(crate) fn ends_apart(source: &IndexedCards, count: usize, file: &FileSpec) -> bool
-    ensures { result ≡ files.ends_apart (take count source.now) file.now }
+/// Whether the other input file comes before, and just one of the two ends the job.
+pub(crate) fn ends_apart(before: &FirstCards, file: &FileSpec) -> bool
+    ensures { result ≡ files.ends_apart before.now file.now }
 {
     let Some(other) = other_input(use_of(file)) else {
         return false;
     };
-    match source.file_for_before(other, count) {
+    match before.file_for(other) {
         None => false,
         Some(other) => file.ends_job != other.ends_job,
     }

@@ -1,6 +1,6 @@
 //! Which columns of a card a fault of names, limits, files or order points at.
 
-ghost use Rattle.std.specs.Prelude.{◌≡◌, ◌∷◌, ◌++◌, ◌≤◌, length, take};
+ghost use Rattle.std.specs.Prelude.{◌≡◌, ◌∷◌, ◌++◌, ◌≤◌, length};
 ghost use Rattle.rpg_cards.specs.Names.{definitions};
 ghost use Rattle.rpg_faults_limits.specs.Marks as marks;
 ghost use Rattle.rpg_faults_limits.specs.Names as names;
@@ -10,7 +10,7 @@ use crate::files::ends_apart;
 use crate::limits::has_bad_entries;
 use crate::names::{is_bad_table, is_other};
 use crate::state::Limits;
-use rpg_card_index::IndexedCards;
+use rpg_card_index::{FirstCards, IndexedCards};
 use rpg_cards::{Definition, FileUse, SpecCard, sized_form, use_of};
 use rpg_sheet_specs::{
     CalculationSpec, ColumnRange, ExtensionSpec, FileSpec, InputSpec, Movement, OutputSpec, Spec,
@@ -165,32 +165,25 @@ pub fn limit_columns(card: &SpecCard) -> Option<ColumnRange>
 
 /// F7: the name of a file, what makes it the second one of its use, whether it ends the job, or the record
 /// length.
-pub fn file_columns(
-    source: &IndexedCards,
-    before: &[SpecCard],
-    card: &SpecCard,
-    after: &[SpecCard],
-) -> Option<ColumnRange>
-    requires { source.now ≡ before.now ++ card.now ∷ after.now }
+pub fn file_columns(before: &FirstCards, card: &SpecCard) -> Option<ColumnRange>
     ensures { result ≡ marks.file_columns before.now card.now.spec }
 {
     match &card.spec {
-        Spec::File(file) => Some(file_range(source, before.len(), file)),
+        Spec::File(file) => Some(file_range(before, file)),
         Spec::Input(_) => Some(ColumnRange::TypeFile),
         Spec::Output(_) => Some(ColumnRange::LineFile),
         Spec::Header(_) | Spec::Extension(_) | Spec::Calculation(_) | Spec::Data(_) => None,
     }
 }
 
-/// Which columns of an F card are wrong after the first `count` cards.
-fn file_range(source: &IndexedCards, count: usize, file: &FileSpec) -> ColumnRange
-    ensures { result ≡ marks.file_range (take count source.now) file.now }
+fn file_range(before: &FirstCards, file: &FileSpec) -> ColumnRange
+    ensures { result ≡ marks.file_range before.now file.now }
 {
-    if source.file_named_before(&file.name, count).is_some() {
+    if before.file_named(&file.name).is_some() {
         ColumnRange::FileName
-    } else if source.file_for_before(use_of(file), count).is_some() {
+    } else if before.file_for(use_of(file)).is_some() {
         use_range(use_of(file))
-    } else if ends_apart(source, count, file) {
+    } else if ends_apart(before, file) {
         ColumnRange::EndsJob
     } else {
         ColumnRange::RecordLength

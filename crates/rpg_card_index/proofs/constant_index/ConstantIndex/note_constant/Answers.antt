@@ -26,7 +26,7 @@ returns c items is =
     record {
       standing = λ x.
           noted_more (is_same x) place_of_constant (is_same x) old.first.entries c.note.new.map.entries items (key ∷ []) (is.standing x)
-          (c.in_ok-is_first.ensures.noted x ∙ ap (λ p. option_or (lookup (is_same x) old.first.entries) (cond (is_same x key) (Some p) None)) place);
+          (c.in_ok-is_first.ensures.map x ∙ ap (λ p. option_or (lookup (is_same x) old.first.entries) (cond (is_same x key) (Some p) None)) place);
       running =
           running_more constant_totals items key old.totals c.push.new.self is.running c.in_ok-push.ensures.before
           (c.in_ok-push.ensures.all ∙ ap (λ t. with_item t c.in_ok-is_first.is_first c.size-bytes.result) is.running.all

@@ -40,7 +40,7 @@ returns c items is =
     record {
       defined = λ name.
           noted_more (is_of name) placed_definition (pointwise nat_eq name) old.first.entries c.note.new.map.entries items (d ∷ []) (is.defined name)
-          (c.in_ok-is_first.ensures.noted name ∙ ap (λ p. option_or (lookup (pointwise nat_eq name) old.first.entries) (cond (pointwise nat_eq name d.name) (Some (placed_definition p d)) None)) place);
+          (c.in_ok-is_first.ensures.map name ∙ ap (λ p. option_or (lookup (pointwise nat_eq name) old.first.entries) (cond (pointwise nat_eq name d.name) (Some (placed_definition p d)) None)) place);
       running =
           running_more name_totals items d old.totals c.push.new.self is.running c.in_ok-push.ensures.before
           (c.in_ok-push.ensures.all ∙ ap (λ t. with_item t c.if-is_first.is_new c.bytes_of.result) is.running.all

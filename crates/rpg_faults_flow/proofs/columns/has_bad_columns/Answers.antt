@@ -5,7 +5,7 @@ use Rattle.rpg_cards.specs.Calculations.{group_end, open_calculation_group}
 use Rattle.rpg_faults_flow.specs.Columns.{bad_calculation}
 use Rattle.rpg_faults_flow.specs.ByCard.{bad_card}
 use Rattle.rpg_sheet_specs.specs.declared.calculation.CalculationSpec.{CalculationSpec}
-use Rattle.rpg_faults_flow.proofs.columns.bad_columns.Goals as goal
+use Rattle.rpg_faults_flow.proofs.columns.has_bad_columns.Goals as goal
 
 pub bad_card-requires : goal.bad_card-requires
 bad_card-requires c =
