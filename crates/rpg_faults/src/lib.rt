@@ -1,5 +1,4 @@
-//! The cards of a source without faults, or the faults of a source; and the columns of records and
-//! lines.
+//! The cards of a source without faults, or the faults of a source; and the columns of records and lines.
 #![tactic(auto)]
 
 mod breach;

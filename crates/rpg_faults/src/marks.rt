@@ -119,11 +119,8 @@ fn place_columns(
         card.output_field()?;
         return Some(ColumnRange::EndPosition);
     };
-    place_on_input(
-        own_length(source, sheets.types.file, input),
-        &places.lengths,
-        input,
-    )
+    let length = own_length(source, sheets.types.file, input);
+    place_on_input(length, &places.lengths, input)
 }
 
 fn place_on_input(
