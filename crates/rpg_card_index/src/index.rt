@@ -115,7 +115,7 @@ impl<'a> IndexedCards<'a> {
         let _constants = self.index.constants.count();
     }
 
-    /// Whether each definition has a form: its length, decimals and entries are within their limits.
+    /// Whether each definition has a form.
     pub fn all_have_forms(&self) -> bool
         ensures { result ≡ list_all has_form (names.definitions self.now) }
     {

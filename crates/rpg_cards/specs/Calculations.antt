@@ -97,18 +97,18 @@ abbrev pub group_with : Option CalculationGroup → CalculationSpec → Calculat
 group_with None k = alone k
 group_with (Some g) k = if joins k.control_level then joined_group g k else alone k
 
--- ---- from the front: the group of the previous card
+-- ---- from the front: the group that the previous card belongs to
 
--- the open group after a card; only C cards change it
+-- the group of a card, if that is a C card and this group was open before it
 abbrev pub open_with : Option CalculationGroup → Spec → Option CalculationGroup
 open_with o s = option_map (group_with o) (calculation_on s)
 
--- the open group after all these cards
+-- the group of the last of these cards, if that is a C card
 abbrev pub open_after : Option CalculationGroup → List SpecCard → Option CalculationGroup
 open_after o [] = o
 open_after o (c ∷ cs) = open_after (open_with o c.spec) cs
 
--- the group of the last C card
+-- the group that the next card may continue: that of the previous card, if it is a C card
 abbrev pub open_calculation_group : List SpecCard → Option CalculationGroup
 open_calculation_group before = open_after None before
 

@@ -1,11 +1,12 @@
 -- Phases done one after another.
+use Rattle.rpg_paper.specs.Form.{line_of}
 use Rattle.std.proofs.Common.{Result, Ok, Err, IfOk, ◌≡◌, ℕ, Bool, true, false, [], ◌++◌, List, Option, None, Some, refl, sym, ap, ◌∙◌, subst, append_assoc, append-nil}
 use Rattle.std.specs.Option.{ForSome}
 use Rattle.std.specs.Result.{IsErrAnd}
 use Rattle.rpg_paper.proofs.Papers.{bytes_from-append}
 use Rattle.rpg_paper.specs.Paper.{Placed, Position, bytes_from, last_position_from}
 use Rattle.rpg_program.proofs.Putting.{disk-append, end_from-lines}
-use Rattle.rpg_program.specs.Put.{Bytes, disk_bytes, line_of, with_output}
+use Rattle.rpg_program.specs.Put.{Bytes, disk_bytes, with_output}
 use Rattle.rpg_cycle.specs.Doing.{Does, DoesAfter, Beside, DoesAlone, under_way, unselected}
 use Rattle.rpg_cycle_records.specs.Waiting.{unread}
 use Rattle.rpg_program.specs.Object.{Object}

@@ -1,8 +1,9 @@
 -- Runs under way: what was done so far, and what is left.
+use Rattle.rpg_paper.specs.Form.{line_of}
 use Rattle.std.proofs.Common.{◌≡◌, ℕ, suc, ◌+◌, max, ◌<◌, ◌≤◌, Bool, true, ◌&&◌, List, [], ◌∷◌, ◌++◌, Option, None, Some, refl, sym, ap, ◌∙◌, subst, append_assoc, append-nil, arith}
 use Rattle.rpg_paper.specs.Paper.{Placed, Position, last_position_from, paper}
 use Rattle.rpg_program.proofs.Putting.{end_from-lines}
-use Rattle.rpg_program.specs.Put.{Bytes, line_of, with_output}
+use Rattle.rpg_program.specs.Put.{Bytes, with_output}
 use Rattle.rpg_program.specs.declared.input.InputFile.{InputFile}
 use Rattle.rpg_program.specs.declared.input.InputFile.TheVariants.{Primary, Secondary}
 use Rattle.rpg_cycle.proofs.Composing.{output_both, output_none}

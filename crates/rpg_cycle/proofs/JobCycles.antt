@@ -1,9 +1,10 @@
 -- What a machine's cycle means for the job.
+use Rattle.rpg_paper.specs.Form.{line_of}
 use Rattle.std.proofs.Common.{◌≡◌, ◌≤◌, ℕ, true, false, List, [], Option, None, Some, Result, Ok, Err, refl, sym, ap, ◌∙◌, subst, append-nil}
 use Rattle.std.specs.Result.{IsErrAnd}
 use Rattle.rpg_paper.specs.Paper.{Position, last_position_from}
 use Rattle.rpg_program.specs.Fronts.{OnlyGrows}
-use Rattle.rpg_program.specs.Put.{Bytes, line_of, with_output}
+use Rattle.rpg_program.specs.Put.{Bytes, with_output}
 use Rattle.rpg_cycle.proofs.Cycling.{from_last, keeps}
 use Rattle.rpg_cycle.specs.Doing.{Does, Beside, holding, under_way, unselected}
 use Rattle.rpg_cycle_records.specs.Earlier.{Left, Selected, left_by, with_record}

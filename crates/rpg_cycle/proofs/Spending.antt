@@ -1,4 +1,5 @@
 -- What phases take, and that all of them together are within the bound.
+use Rattle.rpg_paper.specs.Form.{line_of}
 use Rattle.std.proofs.Common.{◌≡◌, ℕ, ◌≤◌, ◌<◌, ◌+◌, ◌-◌, ◌*◌, ◌^◌, Bool, true, false, cond, ◌&&◌, not, leb, List, [], ◌∷◌, length, slice_get, slice_index, Option, None, Some, is_some, refl, ap, ◌∙◌, subst, arith}
 use Rattle.std.proofs.lemmas.Bool.Decides.{nat_tests}
 use Rattle.std.specs.List.{list_all}
@@ -6,7 +7,6 @@ use Rattle.rpg_paper.specs.Paper.{Position}
 use Rattle.rpg_program.specs.Ends as effects
 use Rattle.rpg_program.specs.Input.{TypeRow}
 use Rattle.rpg_program.specs.Lines as lines
-use Rattle.rpg_program.specs.Put.{line_of}
 use Rattle.rpg_program.specs.Weights.{is_at_detail, is_at_total, is_in_cycle, line_weight, lines_weight, type_weight, types_weight}
 use Rattle.rpg_program.specs.declared.line.Time.{Time}
 use Rattle.rpg_program.specs.declared.line.Time.TheVariants as times

@@ -1,10 +1,11 @@
 -- That a machine did a phase, in terms of its calls.
+use Rattle.rpg_paper.specs.Form.{line_of}
 use Rattle.std.specs.Prelude.{◌≡◌, ℕ, Bool, true, List, Option, None, IfSome}
 use Rattle.std.specs.List.{list_all}
 use Rattle.std.specs.Option.{option_map}
 use denote.Bor.{Bor}
 use Rattle.rpg_paper.specs.Paper.{Position, last_position_from}
-use Rattle.rpg_program.specs.Put.{line_of, with_output}
+use Rattle.rpg_program.specs.Put.{with_output}
 use Rattle.rpg_cycle_records.specs.Earlier.{Selected}
 use Rattle.rpg_cycle_records.specs.Holding.{inputs_of, text_in}
 use Rattle.rpg_cycle_records.specs.Keeping.{left_of, selected_as}

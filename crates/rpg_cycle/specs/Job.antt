@@ -1,9 +1,10 @@
 -- A job as its callers see it. Of the lines before it remembers only the last one placed, as the machine does.
+use Rattle.rpg_paper.specs.Form.{line_of}
 use Rattle.std.specs.Prelude.{◌≡◌, ℕ, ℤ, ◌++◌, ◌≤◌, Bool, true, false, ◌&&◌, List, [], Option, None, Some, Result, IfOk, IsOk, OnErr}
 use Rattle.std.specs.Ordering.{nat_cmp}
 use Rattle.rpg_paper.specs.Paper.{Position, last_position_from}
 use Rattle.rpg_program.specs.Fronts.{OnlyGrows}
-use Rattle.rpg_program.specs.Put.{Bytes, line_of, with_output}
+use Rattle.rpg_program.specs.Put.{Bytes, with_output}
 use Rattle.rpg_program.specs.World.{Fields}
 use Rattle.rpg_cycle_records.specs.Earlier.{Left, Selected, left_by, with_record}
 use Rattle.rpg_cycle_records.specs.Holding.{AreFilesKept, inputs_of}

@@ -1,4 +1,5 @@
 -- The bytes of a run, and the parts of them that were sent.
+use Rattle.rpg_paper.specs.Form.{line_of}
 use Rattle.std.proofs.Common.{◌≡◌, ℕ, ◌+◌, List, [], ◌∷◌, ◌++◌, length, take, Option, Some, None, refl, sym, ap, ◌∙◌, subst, append_assoc, append-nil, arith, length-append}
 use Rattle.std.proofs.Math.Seq.{take-append-add, take-length}
 use Rattle.std.proofs.lemmas.List.{take-append-le}
@@ -11,7 +12,7 @@ use Rattle.rpg_cycle.specs.Stages.{stage_at}
 use Rattle.rpg_paper.proofs.Papers.{bytes_from-append}
 use Rattle.rpg_paper.specs.Paper.{Placed, Position, bytes_from, last_position, last_position_from, paper}
 use Rattle.rpg_program.proofs.Putting.{disk-append, end_from-lines}
-use Rattle.rpg_program.specs.Put.{Bytes, disk_bytes, line_of, with_output}
+use Rattle.rpg_program.specs.Put.{Bytes, disk_bytes, with_output}
 use Rattle.rpg_files.specs.Sending.{AppendsFirst}
 use Rattle.rpg_machine.specs.Config.{Output, with_more}
 use Rattle.rpg_machine.specs.Running.{feed_after, no_bytes}

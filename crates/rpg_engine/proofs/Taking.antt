@@ -1,4 +1,5 @@
 -- A cycle with what two readers of records found.
+use Rattle.rpg_paper.specs.Form.{line_of}
 use Rattle.std.proofs.Common.{◌≡◌, ℕ, ◌+◌, ◌&&◌, Bool, true, false, List, [], ◌∷◌, ◌++◌, length, Option, Some, None, Result, Ok, refl, sym, ap, ◌∙◌, subst, arith, inl, inr}
 use Rattle.std.proofs.KnownBytes.{Consumes-nil}
 use Rattle.std.proofs.lemmas.Bool.{and_right}
@@ -13,7 +14,6 @@ use Rattle.rpg_cycle_records.specs.Earlier.{Selected, left_by}
 use Rattle.rpg_cycle_records.specs.Identifying.{is_valid_record}
 use Rattle.rpg_cycle_records.specs.Merging.{AreMergedInOrder}
 use Rattle.rpg_cycle_records.specs.Waiting.{Inputs, input_at}
-use Rattle.rpg_program.specs.Put.{line_of}
 use Rattle.rpg_program.specs.declared.input.InputFile.{InputFile}
 use Rattle.rpg_program.specs.declared.input.InputFile.TheVariants.{Primary, Secondary}
 use Rattle.rpg_files.specs.Counting.{faults_of}

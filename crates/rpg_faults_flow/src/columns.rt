@@ -12,7 +12,7 @@ use crate::group_end::RemainingCards;
 use rpg_cards::{Column, Content, Shown, SpecCard, columns, continues, depends, joins, plain_name};
 use rpg_sheet_specs::{CalculationSpec, Entry, Factor, Indicator, Operation, Three};
 
-/// F9 of calculation cards, for the first of the remaining cards. The sequence of what LOKUP searches isn't looked at.
+/// F9 of calculation cards, for the first of the remaining cards. Doesn't check the sequence of what LOKUP searches.
 pub fn bad_columns(before: &[SpecCard], remaining: &RemainingCards) -> bool
     ensures { result ≡ spec.bad_next_columns before.now remaining.now }
 {

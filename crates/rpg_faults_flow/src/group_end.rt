@@ -8,7 +8,7 @@ use rpg_cards::{SpecCard, continues, group_end};
 use rpg_sheet_specs::CalculationSpec;
 use std::marker::Model;
 
-/// The cards from a card on, with the last card of its group. The cards of a group are then read once, and not once for each of them.
+/// The cards from a card on, with the last card of its group. `pass` keeps that card while the group lasts, so a group is read once.
 #[derive(Drop)]
 pub struct RemainingCards<'a> {
     cards: &'a [SpecCard],

@@ -12,8 +12,8 @@ use rpg_card_index::{FirstCards, IndexedCards};
 use rpg_cards::{FileUse, SpecCard, use_of};
 use rpg_sheet_specs::{FileSpec, Movement, OutputRecord, Word};
 
-/// F7, on a card: an F card whose name or use is taken, whose column 17 doesn't agree with the other input file's, or whose records are too
-/// long; a type or record card without a file of its use.
+/// F7, on a card: an F card whose name or use is taken, whose column 17 doesn't agree with the other input file's, or whose records have a
+/// length of 0 or are too long; a type or record card without a file of its use.
 pub fn breaks_files(
     source: &IndexedCards,
     sheets: &Sheets,

@@ -26,12 +26,12 @@ page_or_1 None = 1
 page_or_1 (Some p) = p.page
 
 -- the line of a position, if there is one
-abbrev pub line_or_none : Option Position → Option ℕ
-line_or_none previous = option_map (λ p. p.line) previous
+abbrev pub line_of : Option Position → Option ℕ
+line_of previous = option_map (λ p. p.line) previous
 
 -- the form is at `here`, where `previous` is the position of the line placed last
 pub record StandsAt (form : Standing) (previous : Option Position) (here : Position) : Type 0 where
-  pub last_line : form.last ≡ line_or_none previous
+  pub last_line : form.last ≡ line_of previous
   pub page : here.page ≡ page_or_1 previous + form.begun
   pub present_line : here.line ≡ form.line
 

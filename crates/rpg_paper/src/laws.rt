@@ -2,7 +2,7 @@
 
 ghost use Rattle.std.specs.Prelude.{◌≡◌, ℕ, ◌+◌, ◌≤◌, List, ◌++◌, Option, IsTrue, ◌↔◌};
 ghost use Rattle.rpg_paper.specs.Paper.{Position, Placed, TurnsOverflowOn, turns_overflow_on, lines_to, spaced, skipped, bytes_from, paper, last_position};
-ghost use Rattle.rpg_paper.specs.Form.{FormLine, line_or_none, placed_after, form_bytes};
+ghost use Rattle.rpg_paper.specs.Form.{FormLine, line_of, placed_after, form_bytes};
 
 /// Lines placed after others add to the paper what they add after its last line.
 pub fn lines_follow_lines()
@@ -30,5 +30,5 @@ pub fn overflow_is_tested()
 /// Pages counted from the previous line give the bytes of the positions.
 pub fn counted_pages_give_positions()
     ensures { (previous : Option Position) (xs : List FormLine)
-        → bytes_from previous (placed_after previous xs) ≡ form_bytes (line_or_none previous) xs }
+        → bytes_from previous (placed_after previous xs) ≡ form_bytes (line_of previous) xs }
 {}

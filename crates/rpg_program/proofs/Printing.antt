@@ -3,13 +3,13 @@ use Rattle.std.proofs.Common.{◌≡◌, ℕ, ◌+◌, ◌-◌, Bool, true, fals
 use Rattle.std.proofs.Math.Nat.{add_left_cancel}
 use Rattle.std.specs.Ordering.{nat_cmp}
 use Rattle.rpg_paper.proofs.Papers.{way_is}
-use Rattle.rpg_paper.specs.Form.{Standing, StandsAt, page_or_1, way_of}
+use Rattle.rpg_paper.specs.Form.{Standing, StandsAt, line_of, page_or_1, way_of}
 use Rattle.rpg_paper.specs.Paper.{Position, spaced, skipped, turns_overflow_on, way}
 use Rattle.rpg_paper.specs.Form.{trimmed}
 use Rattle.rpg_program.proofs.Putting.{quiet_done, then_done}
 use Rattle.rpg_program.specs.Effect.{Leaves}
 use Rattle.rpg_program.specs.Lines.{after_skip, after_space, spaced_after, spaced_before, after_movement, printed_line, put_on}
-use Rattle.rpg_program.specs.Put.{Bytes, Held, IsDone, IsLeft, line_of, on_paper}
+use Rattle.rpg_program.specs.Put.{Bytes, Held, IsDone, IsLeft, on_paper}
 use Rattle.rpg_program.specs.Ends.{Continues}
 use Rattle.rpg_program.specs.Showing.{turned_on}
 use Rattle.rpg_program.specs.World.{World}

@@ -1,10 +1,11 @@
 -- Outputs, one after another.
+use Rattle.rpg_paper.specs.Form.{line_of}
 use Rattle.std.proofs.Common.{◌≡◌, ℕ, List, [], ◌∷◌, ◌++◌, Option, Some, refl, sym, ap, ◌∙◌, subst, append_assoc, append-nil}
 use Rattle.std.specs.Ordering.{nat_cmp}
 use Rattle.rpg_paper.proofs.Papers.{bytes_from-append}
 use Rattle.rpg_paper.specs.Paper.{Position, Placed, bytes_from, last_position_from}
 use Rattle.rpg_program.specs.Effect.{Effect, quiet, then_go, go_on, after_output}
-use Rattle.rpg_program.specs.Put.{Bytes, Held, IsDone, IsLeft, disk_bytes, line_of, on_paper, with_output}
+use Rattle.rpg_program.specs.Put.{Bytes, Held, IsDone, IsLeft, disk_bytes, on_paper, with_output}
 use Rattle.rpg_program.specs.Ends.{End, Continues, Halt}
 use Rattle.rpg_program.specs.Ended.{Ended, ends_with, on_data}
 use Rattle.rpg_program.specs.World.{Data, World}

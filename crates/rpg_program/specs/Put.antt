@@ -1,9 +1,9 @@
 -- The output so far: lines and records, and their bytes. Of the lines before, a form remembers only the last one placed, so its worlds
 -- count pages from there, and what is stated about an output holds for every line that may have been placed before.
-use Rattle.std.specs.Prelude.{◌≡◌, ℕ, ◌+◌, List, [], ◌∷◌, ◌++◌, Option, option_map}
+use Rattle.std.specs.Prelude.{◌≡◌, ℕ, ◌+◌, List, [], ◌∷◌, ◌++◌, Option}
 use Rattle.std.specs.Ordering.{nat_cmp}
 use Rattle.std.specs.declared.cmp.Ordering.{Ordering}
-use Rattle.rpg_paper.specs.Form.{page_or_1}
+use Rattle.rpg_paper.specs.Form.{line_of, page_or_1}
 use Rattle.rpg_paper.specs.Paper.{Position, Placed, bytes_from, last_position_from, last_position, paper}
 use Rattle.rpg_program.specs.Effect.{Effect}
 use Rattle.rpg_program.specs.Ends.{End}
@@ -26,10 +26,6 @@ with_output previous lines records old = record { print = old.print ++ bytes_fro
 -- the world whose pages were counted from the line placed last, with its place on the paper
 abbrev pub on_paper : {K : Type 0} {R : K → K → Ordering} → Option Position → World R → World R
 on_paper previous w = record w { paper = record w.paper { here = record { page = page_or_1 previous + w.paper.here.page; line = w.paper.here.line } } }
-
--- the line of a position, if there is one
-abbrev pub line_of : Option Position → Option ℕ
-line_of previous = option_map (λ p. p.line) previous
 
 -- what a machine holds of a paper: the line placed last, and the world whose pages are counted from there
 pub record Held : Type 0 where

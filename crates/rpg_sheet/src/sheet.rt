@@ -149,8 +149,7 @@ impl Cards {
     }
 }
 
-/// Reads a card that follows a sheet at place `latest`, and data if `data_begun`, into `spec`, or returns the fault of its form type or
-/// columns.
+/// Reads a card that follows a sheet at place `latest`, and data if `data_begun`, into `spec`, or returns its fault.
 pub(crate) fn read(
     spec: &mut Option<Spec>,
     card: &Card,
