@@ -1,30 +1,69 @@
 -- The sheets of cards with one more card.
-use Rattle.std.proofs.Common.{◌≡◌, List, [], ◌∷◌, ◌++◌, map, Option, None, Some, sym, ap, ◌∙◌, append-nil}
+use Rattle.std.proofs.Common.{◌≡◌, Bool, false, List, [], ◌∷◌, ◌++◌, map, Option, None, Some, refl, sym, ap, ◌∙◌, append-nil}
 use Rattle.std.proofs.lemmas.List.{map-append}
-use Rattle.std.proofs.lemmas.List.Elements.{filter_map-append}
 use Rattle.std.specs.Borrow.{Bor}
-use Rattle.std.specs.List.{cons_option}
-use Rattle.std.specs.Option.{option_map}
+use Rattle.std.specs.List.{cons_option, last_or}
+use Rattle.std.specs.Option.{option_map, option_map_or}
+use Rattle.std.specs.Prelude.{is_some}
 use Rattle.rpg_cards.specs.declared.spec_card.SpecCard.{SpecCard}
 use Rattle.rpg_deck.specs.Seen.{card_in_memory}
-use Rattle.rpg_deck.specs.Tree.{numbered_card, cards_on}
+use Rattle.rpg_deck.specs.Tree.{cards_from, cards_on, numbered_card, same_sheet}
 use Rattle.rpg_deck.specs.declared.card.Card.{Card}
 use Rattle.rpg_sheet_specs.specs.declared.spec.Spec.{Spec}
 
-module _ {X : Type 0} (on : Spec → Option X) (before : List SpecCard) (c : SpecCard) where
-  -- with what the card is on this sheet
-  abbrev with_one : Option X → List (Card X)
-  with_one o = cards_on on before ++ cons_option (option_map (λ x. record { number = c.number; spec = x }) o) []
+-- the last of some cards and one more
+pub last_push : {X : Type 0} (x : X) (xs : List X) {ys : List X} → ys ≡ xs ++ x ∷ [] → last_or None ys ≡ Some x
+last_push x xs is = ap (last_or None) is ∙ of xs None
+  where
+    of : (zs : List _) (d : Option _) → last_or d (zs ++ x ∷ []) ≡ Some x
+    of [] d = refl
+    of (z ∷ zs) d = of zs (Some z)
 
-  with_card : (o : Option X) → on c.spec ≡ o → cards_on on (before ++ c ∷ []) ≡ with_one o
-  with_card o is = filter_map-append (numbered_card on) before (c ∷ []) ∙ ap with_one is
+module _ {X : Type 0} (on : Spec → Option X) where
+  -- whether the card after all of these adjoins one of the sheet
+  abbrev after_all : Bool → List SpecCard → Bool
+  after_all adjoins [] = adjoins
+  after_all adjoins (c ∷ cs) = after_all (is_some (on c.spec)) cs
 
-  -- a card of another sheet
-  pub kept : (items : List (Card (Bor X))) → on c.spec ≡ None → map card_in_memory items ≡ cards_on on before → map card_in_memory items ≡ cards_on on (before ++ c ∷ [])
-  kept items is so_far = so_far ∙ sym (append-nil (cards_on on before)) ∙ sym (with_card None is)
+  abbrev is_on : Option SpecCard → Bool
+  is_on o = option_map_or (λ (c : SpecCard). is_some (on c.spec)) o false
 
-  -- a card of this sheet
-  pub put : (x : X) (items new : List (Card (Bor X))) (one : Card (Bor X)) → on c.spec ≡ Some x → map card_in_memory items ≡ cards_on on before → new ≡ items ++ one ∷ [] → card_in_memory one ≡ record { number = c.number; spec = x } → map card_in_memory new ≡ cards_on on (before ++ c ∷ [])
-  put x items new one is so_far more same =
-      ap (map card_in_memory) more ∙ map-append card_in_memory items (one ∷ [])
-      ∙ ap (λ cs. cs ++ card_in_memory one ∷ []) so_far ∙ ap (λ k. cards_on on before ++ k ∷ []) same ∙ sym (with_card (Some x) is)
+  by_last : (o : Option SpecCard) (cs : List SpecCard) → after_all (is_on o) cs ≡ is_on (last_or o cs)
+  by_last o [] = refl
+  by_last o (c ∷ cs) = by_last (Some c) cs
+
+  from_push : (adjoins : Bool) (cs : List SpecCard) (c : SpecCard) → cards_from on adjoins (cs ++ c ∷ []) ≡ cards_from on adjoins cs ++ cons_option (numbered_card on (after_all adjoins cs) c) []
+  from_push adjoins [] c = refl
+  from_push adjoins (d ∷ ds) c = ap (cons_option (numbered_card on adjoins d)) (from_push (is_some (on d.spec)) ds c) ∙ by (numbered_card on adjoins d)
+    where
+      by : (o : Option (Card X)) → cons_option o (cards_from on (is_some (on d.spec)) ds ++ cons_option (numbered_card on (after_all (is_some (on d.spec)) ds) c) []) ≡ cons_option o (cards_from on (is_some (on d.spec)) ds) ++ cons_option (numbered_card on (after_all (is_some (on d.spec)) ds) c) []
+      by None = refl
+      by (Some k) = refl
+
+  module _ (before : List SpecCard) (c : SpecCard) where
+    -- with what the card is on this sheet
+    abbrev with_one : Bool → Option X → List (Card X)
+    with_one adjoins o = cards_on on before ++ cons_option (option_map (λ x. record { number = c.number; adjoins = adjoins; spec = x }) o) []
+
+    with_card : (o : Option X) → on c.spec ≡ o → cards_on on (before ++ c ∷ []) ≡ with_one (is_on (last_or None before)) o
+    with_card o is = from_push false before c ∙ ap (λ b. with_one b (on c.spec)) (by_last None before) ∙ ap (with_one (is_on (last_or None before))) is
+
+    -- a card of another sheet
+    pub kept : (items : List (Card (Bor X))) → on c.spec ≡ None → map card_in_memory items ≡ cards_on on before → map card_in_memory items ≡ cards_on on (before ++ c ∷ [])
+    kept items is so_far = so_far ∙ sym (append-nil (cards_on on before)) ∙ sym (with_card None is)
+
+    -- a card of this sheet
+    pub put : (x : X) (items new : List (Card (Bor X))) (one : Card (Bor X)) (adjoins : Bool) → on c.spec ≡ Some x → map card_in_memory items ≡ cards_on on before → new ≡ items ++ one ∷ []
+        → card_in_memory one ≡ record { number = c.number; adjoins = adjoins; spec = x } → adjoins ≡ is_on (last_or None before) → map card_in_memory new ≡ cards_on on (before ++ c ∷ [])
+    put x items new one adjoins is so_far more same last =
+        ap (map card_in_memory) more ∙ map-append card_in_memory items (one ∷ [])
+        ∙ ap (λ cs. cs ++ card_in_memory one ∷ []) so_far ∙ ap (λ k. cards_on on before ++ k ∷ []) (same ∙ ap (λ b. record { number = c.number; adjoins = b; spec = x }) last) ∙ sym (with_card (Some x) is)
+
+    -- whether the card right before it is of this sheet
+    pub by_previous : (s : Spec) (adjoins : Bool) (previous : Option SpecCard) → ((p : Spec) → same_sheet p s ≡ is_some (on p)) → c.spec ≡ s
+        → adjoins ≡ option_map_or (λ (p : SpecCard). same_sheet p.spec c.spec) previous false → previous ≡ last_or None before → adjoins ≡ is_on (last_or None before)
+    by_previous s adjoins previous same is here last = here ∙ ap (λ t. option_map_or (λ (p : SpecCard). same_sheet p.spec t) previous false) is ∙ of previous ∙ ap is_on last
+      where
+        of : (o : Option SpecCard) → option_map_or (λ (p : SpecCard). same_sheet p.spec s) o false ≡ is_on o
+        of None = refl
+        of (Some p) = same p.spec

@@ -1,26 +1,35 @@
 -- The sheets of cards in order, one after the other, are the cards.
-use Rattle.std.specs.List.{cons_option}
+use Rattle.std.specs.List.{cons_option, filter_map}
 use Rattle.std.specs.Option.{option_map}
-use Rattle.std.proofs.Common.{◌≡◌, ℕ, ◌<◌, List, [], ◌∷◌, ◌++◌, Option, None, Some, refl, ap, ◌∙◌, arith}
+use Rattle.std.specs.Prelude.{is_some}
+use Rattle.std.proofs.Common.{◌≡◌, ℕ, ◌<◌, Bool, false, List, [], ◌∷◌, ◌++◌, Option, None, Some, refl, ap, ◌∙◌, arith}
 use Rattle.rpg_cards.specs.Cards.{calculation_on, data_on, extension_on, file_on, input_on, output_on}
 use Rattle.rpg_cards.specs.declared.spec_card.SpecCard.{SpecCard}
 use Rattle.rpg_deck.specs.Cut.{all_in, flat_sheet}
-use Rattle.rpg_deck.specs.declared.card.Card.{Card}
-use Rattle.rpg_sheet_specs.specs.declared.calculation.CalculationSpec.{CalculationSpec}
-use Rattle.rpg_sheet_specs.specs.declared.data.DataSpec.{DataSpec}
-use Rattle.rpg_sheet_specs.specs.declared.input.InputSpec.{InputSpec}
-use Rattle.rpg_sheet_specs.specs.declared.output.OutputSpec.{OutputSpec}
 use Rattle.rpg_deck.proofs.Cutting.{whole_groups, whole_sheet}
-use Rattle.rpg_deck.specs.Tree.{begins_calculation, is_deck_card, is_line_card, is_type_card, cards_on, header_on, tree}
+use Rattle.rpg_deck.specs.Tree.{begins_calculation, is_deck_card, is_line_card, is_type_card, cards_from, cards_on, header_on, tree}
 use Rattle.rpg_deck.specs.Flat.{IsInOrder, back, flat, place}
 use Rattle.rpg_sheet_specs.specs.declared.spec.Spec.{Spec}
 use Rattle.rpg_sheet_specs.specs.declared.spec.Spec.TheVariants as spec
 
 -- the cards of a sheet
-abbrev pub sheet : {X : Type 0} → (Spec → Option X) → (X → Spec) → List SpecCard → List SpecCard
-sheet on make cards = back make (cards_on on cards)
+abbrev sheet : {X : Type 0} → (Spec → Option X) → (X → Spec) → List SpecCard → List SpecCard
+sheet on make cards = filter_map (λ (c : SpecCard). option_map (λ x. record { number = c.number; spec = make x }) (on c.spec)) cards
 
-abbrev pub joined : List SpecCard → List SpecCard
+module _ {X : Type 0} (on : Spec → Option X) (make : X → Spec) where
+  back_from : (adjoins : Bool) (cards : List SpecCard) → back make (cards_from on adjoins cards) ≡ sheet on make cards
+  back_from adjoins [] = refl
+  back_from adjoins (c ∷ cs) = by (on c.spec) (back_from (is_some (on c.spec)) cs)
+    where
+      by : (o : Option X) → back make (cards_from on (is_some (on c.spec)) cs) ≡ sheet on make cs
+          → back make (cons_option (option_map (λ x. record { number = c.number; adjoins = adjoins; spec = x }) o) (cards_from on (is_some (on c.spec)) cs)) ≡ cons_option (option_map (λ x. record { number = c.number; spec = make x }) o) (sheet on make cs)
+      by None rest = rest
+      by (Some x) rest = ap (λ ds. record { number = c.number; spec = make x } ∷ ds) rest
+
+  back_is : (cards : List SpecCard) → back make (cards_on on cards) ≡ sheet on make cards
+  back_is cards = back_from false cards
+
+abbrev joined : List SpecCard → List SpecCard
 joined cards =
     sheet header_on spec.Header cards ++ (sheet file_on spec.File cards ++ (sheet extension_on spec.Extension cards
     ++ (sheet input_on spec.Input cards ++ (sheet calculation_on spec.Calculation cards
@@ -33,7 +42,7 @@ none on make i other low (c ∷ cs) past ordered =
     let later : i < place c.spec = omega arith in
     by (on c.spec) (other c.spec later) (none on make i other (place c.spec) cs later ordered.1)
   where
-    by : (o : Option _) → o ≡ None → sheet on make cs ≡ [] → back make (cons_option (option_map (λ x. record { number = c.number; spec = x }) o) (cards_on on cs)) ≡ []
+    by : (o : Option _) → o ≡ None → sheet on make cs ≡ [] → cons_option (option_map (λ x. record { number = c.number; spec = make x }) o) (sheet on make cs) ≡ []
     by None is rest = rest
     by (Some x) is rest = absurd cc
 
@@ -126,32 +135,49 @@ module _ (n : ℕ) (cs : List SpecCard) where
       (past (sheet calculation_on spec.Calculation cs) _ _ _ (none calculation_on spec.Calculation 4 no_calculation 6 cs (omega arith) ordered)
       (past (sheet output_on spec.Output cs) _ _ _ (none output_on spec.Output 5 no_output 6 cs (omega arith) ordered) refl)))))
 
-pub in_order : (low : ℕ) (cards : List SpecCard) → IsInOrder low cards → joined cards ≡ cards
+in_order : (low : ℕ) (cards : List SpecCard) → IsInOrder low cards → joined cards ≡ cards
 in_order low [] ordered = refl
 in_order low (c ∷ cs) ordered = first c.number cs c.spec ordered.1 ∙ ap (λ ds. c ∷ ds) (in_order (place c.spec) cs ordered.1)
 
 -- the law
 pub flat-tree : (cards : List SpecCard) → IsInOrder 0 cards → flat (tree cards) ≡ cards
 flat-tree cards ordered =
-    ap (λ xs. laid xs (all_in (tree cards).calculations) (flat_sheet (tree cards).lines) (flat_sheet (tree cards).decks)) (whole_sheet is_type_card inputs)
-    ∙ ap (λ xs. laid inputs xs (flat_sheet (tree cards).lines) (flat_sheet (tree cards).decks)) (whole_groups begins_calculation calculations)
-    ∙ ap (λ xs. laid inputs calculations xs (flat_sheet (tree cards).decks)) (whole_sheet is_line_card outputs)
-    ∙ ap (λ xs. laid inputs calculations outputs xs) (whole_sheet is_deck_card decks)
+    ap (λ is. laid hs fs es (back spec.Input is) ks (back spec.Output (flat_sheet (tree cards).lines)) (back spec.Data (flat_sheet (tree cards).decks))) (whole_sheet is_type_card (cards_on input_on cards))
+    ∙ ap (λ os. laid hs fs es is ks (back spec.Output os) (back spec.Data (flat_sheet (tree cards).decks))) (whole_sheet is_line_card (cards_on output_on cards))
+    ∙ ap (λ ds. laid hs fs es is ks os (back spec.Data ds)) (whole_sheet is_deck_card (cards_on data_on cards))
+    ∙ ap (λ xs. laid hs fs es is (back spec.Calculation xs) os ds) (whole_groups begins_calculation (cards_on calculation_on cards))
+    ∙ ap (λ xs. laid xs fs es is cs os ds) (back_is header_on spec.Header cards)
+    ∙ ap (λ xs. laid (sheet header_on spec.Header cards) xs es is cs os ds) (back_is file_on spec.File cards)
+    ∙ ap (λ xs. laid (sheet header_on spec.Header cards) (sheet file_on spec.File cards) xs is cs os ds) (back_is extension_on spec.Extension cards)
+    ∙ ap (λ xs. laid (sheet header_on spec.Header cards) (sheet file_on spec.File cards) (sheet extension_on spec.Extension cards) xs cs os ds) (back_is input_on spec.Input cards)
+    ∙ ap (λ xs. laid (sheet header_on spec.Header cards) (sheet file_on spec.File cards) (sheet extension_on spec.Extension cards) (sheet input_on spec.Input cards) xs os ds) (back_is calculation_on spec.Calculation cards)
+    ∙ ap (λ xs. laid (sheet header_on spec.Header cards) (sheet file_on spec.File cards) (sheet extension_on spec.Extension cards) (sheet input_on spec.Input cards) (sheet calculation_on spec.Calculation cards) xs ds) (back_is output_on spec.Output cards)
+    ∙ ap (λ xs. laid (sheet header_on spec.Header cards) (sheet file_on spec.File cards) (sheet extension_on spec.Extension cards) (sheet input_on spec.Input cards) (sheet calculation_on spec.Calculation cards) (sheet output_on spec.Output cards) xs) (back_is data_on spec.Data cards)
     ∙ in_order 0 cards ordered
   where
-    inputs : List (Card InputSpec)
-    inputs = cards_on input_on cards
+    laid : List SpecCard → List SpecCard → List SpecCard → List SpecCard → List SpecCard → List SpecCard → List SpecCard → List SpecCard
+    laid hs fs es is ks os ds = hs ++ (fs ++ (es ++ (is ++ (ks ++ (os ++ ds)))))
 
-    calculations : List (Card CalculationSpec)
-    calculations = cards_on calculation_on cards
+    hs : List SpecCard
+    hs = back spec.Header (cards_on header_on cards)
 
-    outputs : List (Card OutputSpec)
-    outputs = cards_on output_on cards
+    fs : List SpecCard
+    fs = back spec.File (cards_on file_on cards)
 
-    decks : List (Card DataSpec)
-    decks = cards_on data_on cards
+    es : List SpecCard
+    es = back spec.Extension (cards_on extension_on cards)
 
-    laid : List (Card InputSpec) → List (Card CalculationSpec) → List (Card OutputSpec) → List (Card DataSpec) → List SpecCard
-    laid is ks os ds =
-        sheet header_on spec.Header cards ++ (sheet file_on spec.File cards ++ (sheet extension_on spec.Extension cards
-        ++ (back spec.Input is ++ (back spec.Calculation ks ++ (back spec.Output os ++ back spec.Data ds)))))
+    is : List SpecCard
+    is = back spec.Input (cards_on input_on cards)
+
+    ks : List SpecCard
+    ks = back spec.Calculation (all_in (tree cards).calculations)
+
+    cs : List SpecCard
+    cs = back spec.Calculation (cards_on calculation_on cards)
+
+    os : List SpecCard
+    os = back spec.Output (cards_on output_on cards)
+
+    ds : List SpecCard
+    ds = back spec.Data (cards_on data_on cards)

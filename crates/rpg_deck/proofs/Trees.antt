@@ -14,12 +14,12 @@ use Rattle.rpg_deck.specs.declared.cut.Sheet as read_sheet
 use Rattle.rpg_deck.specs.declared.deck.Deck.{Deck}
 use Rattle.rpg_deck.specs.declared.tree.Tree as read
 
-module _ {X : Type 0} (begins : X → Bool) where
+module _ {X : Type 0} (begins : X → Bool → Bool) where
   abbrev by_card : Card X → Bool
-  by_card c = begins c.spec
+  by_card c = begins c.spec c.adjoins
 
   abbrev by_reference : Card (Bor X) → Bool
-  by_reference c = begins c.spec.now
+  by_reference c = begins c.spec.now c.adjoins
 
   -- groups in memory, by their cards
   all_at : (gs : List (read_group.Group X)) → map group_in gs ≡ map (seen_group card_in_memory by_card) (map group_in_memory gs)
@@ -46,7 +46,7 @@ pub record IsCut (d : Deck) (t : read.Tree) : Type 0 where
   pub files : t.files.now ≡ d.files.items
   pub tables : t.tables.now ≡ d.tables.items
   pub types : sheet_at t.types ≡ cut_sheet (λ c. is_type c.spec.now) d.inputs.items
-  pub calculations : map group_in_memory t.calculations.items ≡ all_groups (λ c. is_calculation c.spec.now) d.calculations.items
+  pub calculations : map group_in_memory t.calculations.items ≡ all_groups (λ c. is_calculation c.spec.now c.adjoins) d.calculations.items
   pub lines : sheet_at t.lines ≡ cut_sheet (λ c. is_output_line c.spec.now) d.outputs.items
   pub decks : sheet_at t.decks ≡ cut_sheet (λ c. is_deck c.spec.now) d.decks.items
 
@@ -59,7 +59,7 @@ same_tree a b h f e i k o d =
 pub tree_is : (cards : List SpecCard) (d : Deck) (t : read.Tree) → IsDeckOf cards d → IsCut d t → tree_in t ≡ tree cards
 tree_is cards d t of is = same_tree (tree_in t) (tree cards)
     (ap (map card_in_memory) is.headers ∙ of.headers) (ap (map card_in_memory) is.files ∙ of.files) (ap (map card_in_memory) is.tables ∙ of.tables)
-    (sheet_is is_type d.inputs.items t.types (cards_on input_on cards) is.types of.inputs)
+    (sheet_is (λ x adjoins. is_type x) d.inputs.items t.types (cards_on input_on cards) is.types of.inputs)
     (groups_are is_calculation d.calculations.items t.calculations.items (cards_on calculation_on cards) is.calculations of.calculations)
-    (sheet_is is_output_line d.outputs.items t.lines (cards_on output_on cards) is.lines of.outputs)
-    (sheet_is is_deck d.decks.items t.decks (cards_on data_on cards) is.decks of.decks)
+    (sheet_is (λ x adjoins. is_output_line x) d.outputs.items t.lines (cards_on output_on cards) is.lines of.outputs)
+    (sheet_is (λ x adjoins. is_deck x) d.decks.items t.decks (cards_on data_on cards) is.decks of.decks)

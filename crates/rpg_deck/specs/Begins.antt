@@ -1,5 +1,5 @@
 -- Which cards of a sheet begin a group.
-use Rattle.std.specs.Prelude.{Bool, true, false, not}
+use Rattle.std.specs.Prelude.{Bool, true, false, not, ◌&&◌}
 use Rattle.rpg_cards.specs.Groups.{joins}
 use Rattle.rpg_sheet_specs.specs.declared.calculation.CalculationSpec.{CalculationSpec}
 use Rattle.rpg_sheet_specs.specs.declared.data.DataSpec.{DataSpec}
@@ -15,9 +15,9 @@ is_type (input.Type t) = true
 is_type (input.And codes) = false
 is_type (input.Field f) = false
 
--- a C card with neither AN nor OR in columns 7 and 8
-abbrev pub is_calculation : CalculationSpec → Bool
-is_calculation k = not (joins k.control_level)
+-- a C card with neither AN nor OR in columns 7 and 8, or one that doesn't adjoin a C card
+abbrev pub is_calculation : CalculationSpec → Bool → Bool
+is_calculation k adjoins = not (adjoins && joins k.control_level)
 
 -- the card of a line
 abbrev pub is_output_line : OutputSpec → Bool

@@ -18,7 +18,7 @@ use Rattle.rpg_deck.specs.declared.tree.Tree as read
 
 -- a card in memory refers to what it represents
 abbrev pub card_in_memory : {X : Type 0} → Card (Bor X) → Card X
-card_in_memory c = record { number = c.number; spec = c.spec.now }
+card_in_memory c = record { number = c.number; adjoins = c.adjoins; spec = c.spec.now }
 
 -- a deck in memory has the cards of each sheet of the source
 pub record IsDeckOf (cards : List SpecCard) (d : Deck) : Type 0 where

@@ -1,6 +1,6 @@
--- The cards of a source as one tree. Each card keeps its number.
-use Rattle.std.specs.Prelude.{List, Option, None, Some, Bool}
-use Rattle.std.specs.List.{filter_map}
+-- The cards of a source as one tree. Each card keeps its number, and whether it adjoins a card of its sheet.
+use Rattle.std.specs.Prelude.{List, [], ◌∷◌, Option, None, Some, is_some, Bool, false}
+use Rattle.std.specs.List.{cons_option}
 use Rattle.std.specs.Option.{option_map}
 use Rattle.rpg_cards.specs.Cards.{calculation_on, data_on, extension_on, file_on, input_on, output_on}
 use Rattle.rpg_cards.specs.declared.spec_card.SpecCard.{SpecCard}
@@ -30,13 +30,28 @@ header_on (spec.Output x) = None
 header_on (spec.Data x) = None
 
 module _ {X : Type 0} (on : Spec → Option X) where
-  -- a card of the sheet, with its number
-  abbrev pub numbered_card : SpecCard → Option (Card X)
-  numbered_card c = option_map (λ x. record { number = c.number; spec = x }) (on c.spec)
+  -- a card of the sheet, with its number, and whether it adjoins one: whether the card right before it is of the sheet
+  abbrev pub numbered_card : Bool → SpecCard → Option (Card X)
+  numbered_card adjoins c = option_map (λ x. record { number = c.number; adjoins = adjoins; spec = x }) (on c.spec)
+
+  -- the cards of the sheet among these, whose first one adjoins a card of the sheet or doesn't
+  abbrev pub cards_from : Bool → List SpecCard → List (Card X)
+  cards_from adjoins [] = []
+  cards_from adjoins (c ∷ cs) = cons_option (numbered_card adjoins c) (cards_from (is_some (on c.spec)) cs)
 
   -- all cards of the sheet
   abbrev pub cards_on : List SpecCard → List (Card X)
-  cards_on cards = filter_map numbered_card cards
+  cards_on cards = cards_from false cards
+
+-- two cards are of the same sheet
+abbrev pub same_sheet : Spec → Spec → Bool
+same_sheet s (spec.Header x) = is_some (header_on s)
+same_sheet s (spec.File x) = is_some (file_on s)
+same_sheet s (spec.Extension x) = is_some (extension_on s)
+same_sheet s (spec.Input x) = is_some (input_on s)
+same_sheet s (spec.Calculation x) = is_some (calculation_on s)
+same_sheet s (spec.Output x) = is_some (output_on s)
+same_sheet s (spec.Data x) = is_some (data_on s)
 
 -- ---- which cards begin a group
 
@@ -44,9 +59,9 @@ module _ {X : Type 0} (on : Spec → Option X) where
 abbrev pub is_type_card : Card InputSpec → Bool
 is_type_card c = is_type c.spec
 
--- the card begins a calculation: it isn't an AN or OR card
+-- the card begins a calculation: it isn't an AN or OR card, or no C card comes right before it
 abbrev pub begins_calculation : Card CalculationSpec → Bool
-begins_calculation c = is_calculation c.spec
+begins_calculation c = is_calculation c.spec c.adjoins
 
 -- the card begins a line
 abbrev pub is_line_card : Card OutputSpec → Bool
@@ -68,7 +83,7 @@ pub record Tree : Type 0 where
   pub lines : Sheet (Card OutputSpec)  -- a line with its AND and OR cards and its fields
   pub decks : Sheet (Card DataSpec)  -- a `**` card with its data
 
--- the tree of any cards: an AN or OR card before all other C cards begins a group, so no C card strays
+-- the tree of any cards: the first C card adjoins none, so it begins a group, and no C card strays
 abbrev pub tree : List SpecCard → Tree
 tree cards = record {
   headers = cards_on header_on cards;

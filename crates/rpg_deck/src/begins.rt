@@ -8,18 +8,18 @@ use rpg_sheet_specs::{CalculationSpec, DataSpec, InputSpec, OutputSpec};
 
 /// A card of a sheet whose cards form groups.
 pub(crate) trait Grouped: Drop {
-    ghost begins: { Self → Bool };
+    ghost begins: { Self → Bool → Bool };
 
-    /// Whether the card begins a group.
-    fn begins(&self) -> bool
-        ensures { result ≡ begins self.now };
+    /// Whether the card begins a group, if it adjoins a card of its sheet or doesn't.
+    fn begins(&self, adjoins: bool) -> bool
+        ensures { result ≡ begins self.now adjoins };
 }
 
 /// A record type, with its AND cards and its fields.
 impl Grouped for InputSpec {
-    ghost begins = { spec.is_type };
+    ghost begins = { λ x adjoins. spec.is_type x };
 
-    fn begins(&self) -> bool {
+    fn begins(&self, _adjoins: bool) -> bool {
         match self {
             InputSpec::Type(_) => true,
             InputSpec::And(_) | InputSpec::Field(_) => false,
@@ -27,20 +27,20 @@ impl Grouped for InputSpec {
     }
 }
 
-/// A calculation, with its AN and OR cards.
+/// A calculation, with its AN and OR cards. One that adjoins no C card continues nothing.
 impl Grouped for CalculationSpec {
     ghost begins = { spec.is_calculation };
 
-    fn begins(&self) -> bool {
-        !joins(self)
+    fn begins(&self, adjoins: bool) -> bool {
+        !(adjoins && joins(self))
     }
 }
 
 /// A line, with its AND and OR cards and its fields.
 impl Grouped for OutputSpec {
-    ghost begins = { spec.is_output_line };
+    ghost begins = { λ x adjoins. spec.is_output_line x };
 
-    fn begins(&self) -> bool {
+    fn begins(&self, _adjoins: bool) -> bool {
         match self {
             OutputSpec::Record(_) => true,
             OutputSpec::And(_) | OutputSpec::Or(_) | OutputSpec::Field(_) => false,
@@ -50,9 +50,9 @@ impl Grouped for OutputSpec {
 
 /// A `**` card, with its data.
 impl Grouped for DataSpec {
-    ghost begins = { spec.is_deck };
+    ghost begins = { λ x adjoins. spec.is_deck x };
 
-    fn begins(&self) -> bool {
+    fn begins(&self, _adjoins: bool) -> bool {
         match self {
             DataSpec::Begin => true,
             DataSpec::Card(_) => false,

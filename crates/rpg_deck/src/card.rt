@@ -1,8 +1,24 @@
 //! A card of a sheet.
 
+ghost use Rattle.std.specs.Prelude.{◌≡◌};
+
 /// The meaning of a sheet's card, with the card's number in the source.
 #[derive(Drop)]
 pub struct Card<X> {
     pub number: u16,
+    /// Whether the card right before it belongs to the same sheet.
+    pub adjoins: bool,
     pub spec: X,
+}
+
+impl<X> Card<X> {
+    pub(crate) fn new(number: u16, adjoins: bool, spec: X) -> Self
+        ensures { result ≡ record { number = number; adjoins = adjoins; spec = spec } }
+    {
+        Card {
+            number,
+            adjoins,
+            spec,
+        }
+    }
 }

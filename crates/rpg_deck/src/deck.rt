@@ -1,8 +1,11 @@
 //! The cards of a source, by their sheets.
 
-ghost use Rattle.std.specs.Prelude.{◌∷◌, ◌++◌, [], List, IfOk, OnOk};
+ghost use Rattle.std.specs.Prelude.{◌≡◌, ◌∷◌, ◌++◌, [], List, None, false, option_copied, IfOk, OnOk};
+ghost use Rattle.std.specs.List.{last_or};
+ghost use Rattle.std.specs.Option.{option_map_or};
 ghost use Rattle.rpg_cards.specs.declared.spec_card.SpecCard.{SpecCard};
 ghost use Rattle.rpg_deck.specs.Seen.{IsDeckOf};
+ghost use Rattle.rpg_deck.specs.Tree as tree;
 
 use crate::card::Card;
 use rpg_cards::SpecCard;
@@ -36,26 +39,57 @@ impl<'source> Deck<'source> {
             outputs: Vec::new(alloc),
             decks: Vec::new(alloc),
         };
+        let mut previous = None;
         for card in cards {
-            deck.add(card)?;
+            deck.add(previous, card)?;
+            previous = Some(card);
         }
         Ok(deck)
     }
 
-    /// Adds a card.
-    fn add(&mut self, card: &'source SpecCard) -> Result<(), AllocError>
-        ensures { OnOk result ((before : List SpecCard) → IsDeckOf before self.old → IsDeckOf (before ++ card.now ∷ []) self.new) }
+    /// Adds a card, given the card right before it.
+    fn add(
+        &mut self,
+        previous: Option<&SpecCard>,
+        card: &'source SpecCard,
+    ) -> Result<(), AllocError>
+        ensures { OnOk result ((before : List SpecCard) → option_copied previous.entry ≡ last_or None before → IsDeckOf before self.old → IsDeckOf (before ++ card.now ∷ []) self.new) }
     {
         let number = card.number;
+        let adjoins = adjoins(previous, card);
         match &card.spec {
-            Spec::Header(spec) => self.headers.push(Card { number, spec })?,
-            Spec::File(spec) => self.files.push(Card { number, spec })?,
-            Spec::Extension(spec) => self.tables.push(Card { number, spec })?,
-            Spec::Input(spec) => self.inputs.push(Card { number, spec })?,
-            Spec::Calculation(spec) => self.calculations.push(Card { number, spec })?,
-            Spec::Output(spec) => self.outputs.push(Card { number, spec })?,
-            Spec::Data(spec) => self.decks.push(Card { number, spec })?,
+            Spec::Header(spec) => self.headers.push(Card::new(number, adjoins, spec))?,
+            Spec::File(spec) => self.files.push(Card::new(number, adjoins, spec))?,
+            Spec::Extension(spec) => self.tables.push(Card::new(number, adjoins, spec))?,
+            Spec::Input(spec) => self.inputs.push(Card::new(number, adjoins, spec))?,
+            Spec::Calculation(spec) => self.calculations.push(Card::new(number, adjoins, spec))?,
+            Spec::Output(spec) => self.outputs.push(Card::new(number, adjoins, spec))?,
+            Spec::Data(spec) => self.decks.push(Card::new(number, adjoins, spec))?,
         }
         Ok(())
+    }
+}
+
+/// Whether the card right before a card belongs to the same sheet.
+fn adjoins(previous: Option<&SpecCard>, card: &SpecCard) -> bool
+    ensures { result ≡ option_map_or (λ p. tree.same_sheet p.spec card.now.spec) (option_copied previous.entry) false }
+{
+    match previous {
+        None => false,
+        Some(previous) => is_same_sheet(&previous.spec, &card.spec),
+    }
+}
+
+fn is_same_sheet(one: &Spec, other: &Spec) -> bool
+    ensures { result ≡ tree.same_sheet one.now other.now }
+{
+    match other {
+        Spec::Header(_) => matches!(one, Spec::Header(_)),
+        Spec::File(_) => matches!(one, Spec::File(_)),
+        Spec::Extension(_) => matches!(one, Spec::Extension(_)),
+        Spec::Input(_) => matches!(one, Spec::Input(_)),
+        Spec::Calculation(_) => matches!(one, Spec::Calculation(_)),
+        Spec::Output(_) => matches!(one, Spec::Output(_)),
+        Spec::Data(_) => matches!(one, Spec::Data(_)),
     }
 }

@@ -15,19 +15,19 @@ pub fn nothing_is_lost()
     ensures { (cards : List SpecCard) → IsInOrder 0 cards → flat (tree cards) ≡ cards }
 {}
 
-/// The calculations of cards in the order of the sheets are the groups of C cards of their tree.
+/// The calculations of any cards are the groups of C cards of their tree.
 pub fn calculations_are_groups()
-    ensures { (cards : List SpecCard) → IsInOrder 0 cards → cards_of.calculations cards ≡ map same.calculation_in (tree cards).calculations }
+    ensures { (cards : List SpecCard) → cards_of.calculations cards ≡ map same.calculation_in (tree cards).calculations }
 {}
 
-/// The labels of cards in the order of the sheets are those of the steps, in the same sections.
+/// The labels of any cards are those of the steps, in the same sections.
 pub fn labels_are_of_steps()
-    ensures { (cards : List SpecCard) → IsInOrder 0 cards → labels.labels (cards_of.calculations cards) ≡ steps.labels_of_steps (steps.steps_in (tree cards)) }
+    ensures { (cards : List SpecCard) → labels.labels (cards_of.calculations cards) ≡ steps.labels_of_steps (steps.steps_in (tree cards)) }
 {}
 
-/// The calls of cards in the order of the sheets are those of the steps, by caller and callee.
+/// The calls of any cards are those of the steps, by caller and callee.
 pub fn calls_are_of_steps()
-    ensures { (cards : List SpecCard) → IsInOrder 0 cards → calls.calls (cards_of.calculations cards) ≡ steps.calls_of_steps (steps.steps_in (tree cards)) }
+    ensures { (cards : List SpecCard) → calls.calls (cards_of.calculations cards) ≡ steps.calls_of_steps (steps.steps_in (tree cards)) }
 {}
 
 /// The groups of I cards are the record types of the tree, with the same files.

@@ -5,6 +5,5 @@ pub mod LevelLemmas
 pub mod MatchLemmas
 pub mod Numbering
 pub mod OpenTypes
-pub mod Ordering
 pub mod TypeLemmas
 mod ReportedLemmas

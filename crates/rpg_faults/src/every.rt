@@ -1,11 +1,11 @@
 //! All faults.
 
-ghost use Rattle.std.specs.Prelude.{◌≡◌, [], ◌++◌, ◌∷◌, IfOk, OnOk};
+ghost use Rattle.std.specs.Prelude.{◌≡◌, ◌≤◌, [], ◌++◌, ◌∷◌, length, IfOk, OnOk};
+ghost use Rattle.rpg_cards.specs.Cards.{Numbered};
 ghost use Rattle.rpg_faults.specs.Seen.{AreCardsSeen};
 ghost use Rattle.rpg_faults.specs.Reported as reported;
 
 use crate::breach::breaks;
-use crate::cards::OrderedCards;
 use crate::code::FaultCode;
 use crate::marks::fault_columns;
 use crate::seen::Seen;
@@ -18,10 +18,12 @@ use rpg_faults_tree::AnalyzedCards;
 use std::alloc::{AllocError, Global};
 
 /// Returns all faults by card, then by code, each with its columns. Fails only if memory runs out.
-pub(crate) fn all_faults(alloc: Global, cards: &OrderedCards) -> Result<Vec<CardFault>, AllocError>
-    ensures { IfOk result (λ faults. reported.AreFaultsOf cards.now.cards.items faults.items) }
+pub fn all_faults(alloc: Global, cards: &[SpecCard]) -> Result<Vec<CardFault>, AllocError>
+    requires numbered { Numbered 1 cards.now }
+    requires few { length cards.now ≤ 2000 }
+    ensures { IfOk result (λ faults. reported.AreFaultsOf cards.now faults.items) }
 {
-    let source = IndexedCards::new(alloc, &cards.cards)?;
+    let source = IndexedCards::new(alloc, cards)?;
     let source = AnalyzedCards::new(alloc, &source)?;
     faults_in(alloc, &source)
 }

@@ -1,7 +1,6 @@
 //! Finds all faults in the text of a source.
 
 ghost use Rattle.std.specs.Prelude.{◌≡◌, map, IfErr, IfOk};
-ghost use Rattle.rpg_deck.specs.Flat.{IsInOrder};
 ghost use Rattle.rpg_faults.specs.EverySource as every;
 ghost use Rattle.rpg_faults.specs.Reported.{AreFaultsOf};
 ghost use Rattle.rpg_faults.specs.declared.source_fault.SourceFault.TheVariants.{NoMemory};
@@ -30,11 +29,10 @@ pub fn source_faults(alloc: Global, text: &[u8]) -> Result<Vec<CardFault>, Sourc
 
 /// Returns all faults of cards that can be read.
 fn faults_of(alloc: Global, cards: Cards) -> Result<Vec<CardFault>, AllocError>
-    requires { IsInOrder 0 (every.numbered_specs cards) }
     ensures { IfOk result (λ faults. AreFaultsOf (every.numbered_specs cards) faults.items) }
 {
     let cards = spec_cards(alloc, cards)?;
-    all_faults(alloc, &cards)
+    all_faults(alloc, &cards.cards)
 }
 
 /// Returns all cards that can't be read.

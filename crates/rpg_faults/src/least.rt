@@ -1,13 +1,13 @@
 //! The first fault.
 
-ghost use Rattle.std.specs.Prelude.{◌≡◌, [], ◌∷◌, find, IfOk};
+ghost use Rattle.std.specs.Prelude.{◌≡◌, ◌≤◌, [], ◌∷◌, find, length, IfOk, MatchOption};
+ghost use Rattle.rpg_cards.specs.Cards.{Numbered};
 ghost use Rattle.rpg_faults.specs.Faults as faults;
 ghost use Rattle.rpg_faults.specs.Judged.{IsJudged};
 ghost use Rattle.rpg_faults.specs.Rules as rules;
 ghost use Rattle.rpg_faults.specs.Seen.{AreCardsSeen};
 
 use crate::breach::breaks;
-use crate::cards::OrderedCards;
 use crate::code::FaultCode;
 use crate::fault::Fault;
 use crate::seen::Seen;
@@ -18,15 +18,26 @@ use rpg_faults_operands::has_valid_operands;
 use rpg_faults_tree::AnalyzedCards;
 use std::alloc::{AllocError, Global};
 
-/// Returns the index of cards without faults, or the first fault by card, then by code, in one pass over the cards. Fails only if memory
-/// runs out.
+/// Returns the first fault by card, then by code, in one pass over the cards; None if no card has a fault. Fails only if memory runs out.
+pub fn first_fault(alloc: Global, cards: &[SpecCard]) -> Result<Option<Fault>, AllocError>
+    requires numbered { Numbered 1 cards.now }
+    requires few { length cards.now ≤ 2000 }
+    ensures { IfOk result (λ found. MatchOption found (faults.Faultless cards.now) (λ fault. faults.IsLeastFault cards.now fault)) }
+{
+    let judged = faultless_index(alloc, cards)?;
+    Ok(judged.err())
+}
+
+/// Returns the index of cards without faults, or their first fault. Fails only if memory runs out.
 pub(crate) fn faultless_index(
     alloc: Global,
-    cards: &OrderedCards,
+    cards: &[SpecCard],
 ) -> Result<Result<CardIndex, Fault>, AllocError>
-    ensures { IfOk result (λ judged. IsJudged cards.now.cards.items judged) }
+    requires numbered { Numbered 1 cards.now }
+    requires few { length cards.now ≤ 2000 }
+    ensures { IfOk result (λ judged. IsJudged cards.now judged) }
 {
-    let source = IndexedCards::new(alloc, &cards.cards)?;
+    let source = IndexedCards::new(alloc, cards)?;
     let fault = {
         let analyzed = AnalyzedCards::new(alloc, &source)?;
         least_fault(&analyzed)

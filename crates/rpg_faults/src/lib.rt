@@ -19,8 +19,10 @@ mod state;
 
 pub use code::FaultCode;
 pub use columns::misplaces;
+pub use every::all_faults;
 pub use every_source::source_faults;
 pub use fault::Fault;
+pub use least::first_fault;
 pub use source::{FaultlessCards, faultless_cards};
 pub use source_fault::{CardFault, SourceCode, SourceFault};
 pub use state::Places;

@@ -45,7 +45,7 @@ pub fn faultless_cards(alloc: Global, text: &[u8]) -> Result<FaultlessCards, Sou
 {
     let cards = rpg_sheet::cards(alloc, text)?;
     let cards = spec_cards(alloc, cards)?;
-    match faultless_index(alloc, &cards)? {
+    match faultless_index(alloc, &cards.cards)? {
         Err(fault) => Err(SourceFault::At {
             card: fault.card,
             code: SourceCode::Fault(fault.code),

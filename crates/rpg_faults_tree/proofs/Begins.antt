@@ -1,29 +1,28 @@
 -- What F12 says of the card that a calculation begins with, group by group.
 use Rattle.std.proofs.Common.{◌≡◌, ℕ, Bool, true, false, not, ◌||◌, cond, List, [], ◌∷◌, ◌++◌, map, Option, None, Some, refl, sym, ap, ◌∙◌, append_assoc, append-nil}
 use Rattle.std.specs.Prelude.{is_none, nat_lt}
-use Rattle.std.specs.List.{list_any}
-use Rattle.std.specs.Option.{option_map_or}
+use Rattle.std.specs.List.{cons_option, list_any}
+use Rattle.std.specs.Option.{option_map, option_map_or}
 use Rattle.std.proofs.lemmas.List.Elements.{filter_map-append}
-use Rattle.rpg_cards.specs.Calculations.{CalculationGroup, alone, calculation_of, calculations_before, completed, continues, group_with, joined_group, open_calculation_group}
+use Rattle.rpg_cards.specs.Calculations.{CalculationGroup, alone, calculation_of, calculations_before, completed, continues, group_at, group_with, joined_group, open_calculation_group, open_with}
 use Rattle.rpg_cards.specs.Cards.{calculation_on, calculation_specs_in}
 use Rattle.rpg_cards.specs.Statements.{Calculation}
 use Rattle.rpg_cards.specs.Groups.{joins}
 use Rattle.rpg_cards.specs.Keys.{Key}
 use Rattle.rpg_cards.specs.declared.spec_card.SpecCard.{SpecCard}
+use Rattle.rpg_deck.proofs.Grouping.{all_begun, apart_cards, emitted, next_cards, no_strays, nothing, with_cards}
 use Rattle.rpg_deck.specs.Cut.{all_groups, group_cards, groups_begun, strays}
 use Rattle.rpg_deck.specs.Same.{calculation_in, flat_group}
 use Rattle.rpg_deck.specs.Steps as steps
-use Rattle.rpg_deck.specs.Tree.{begins_calculation}
+use Rattle.rpg_deck.specs.Tree.{begins_calculation, tree}
 use Rattle.rpg_deck.specs.declared.card.Card.{Card}
-use Rattle.rpg_faults_tree.proofs.Among.{NoC, completed_none, emitted}
 use Rattle.rpg_faults_tree.proofs.Each.{each}
-use Rattle.rpg_faults_tree.proofs.Ends.{c_cards, with_cards}
+use Rattle.rpg_faults_tree.proofs.Ends.{cards_with, closed, is_joined, numbered}
 use Rattle.rpg_faults_tree.specs.Numbers.{one_if}
 use Rattle.rpg_faults_flow.proofs.Walk.{calculations_from-push, open_after-push}
 use Rattle.rpg_faults_flow.specs.Kept.{Rule}
 use Rattle.rpg_faults_flow.specs.Order.{breaks_group, is_outside_subroutine, section_rank}
 use Rattle.rpg_sheet_specs.specs.declared.calculation.CalculationSpec.{CalculationSpec}
-use Rattle.rpg_sheet_specs.specs.declared.spec.Spec.TheVariants as spec
 
 -- F12 of the card that a group begins with
 abbrev pub at_start : Rule
@@ -41,102 +40,128 @@ abbrev pub starts_from : List (Calculation Key) → List CalculationSpec → Lis
 starts_from done ks [] = []
 starts_from done ks (g ∷ gs) = one_if (joins g.first.spec.control_level || (is_early ks g.first.spec || is_outside_subroutine done (flat_group g))) g.first.number ++ starts_from (done ++ calculation_in g ∷ []) (ks ++ specs_of (group_cards g)) gs
 
-module _ (post : List SpecCard) (none : NoC post) where
-  abbrev rest : List (Card CalculationSpec) → List SpecCard
-  rest xs = c_cards xs ++ post
+-- ---- the group of a card, with those after it
 
-  abbrev Completed : CalculationGroup → List (Card CalculationSpec) → Type 0
-  Completed g xs = completed g (rest xs) ≡ with_cards g (strays begins_calculation xs)
+completed_on : (c : SpecCard) (cs : List SpecCard) (g : CalculationGroup) (o : Option CalculationSpec) → ((h : CalculationGroup) → completed h cs ≡ with_cards h (strays begins_calculation (next_cards cs)))
+    → option_map_or (λ k. cond (joins k.control_level) (completed (joined_group g k) cs) g) o g ≡ with_cards g (strays begins_calculation (cards_with true c cs o))
+completed_on c cs g None rest = ap (λ fs. record { first = g.first; followers = fs }) (sym (append-nil g.followers)) ∙ ap (with_cards g) (sym (no_strays cs))
+completed_on c cs g (Some k) rest = by (joins k.control_level)
+  where
+    by : (b : Bool) → cond b (completed (joined_group g k) cs) g ≡ with_cards g (cond (not b) [] (numbered c true k ∷ strays begins_calculation (next_cards cs)))
+    by true = rest (joined_group g k) ∙ ap (λ fs. record { first = g.first; followers = fs }) (append_assoc g.followers (k ∷ []) (specs_of (strays begins_calculation (next_cards cs))))
+    by false = ap (λ fs. record { first = g.first; followers = fs }) (sym (append-nil g.followers))
 
-  completed_with : (g : CalculationGroup) (xs : List (Card CalculationSpec)) → Completed g xs
-  completed_with g [] = completed_none post none g ∙ ap (λ fs. record { first = g.first; followers = fs }) (sym (append-nil g.followers))
-  completed_with g (x ∷ xs) = by (joins x.spec.control_level) (completed_with (joined_group g x.spec) xs)
-    where
-      by : (b : Bool) → Completed (joined_group g x.spec) xs → cond b (completed (joined_group g x.spec) (rest xs)) g ≡ with_cards g (cond (not b) [] (x ∷ strays begins_calculation xs))
-      by true more = more ∙ ap (λ fs. record { first = g.first; followers = fs }) (append_assoc g.followers (x.spec ∷ []) (specs_of (strays begins_calculation xs)))
-      by false more = ap (λ fs. record { first = g.first; followers = fs }) (sym (append-nil g.followers))
+completed_with : (cs : List SpecCard) (g : CalculationGroup) → completed g cs ≡ with_cards g (strays begins_calculation (next_cards cs))
+completed_with [] g = ap (λ fs. record { first = g.first; followers = fs }) (sym (append-nil g.followers))
+completed_with (c ∷ cs) g = completed_on c cs g (calculation_on c.spec) (completed_with cs)
 
-  abbrev closed : CalculationGroup → List (Card CalculationSpec) → Option CalculationGroup
-  closed g xs = cond (continues (rest xs)) None (Some g)
+-- ---- card by card
 
-  -- on a card, by whether it joins
-  abbrev breaks : Bool → Option CalculationGroup → List (Calculation Key) → List CalculationSpec → CalculationSpec → List (Card CalculationSpec) → Bool
-  breaks b o done ks k xs = cond b (is_none o) (is_early ks k || is_outside_subroutine done (completed (alone k) (rest xs)))
+-- on a card, by whether it joins
+abbrev breaks : Bool → Option CalculationGroup → List (Calculation Key) → List CalculationSpec → CalculationSpec → List SpecCard → Bool
+breaks b o done ks k cs = cond b (is_none o) (is_early ks k || is_outside_subroutine done (completed (alone k) cs))
 
-  abbrev starts_on : Option CalculationGroup → List (Calculation Key) → List CalculationSpec → List (Card CalculationSpec) → List ℕ
-  starts_on o done ks [] = []
-  starts_on o done ks (x ∷ xs) =
-      one_if (breaks (joins x.spec.control_level) o done ks x.spec xs) x.number
-      ++ starts_on (Some (group_with o x.spec)) (done ++ emitted (closed (group_with o x.spec) xs)) (ks ++ x.spec ∷ []) xs
+abbrev broken_by : Option CalculationGroup → List (Calculation Key) → List CalculationSpec → Option CalculationSpec → List SpecCard → Bool
+broken_by o done ks own cs = option_map_or (λ k. breaks (joins k.control_level) o done ks k cs) own false
 
-  by_state : (before : List SpecCard) (xs : List (Card CalculationSpec)) → each at_start before (c_cards xs) post ≡ starts_on (open_calculation_group before) (calculations_before before (rest xs)) (calculation_specs_in before) xs
-  by_state before [] = refl
-  by_state before (x ∷ xs) =
-      ap (λ b. one_if b x.number ++ each at_start (before ++ c ∷ []) (c_cards xs) post) (same (joins x.spec.control_level))
-      ∙ ap (λ ns. one_if (breaks (joins x.spec.control_level) (open_calculation_group before) (calculations_before before (rest (x ∷ xs))) (calculation_specs_in before) x.spec xs) x.number ++ ns)
-      (by_state (before ++ c ∷ []) xs
-      ∙ ap (λ o. starts_on o (calculations_before (before ++ c ∷ []) (rest xs)) (calculation_specs_in (before ++ c ∷ [])) xs) (open_after-push None before c)
-      ∙ ap (λ gs. starts_on (Some (group_with (open_calculation_group before) x.spec)) gs (calculation_specs_in (before ++ c ∷ [])) xs) (calculations_from-push None before c (rest xs))
-      ∙ ap (λ ks. starts_on (Some (group_with (open_calculation_group before) x.spec)) (calculations_before before (rest (x ∷ xs)) ++ emitted (closed (group_with (open_calculation_group before) x.spec) xs)) ks xs)
-      (filter_map-append (λ (d : SpecCard). calculation_on d.spec) before (c ∷ [])))
-    where
-      c : SpecCard
-      c = record { number = x.number; spec = spec.Calculation x.spec }
+-- with the open group, the calculations that have ended, and the C cards before
+abbrev starts_on : Option CalculationGroup → List (Calculation Key) → List CalculationSpec → List SpecCard → List ℕ
+starts_on o done ks [] = []
+starts_on o done ks (c ∷ cs) = one_if (broken_by o done ks (calculation_on c.spec) cs) c.number ++ starts_on (open_with o c.spec) (done ++ emitted (group_at o c cs)) (ks ++ cons_option (calculation_on c.spec) []) cs
 
-      same : (b : Bool) → breaks_group b before c x.spec (rest xs) ≡ breaks b (open_calculation_group before) (calculations_before before (rest (x ∷ xs))) (calculation_specs_in before) x.spec xs
-      same true = refl
-      same false = refl
+by_state : (before cs : List SpecCard) → each at_start before cs ≡ starts_on (open_calculation_group before) (calculations_before before cs) (calculation_specs_in before) cs
+by_state before [] = refl
+by_state before (c ∷ cs) =
+    ap (λ b. one_if b c.number ++ each at_start (before ++ c ∷ []) cs) (of (calculation_on c.spec))
+    ∙ ap (λ ns. one_if (broken_by (open_calculation_group before) (calculations_before before (c ∷ cs)) (calculation_specs_in before) (calculation_on c.spec) cs) c.number ++ ns)
+    (by_state (before ++ c ∷ []) cs
+    ∙ ap (λ o. starts_on o (calculations_before (before ++ c ∷ []) cs) (calculation_specs_in (before ++ c ∷ [])) cs) (open_after-push None before c)
+    ∙ ap (λ gs. starts_on (open_with (open_calculation_group before) c.spec) gs (calculation_specs_in (before ++ c ∷ [])) cs) (calculations_from-push None before c cs)
+    ∙ ap (λ ks. starts_on (open_with (open_calculation_group before) c.spec) (calculations_before before (c ∷ cs) ++ emitted (group_at (open_calculation_group before) c cs)) ks cs)
+    (filter_map-append (λ (d : SpecCard). calculation_on d.spec) before (c ∷ [])))
+  where
+    same : (k : CalculationSpec) (b : Bool) → breaks_group b before c k cs ≡ breaks b (open_calculation_group before) (calculations_before before (c ∷ cs)) (calculation_specs_in before) k cs
+    same k true = refl
+    same k false = refl
 
-  abbrev Goes : List (Card CalculationSpec) → CalculationGroup → List (Calculation Key) → List CalculationSpec → Type 0
-  Goes xs g done ks =
-      starts_on (Some g) (done ++ emitted (closed g xs)) ks xs
-      ≡ starts_from (done ++ calculation_of (with_cards g (strays begins_calculation xs)) ∷ []) (ks ++ specs_of (strays begins_calculation xs)) (groups_begun begins_calculation xs)
+    of : (o : Option CalculationSpec) → option_map_or (λ k. breaks_group (joins k.control_level) before c k cs) o false ≡ broken_by (open_calculation_group before) (calculations_before before (c ∷ cs)) (calculation_specs_in before) o cs
+    of None = refl
+    of (Some k) = same k (joins k.control_level)
 
-  from_open : (xs : List (Card CalculationSpec)) (g : CalculationGroup) (done : List (Calculation Key)) (ks : List CalculationSpec) → Goes xs g done ks
-  from_open [] g done ks = refl
-  from_open (x ∷ xs) g done ks = by (joins x.spec.control_level) refl (from_open xs (joined_group g x.spec) done (ks ++ x.spec ∷ [])) (from_open xs (alone x.spec) (done ++ calculation_of g ∷ []) (ks ++ x.spec ∷ []))
-    where
-      ss : List (Card CalculationSpec)
-      ss = strays begins_calculation xs
+abbrev meant_by : CalculationGroup → List (Calculation Key) → List CalculationSpec → List (Card CalculationSpec) → List ℕ
+meant_by g done ks xs = starts_from (done ++ calculation_of (with_cards g (strays begins_calculation xs)) ∷ []) (ks ++ specs_of (strays begins_calculation xs)) (groups_begun begins_calculation xs)
 
-      gs : List steps.CalculationCards
-      gs = groups_begun begins_calculation xs
+-- with a group that is open before the cards, and with none
+record AreStarts (cs : List SpecCard) : Type 0 where
+  pub opened : (g : CalculationGroup) (done : List (Calculation Key)) (ks : List CalculationSpec) → starts_on (Some g) (done ++ emitted (closed g cs)) ks cs ≡ meant_by g done ks (next_cards cs)
+  pub apart : (done : List (Calculation Key)) (ks : List CalculationSpec) → starts_on None done ks cs ≡ starts_from done ks (all_groups begins_calculation (apart_cards cs))
 
-      next : List (Calculation Key) → CalculationGroup → List ℕ
-      next d h = starts_on (Some h) (d ++ emitted (closed h xs)) (ks ++ x.spec ∷ []) xs
+module _ (c : SpecCard) (cs : List SpecCard) (rest : AreStarts cs) where
+  abbrev ss : List (Card CalculationSpec)
+  ss = strays begins_calculation (next_cards cs)
 
-      Goal : Bool → Type 0
-      Goal b =
-          one_if (breaks b (Some g) (done ++ emitted (cond b None (Some g))) ks x.spec xs) x.number ++ next (done ++ emitted (cond b None (Some g))) (cond b (joined_group g x.spec) (alone x.spec))
-          ≡ starts_from (done ++ calculation_of (with_cards g (cond (not b) [] (x ∷ ss))) ∷ []) (ks ++ specs_of (cond (not b) [] (x ∷ ss))) (cond (not b) (record { first = x; followers = ss } ∷ gs) gs)
+  abbrev gs : List steps.CalculationCards
+  gs = groups_begun begins_calculation (next_cards cs)
 
-      by : (b : Bool) → joins x.spec.control_level ≡ b → Goes xs (joined_group g x.spec) done (ks ++ x.spec ∷ []) → Goes xs (alone x.spec) (done ++ calculation_of g ∷ []) (ks ++ x.spec ∷ []) → Goal b
-      by true is joined alone_is =
-          ap (λ d. next d (joined_group g x.spec)) (append-nil done) ∙ joined
-          ∙ ap (λ fs. starts_from (done ++ calculation_of (record { first = g.first; followers = fs }) ∷ []) ((ks ++ x.spec ∷ []) ++ specs_of ss) gs) (append_assoc g.followers (x.spec ∷ []) (specs_of ss))
-          ∙ ap (λ js. starts_from (done ++ calculation_of (with_cards g (x ∷ ss)) ∷ []) js gs) (append_assoc ks (x.spec ∷ []) (specs_of ss))
-      by false is joined alone_is =
-          ap (λ h. one_if (is_early ks x.spec || is_outside_subroutine (done ++ calculation_of g ∷ []) h) x.number ++ next (done ++ calculation_of g ∷ []) (alone x.spec)) (completed_with (alone x.spec) xs)
-          ∙ ap (λ ns. one_if (is_early ks x.spec || is_outside_subroutine (done ++ calculation_of g ∷ []) (flat_group (record { first = x; followers = ss }))) x.number ++ ns)
-          (alone_is ∙ ap (λ js. starts_from ((done ++ calculation_of g ∷ []) ++ calculation_of (with_cards (alone x.spec) ss) ∷ []) js gs) (append_assoc ks (x.spec ∷ []) (specs_of ss)))
-          ∙ ap (λ b. one_if (b || (is_early ks x.spec || is_outside_subroutine (done ++ calculation_of g ∷ []) (flat_group (record { first = x; followers = ss })))) x.number
-          ++ starts_from ((done ++ calculation_of g ∷ []) ++ calculation_of (with_cards (alone x.spec) ss) ∷ []) (ks ++ (x.spec ∷ specs_of ss)) gs) (sym is)
-          ∙ ap (λ fs. starts_from (done ++ calculation_of (record { first = g.first; followers = fs }) ∷ []) ks (record { first = x; followers = ss } ∷ gs)) (sym (append-nil g.followers))
-          ∙ ap (λ js. starts_from (done ++ calculation_of (with_cards g []) ∷ []) js (record { first = x; followers = ss } ∷ gs)) (sym (append-nil ks))
+  -- a card where no group ends
+  nothing_on : (done : List (Calculation Key)) (ks : List CalculationSpec) → starts_on None (done ++ emitted (cond (continues cs) None None)) (ks ++ []) cs ≡ starts_from done ks (all_groups begins_calculation (apart_cards cs))
+  nothing_on done ks =
+      ap (λ d. starts_on None (done ++ d) (ks ++ []) cs) (nothing (continues cs)) ∙ ap (λ d. starts_on None d (ks ++ []) cs) (append-nil done)
+      ∙ ap (λ js. starts_on None done js cs) (append-nil ks) ∙ rest.apart done ks
 
-  -- all C cards
-  pub starts-are : (before : List SpecCard) (xs : List (Card CalculationSpec)) → open_calculation_group before ≡ None → calculations_before before (rest xs) ≡ [] → calculation_specs_in before ≡ []
-      → each at_start before (c_cards xs) post ≡ starts_from [] [] (all_groups begins_calculation xs)
-  starts-are before xs no_group done specs =
-      by_state before xs ∙ ap (λ o. starts_on o (calculations_before before (rest xs)) (calculation_specs_in before) xs) no_group
-      ∙ ap (λ gs. starts_on None gs (calculation_specs_in before) xs) done ∙ ap (λ ks. starts_on None [] ks xs) specs ∙ whole xs
-    where
-      whole : (ys : List (Card CalculationSpec)) → starts_on None [] [] ys ≡ starts_from [] [] (all_groups begins_calculation ys)
-      whole [] = refl
-      whole (y ∷ ys) =
-          ap (λ b. one_if b y.number ++ starts_on (Some (alone y.spec)) (emitted (closed (alone y.spec) ys)) (y.spec ∷ []) ys) (first (joins y.spec.control_level))
-          ∙ ap (λ ns. one_if (joins y.spec.control_level || (is_early [] y.spec || is_outside_subroutine [] (flat_group (record { first = y; followers = strays begins_calculation ys })))) y.number ++ ns) (from_open ys (alone y.spec) [] (y.spec ∷ []))
-        where
-          first : (b : Bool) → breaks b None [] [] y.spec ys ≡ (b || (is_early [] y.spec || is_outside_subroutine [] (flat_group (record { first = y; followers = strays begins_calculation ys }))))
-          first true = refl
-          first false = ap (λ h. is_early [] y.spec || is_outside_subroutine [] h) (completed_with (alone y.spec) ys)
+  module _ (g : CalculationGroup) (done : List (Calculation Key)) (ks : List CalculationSpec) where
+    abbrev next : CalculationSpec → List (Calculation Key) → CalculationGroup → List ℕ
+    next k d h = starts_on (Some h) (d ++ emitted (closed h cs)) (ks ++ k ∷ []) cs
+
+    by_group : (k : CalculationSpec) (b : Bool) → joins k.control_level ≡ b
+        → one_if (breaks b (Some g) (done ++ emitted (cond b None (Some g))) ks k cs) c.number ++ next k (done ++ emitted (cond b None (Some g))) (cond b (joined_group g k) (alone k))
+        ≡ starts_from (done ++ calculation_of (with_cards g (cond (not b) [] (numbered c true k ∷ ss))) ∷ []) (ks ++ specs_of (cond (not b) [] (numbered c true k ∷ ss))) (cond (not b) (record { first = numbered c true k; followers = ss } ∷ gs) gs)
+    by_group k true is =
+        ap (λ d. next k d (joined_group g k)) (append-nil done) ∙ rest.opened (joined_group g k) done (ks ++ k ∷ [])
+        ∙ ap (λ fs. starts_from (done ++ calculation_of (record { first = g.first; followers = fs }) ∷ []) ((ks ++ k ∷ []) ++ specs_of ss) gs) (append_assoc g.followers (k ∷ []) (specs_of ss))
+        ∙ ap (λ js. starts_from (done ++ calculation_of (with_cards g (numbered c true k ∷ ss)) ∷ []) js gs) (append_assoc ks (k ∷ []) (specs_of ss))
+    by_group k false is =
+        ap (λ h. one_if (is_early ks k || is_outside_subroutine (done ++ calculation_of g ∷ []) h) c.number ++ next k (done ++ calculation_of g ∷ []) (alone k)) (completed_with cs (alone k))
+        ∙ ap (λ ns. one_if (is_early ks k || is_outside_subroutine (done ++ calculation_of g ∷ []) (flat_group (record { first = numbered c true k; followers = ss }))) c.number ++ ns)
+        (rest.opened (alone k) (done ++ calculation_of g ∷ []) (ks ++ k ∷ []) ∙ ap (λ js. starts_from ((done ++ calculation_of g ∷ []) ++ calculation_of (with_cards (alone k) ss) ∷ []) js gs) (append_assoc ks (k ∷ []) (specs_of ss)))
+        ∙ ap (λ b. one_if (b || (is_early ks k || is_outside_subroutine (done ++ calculation_of g ∷ []) (flat_group (record { first = numbered c true k; followers = ss })))) c.number
+        ++ starts_from ((done ++ calculation_of g ∷ []) ++ calculation_of (with_cards (alone k) ss) ∷ []) (ks ++ (k ∷ specs_of ss)) gs) (sym is)
+        ∙ ap (λ fs. starts_from (done ++ calculation_of (record { first = g.first; followers = fs }) ∷ []) ks (record { first = numbered c true k; followers = ss } ∷ gs)) (sym (append-nil g.followers))
+        ∙ ap (λ js. starts_from (done ++ calculation_of (with_cards g []) ∷ []) js (record { first = numbered c true k; followers = ss } ∷ gs)) (sym (append-nil ks))
+
+    on_open : (o : Option CalculationSpec)
+        → one_if (broken_by (Some g) (done ++ emitted (cond (is_joined o) None (Some g))) ks o cs) c.number
+        ++ starts_on (option_map (group_with (Some g)) o) ((done ++ emitted (cond (is_joined o) None (Some g))) ++ emitted (cond (continues cs) None (option_map (group_with (Some g)) o))) (ks ++ cons_option o []) cs
+        ≡ meant_by g done ks (cards_with true c cs o)
+    on_open None =
+        nothing_on (done ++ calculation_of g ∷ []) ks ∙ ap (starts_from (done ++ calculation_of g ∷ []) ks) (sym (all_begun cs))
+        ∙ ap (λ fs. starts_from (done ++ calculation_of (record { first = g.first; followers = fs }) ∷ []) ks (groups_begun begins_calculation (apart_cards cs))) (sym (append-nil g.followers))
+        ∙ ap (λ js. starts_from (done ++ calculation_of (with_cards g []) ∷ []) js (groups_begun begins_calculation (apart_cards cs))) (sym (append-nil ks))
+        ∙ ap (λ xs. starts_from (done ++ calculation_of (with_cards g xs) ∷ []) (ks ++ specs_of xs) (groups_begun begins_calculation (apart_cards cs))) (sym (no_strays cs))
+    on_open (Some k) = by_group k (joins k.control_level) refl
+
+  -- the first card of a group that no group is open before
+  first : (k : CalculationSpec) (done : List (Calculation Key)) (ks : List CalculationSpec) (b : Bool)
+      → breaks b None done ks k cs ≡ (b || (is_early ks k || is_outside_subroutine done (flat_group (record { first = numbered c false k; followers = ss }))))
+  first k done ks true = refl
+  first k done ks false = ap (λ h. is_early ks k || is_outside_subroutine done h) (completed_with cs (alone k))
+
+  on_none : (done : List (Calculation Key)) (ks : List CalculationSpec) (o : Option CalculationSpec)
+      → one_if (broken_by None done ks o cs) c.number ++ starts_on (option_map (group_with None) o) (done ++ emitted (cond (continues cs) None (option_map (group_with None) o))) (ks ++ cons_option o []) cs
+      ≡ starts_from done ks (all_groups begins_calculation (cards_with false c cs o))
+  on_none done ks None = nothing_on done ks
+  on_none done ks (Some k) =
+      ap (λ b. one_if b c.number ++ starts_on (Some (alone k)) (done ++ emitted (closed (alone k) cs)) (ks ++ k ∷ []) cs) (first k done ks (joins k.control_level))
+      ∙ ap (λ ns. one_if (joins k.control_level || (is_early ks k || is_outside_subroutine done (flat_group (record { first = numbered c false k; followers = ss })))) c.number ++ ns)
+      (rest.opened (alone k) done (ks ++ k ∷ []) ∙ ap (λ js. starts_from (done ++ calculation_of (with_cards (alone k) ss) ∷ []) js gs) (append_assoc ks (k ∷ []) (specs_of ss)))
+
+are_starts : (cs : List SpecCard) → AreStarts cs
+are_starts [] = record { opened = λ g done ks. refl; apart = λ done ks. refl }
+are_starts (c ∷ cs) = record {
+  opened = λ g done ks. on_open c cs (are_starts cs) g done ks (calculation_on c.spec);
+  apart = λ done ks. on_none c cs (are_starts cs) done ks (calculation_on c.spec);
+}
+
+-- all C cards
+pub starts-are : (cards : List SpecCard) → each at_start [] cards ≡ starts_from [] [] (tree cards).calculations
+starts-are cards = by_state [] cards ∙ (are_starts cards).apart [] []

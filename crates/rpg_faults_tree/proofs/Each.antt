@@ -1,20 +1,17 @@
--- The cards that break a rule, one after the other, and cards of one sheet among them.
+-- The cards that break a rule, one after the other.
 use Rattle.std.proofs.Common.{◌≡◌, ℕ, ◌⊎◌, Bool, true, false, ◌||◌, List, [], ◌∷◌, ◌++◌, refl, sym, ap, ◌∙◌, arith, subst, append_assoc, append-nil, inl, inr}
 use Rattle.std.specs.Prelude.{◌↔◌, Contains}
 use Rattle.std.proofs.lemmas.Bool.{or_left, or_right}
 use Rattle.std.proofs.lemmas.List.Elements.{Contains-append_cases, Contains-append_left, Contains-append_right, Contains-push_cases}
 use Rattle.rpg_cards.specs.declared.spec_card.SpecCard.{SpecCard}
-use Rattle.rpg_deck.specs.Flat.{back}
-use Rattle.rpg_deck.specs.declared.card.Card.{Card}
 use Rattle.rpg_faults_tree.specs.Numbers.{one_if}
 use Rattle.rpg_faults_tree.specs.Breaks.{BreaksRule}
 use Rattle.rpg_faults_flow.specs.Kept.{Rule}
-use Rattle.rpg_sheet_specs.specs.declared.spec.Spec.{Spec}
 
--- the numbers of these cards that break a rule, with the cards before and after them
-abbrev pub each : Rule → List SpecCard → List SpecCard → List SpecCard → List ℕ
-each r before [] after = []
-each r before (c ∷ cs) after = one_if (r before c (cs ++ after)) c.number ++ each r (before ++ c ∷ []) cs after
+-- the numbers of these cards that break a rule, after others
+abbrev pub each : Rule → List SpecCard → List SpecCard → List ℕ
+each r before [] = []
+each r before (c ∷ cs) = one_if (r before c cs) c.number ++ each r (before ++ c ∷ []) cs
 
 module _ (r : Rule) where
   one-cases : (b : Bool) (m n : ℕ) → Contains (one_if b m) n → (b ≡ true) × (m ≡ n)
@@ -29,56 +26,29 @@ module _ (r : Rule) where
   one-there true n is = (0, omega arith, refl)
   one-there false n is = absurd cc
 
-  breaks-from : (before cards : List SpecCard) (n : ℕ) → Contains (each r before cards []) n → BreaksRule r (before ++ cards) n
+  breaks-from : (before cards : List SpecCard) (n : ℕ) → Contains (each r before cards) n → BreaksRule r (before ++ cards) n
   breaks-from before [] n has = absurd (omega (arith, has.1))
-  breaks-from before (c ∷ cs) n has = by (breaks-from (before ++ c ∷ []) cs n) (Contains-append_cases (one_if (r before c (cs ++ [])) c.number) (each r (before ++ c ∷ []) cs []) n has)
+  breaks-from before (c ∷ cs) n has = by (breaks-from (before ++ c ∷ []) cs n) (Contains-append_cases (one_if (r before c cs) c.number) (each r (before ++ c ∷ []) cs) n has)
     where
-      by : (Contains (each r (before ++ c ∷ []) cs []) n → BreaksRule r ((before ++ c ∷ []) ++ cs) n) → Contains (one_if (r before c (cs ++ [])) c.number) n ⊎ Contains (each r (before ++ c ∷ []) cs []) n → BreaksRule r (before ++ c ∷ cs) n
+      by : (Contains (each r (before ++ c ∷ []) cs) n → BreaksRule r ((before ++ c ∷ []) ++ cs) n) → Contains (one_if (r before c cs) c.number) n ⊎ Contains (each r (before ++ c ∷ []) cs) n → BreaksRule r (before ++ c ∷ cs) n
       by more (inl here) =
-          let is : (r before c (cs ++ []) ≡ true) × (c.number ≡ n) = one-cases (r before c (cs ++ [])) c.number n here in
-          record { before = before; card = c; after = cs; split = refl; here = is.1; broken = sym (ap (r before c) (append-nil cs)) ∙ is.0 }
+          let is : (r before c cs ≡ true) × (c.number ≡ n) = one-cases (r before c cs) c.number n here in
+          record { before = before; card = c; after = cs; split = refl; here = is.1; broken = is.0 }
       by more (inr later) = subst (λ xs. BreaksRule r xs n) (append_assoc before (c ∷ []) cs) (more later)
 
-  found-from : (before front : List SpecCard) (c : SpecCard) (after : List SpecCard) → r (before ++ front) c after ≡ true → Contains (each r before (front ++ c ∷ after) []) c.number
+  found-from : (before front : List SpecCard) (c : SpecCard) (after : List SpecCard) → r (before ++ front) c after ≡ true → Contains (each r before (front ++ c ∷ after)) c.number
   found-from before [] c after is =
-      let here : r before c (after ++ []) ≡ true = ap (r before c) (append-nil after) ∙ sym (ap (λ xs. r xs c after) (append-nil before)) ∙ is in
-      Contains-append_left (one_if (r before c (after ++ [])) c.number) (each r (before ++ c ∷ []) after []) c.number (one-there (r before c (after ++ [])) c.number here)
+      Contains-append_left (one_if (r before c after) c.number) (each r (before ++ c ∷ []) after) c.number (one-there (r before c after) c.number (sym (ap (λ xs. r xs c after) (append-nil before)) ∙ is))
   found-from before (d ∷ ds) c after is =
-      Contains-append_right (one_if (r before d ((ds ++ c ∷ after) ++ [])) d.number) (each r (before ++ d ∷ []) (ds ++ c ∷ after) []) c.number
+      Contains-append_right (one_if (r before d (ds ++ c ∷ after)) d.number) (each r (before ++ d ∷ []) (ds ++ c ∷ after)) c.number
       (found-from (before ++ d ∷ []) ds c after (ap (λ xs. r xs c after) (append_assoc before (d ∷ []) ds) ∙ is))
 
   -- they are the cards that break the rule
-  pub each-breaks : (cards : List SpecCard) (n : ℕ) → Contains (each r [] cards []) n ↔ BreaksRule r cards n
+  pub each-breaks : (cards : List SpecCard) (n : ℕ) → Contains (each r [] cards) n ↔ BreaksRule r cards n
   each-breaks cards n = (breaks-from [] cards n, found)
     where
-      found : BreaksRule r cards n → Contains (each r [] cards []) n
-      found b = subst (λ xs. Contains (each r [] xs []) n) (sym b.split) (subst (λ m. Contains (each r [] (b.before ++ b.card ∷ b.after) []) m) b.here (found-from [] b.before b.card b.after b.broken))
-
-  pub each-append : (before xs ys after : List SpecCard) → each r before (xs ++ ys) after ≡ each r before xs (ys ++ after) ++ each r (before ++ xs) ys after
-  each-append before [] ys after = ap (λ b. each r b ys after) (sym (append-nil before))
-  each-append before (x ∷ xs) ys after =
-      ap (λ rest. one_if (r before x rest) x.number ++ each r (before ++ x ∷ []) (xs ++ ys) after) (append_assoc xs ys after)
-      ∙ ap (λ ns. one_if (r before x (xs ++ (ys ++ after))) x.number ++ ns) (each-append (before ++ x ∷ []) xs ys after)
-      ∙ ap (λ b. one_if (r before x (xs ++ (ys ++ after))) x.number ++ (each r (before ++ x ∷ []) xs (ys ++ after) ++ each r b ys after)) (append_assoc before (x ∷ []) xs)
-      ∙ sym (append_assoc (one_if (r before x (xs ++ (ys ++ after))) x.number) (each r (before ++ x ∷ []) xs (ys ++ after)) (each r (before ++ x ∷ xs) ys after))
-
-  -- no card of a sheet that the rule says nothing of
-  abbrev pub IsSilent : {X : Type 0} → (X → Spec) → Type 0
-  IsSilent {X} make = (before : List SpecCard) (n : ℕ) (x : X) (after : List SpecCard) → r before (record { number = n; spec = make x }) after ≡ false
-
-  pub silent : {X : Type 0} (make : X → Spec) → IsSilent make → (before : List SpecCard) (xs : List (Card X)) (after : List SpecCard) → each r before (back make xs) after ≡ []
-  silent make none before [] after = refl
-  silent make none before (x ∷ xs) after =
-      ap (λ b. one_if b x.number ++ each r (before ++ record { number = x.number; spec = make x.spec } ∷ []) (back make xs) after) (none before x.number x.spec (back make xs ++ after))
-      ∙ silent make none (before ++ record { number = x.number; spec = make x.spec } ∷ []) xs after
-
-  -- past such a sheet, and up to it
-  pub past : {X : Type 0} (make : X → Spec) → IsSilent make → (before : List SpecCard) (xs : List (Card X)) (ys after : List SpecCard) → each r before (back make xs ++ ys) after ≡ each r (before ++ back make xs) ys after
-  past make none before xs ys after = each-append before (back make xs) ys after ∙ ap (λ ns. ns ++ each r (before ++ back make xs) ys after) (silent make none before xs (ys ++ after))
-
-  pub up_to : {X : Type 0} (make : X → Spec) → IsSilent make → (before xs : List SpecCard) (ys : List (Card X)) (after : List SpecCard) → each r before (xs ++ back make ys) after ≡ each r before xs (back make ys ++ after)
-  up_to make none before xs ys after =
-      each-append before xs (back make ys) after ∙ ap (λ ns. each r before xs (back make ys ++ after) ++ ns) (silent make none (before ++ xs) ys after) ∙ append-nil (each r before xs (back make ys ++ after))
+      found : BreaksRule r cards n → Contains (each r [] cards) n
+      found b = subst (λ xs. Contains (each r [] xs) n) (sym b.split) (subst (λ m. Contains (each r [] (b.before ++ b.card ∷ b.after)) m) b.here (found-from [] b.before b.card b.after b.broken))
 
 -- ---- of several rules
 
@@ -107,7 +77,7 @@ either-right q r cards n b = record { before = b.before; card = b.card; after = 
 abbrev pub AreBroken : Rule → List SpecCard → List ℕ → Type 0
 AreBroken r cards ns = (n : ℕ) → Contains ns n ↔ BreaksRule r cards n
 
-pub by-each : (r : Rule) (cards : List SpecCard) (ns : List ℕ) → each r [] cards [] ≡ ns → AreBroken r cards ns
+pub by-each : (r : Rule) (cards : List SpecCard) (ns : List ℕ) → each r [] cards ≡ ns → AreBroken r cards ns
 by-each r cards ns is n = subst (λ xs. Contains xs n ↔ BreaksRule r cards n) is (each-breaks r cards n)
 
 pub broken-same : (q r : Rule) (cards : List SpecCard) (ns : List ℕ) → ((before : List SpecCard) (c : SpecCard) (after : List SpecCard) → cards ≡ before ++ c ∷ after → q before c after ≡ r before c after) → AreBroken q cards ns → AreBroken r cards ns

@@ -1,4 +1,3 @@
-pub mod Among
 pub mod Begins
 pub mod Bits
 pub mod Broken

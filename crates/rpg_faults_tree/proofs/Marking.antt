@@ -6,11 +6,11 @@ use Rattle.std.proofs.lemmas.List.{get_or-set_other, get_or-set_same}
 use Rattle.std.proofs.lemmas.List.Folds.{list_any_more}
 use Rattle.std.specs.List.{cons_option, list_any}
 use Rattle.std.specs.Option.{option_map}
-use Rattle.std.specs.Prelude.{Option, None, Some}
+use Rattle.std.specs.Prelude.{Option, None, Some, is_some}
 use Rattle.rpg_cards.specs.Cards.{calculation_on}
 use Rattle.rpg_cards.specs.declared.spec_card.SpecCard.{SpecCard}
 use Rattle.rpg_deck.specs.Cut.{all_groups, groups_begun, strays}
-use Rattle.rpg_deck.specs.Tree.{begins_calculation, cards_on, tree}
+use Rattle.rpg_deck.specs.Tree.{begins_calculation, cards_from, cards_on, tree}
 
 pub mark_more : (marks : List Bool) (numbers : List ℕ) (i m : ℕ) (start : ℕ → Bool) → i < length numbers → m ≡ get_or numbers i 0 → m < length marks
     → ((n : ℕ) → get_or marks n false ≡ (start n || list_any (nat_eq n) (take i numbers)))
@@ -47,9 +47,10 @@ few_all : {X : Type 0} (begins : X → Bool) (xs : List X) → length (all_group
 few_all begins [] = omega arith
 few_all begins (x ∷ xs) = let few = few_groups begins xs in omega arith
 
-few_on : (cards : List SpecCard) → length (cards_on calculation_on cards) ≤ length cards
-few_on [] = omega arith
-few_on (c ∷ cs) = by (cards_on calculation_on cs) (option_map (λ x. record { number = c.number; spec = x }) (calculation_on c.spec)) (few_on cs)
+few_from : (adjoins : Bool) (cards : List SpecCard) → length (cards_from calculation_on adjoins cards) ≤ length cards
+few_from adjoins [] = omega arith
+few_from adjoins (c ∷ cs) =
+    by (cards_from calculation_on (is_some (calculation_on c.spec)) cs) (option_map (λ x. record { number = c.number; adjoins = adjoins; spec = x }) (calculation_on c.spec)) (few_from (is_some (calculation_on c.spec)) cs)
   where
     by : {X : Type 0} (xs : List X) (o : Option X) → length xs ≤ length cs → length (cons_option o xs) ≤ length (c ∷ cs)
     by xs None few = omega arith
@@ -58,4 +59,4 @@ few_on (c ∷ cs) = by (cards_on calculation_on cs) (option_map (λ x. record { 
 pub few_calculations : (cards : List SpecCard) → length (tree cards).calculations ≤ length cards
 few_calculations cards =
     let all : length (tree cards).calculations ≤ length (cards_on calculation_on cards) = few_all begins_calculation (cards_on calculation_on cards) in
-    omega (arith, all, few_on cards)
+    omega (arith, all, few_from false cards)

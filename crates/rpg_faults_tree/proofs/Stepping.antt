@@ -235,15 +235,16 @@ starts-steps gs joined = starts_of gs steps.before_calculations [] [] 0 joined (
 -- the groups of any C cards
 strays_join : (xs : List (Card CalculationSpec)) → Joined (strays begins_calculation xs)
 strays_join [] = tt
-strays_join (x ∷ xs) = by (joins x.spec.control_level) refl (strays_join xs)
+strays_join (x ∷ xs) = by x.adjoins (joins x.spec.control_level) refl (strays_join xs)
   where
-    by : (b : Bool) → joins x.spec.control_level ≡ b → Joined (strays begins_calculation xs) → Joined (cond (not b) [] (x ∷ strays begins_calculation xs))
-    by true is more = (is, more)
-    by false is more = tt
+    by : (a b : Bool) → joins x.spec.control_level ≡ b → Joined (strays begins_calculation xs) → Joined (cond (not (a && b)) [] (x ∷ strays begins_calculation xs))
+    by true true is more = (is, more)
+    by true false is more = tt
+    by false b is more = tt
 
 groups_join : (xs : List (Card CalculationSpec)) → AreJoined (groups_begun begins_calculation xs)
 groups_join [] = tt
-groups_join (x ∷ xs) = by (joins x.spec.control_level) (groups_join xs)
+groups_join (x ∷ xs) = by (x.adjoins && joins x.spec.control_level) (groups_join xs)
   where
     by : (b : Bool) → AreJoined (groups_begun begins_calculation xs) → AreJoined (cond (not b) (record { first = x; followers = strays begins_calculation xs } ∷ groups_begun begins_calculation xs) (groups_begun begins_calculation xs))
     by true more = more

@@ -1,14 +1,14 @@
 -- F12 of the cards of a sheet of groups: those that need a card before them.
-use Rattle.std.proofs.Common.{◌≡◌, ℕ, zero, suc, ◌-◌, Bool, true, false, not, ◌&&◌, cond, List, [], ◌∷◌, ◌++◌, length, Option, None, Some, refl, sym, ap, ◌∙◌, arith, append_assoc, length-append}
-use Rattle.std.specs.Prelude.{is_none, slice_get}
-use Rattle.std.specs.List.{flat_map, last_or}
-use Rattle.std.specs.Option.{option_and_then, option_map_or}
+use Rattle.std.proofs.Common.{◌≡◌, ℕ, ◌-◌, Bool, true, false, not, ◌&&◌, cond, List, [], ◌∷◌, ◌++◌, length, Option, None, Some, refl, sym, ap, ◌∙◌, arith, append_assoc, length-append}
+use Rattle.std.specs.Prelude.{is_none, is_some, slice_get}
+use Rattle.std.specs.List.{cons_option, flat_map}
+use Rattle.std.specs.Option.{option_and_then, option_map, option_map_or}
 use Rattle.rpg_cards.proofs.GroupLemmas.{open_group-push}
 use Rattle.rpg_cards.specs.Groups as flat
-use Rattle.rpg_cards.specs.Groups.{Apart, Role, groups_from, open_group, opening, followers, with_card}
+use Rattle.rpg_cards.specs.Groups.{Role, open_group, role_on, with_card}
 use Rattle.rpg_cards.specs.declared.spec_card.SpecCard.{SpecCard}
 use Rattle.rpg_deck.specs.Cut.{groups_begun, cut_sheet, strays}
-use Rattle.rpg_deck.specs.Flat.{back}
+use Rattle.rpg_deck.specs.Tree.{cards_from, cards_on}
 use Rattle.rpg_deck.specs.declared.card.Card.{Card}
 use Rattle.rpg_faults_tree.proofs.Each.{each}
 use Rattle.rpg_faults_tree.specs.Numbers.{one_if}
@@ -36,31 +36,22 @@ and_false true = refl
 and_false false = refl
 
 -- a sheet whose cards make groups: how a card is on it, and what the cards of its groups are
-module _ {X H F : Type 0} (on : Spec → Option X) (make : X → Spec) (role : Spec → Role H F) (begins continues takes is_field : X → Bool) where
+module _ {X H F : Type 0} (on : Spec → Option X) (card_role : X → Role H F) (begins continues takes is_field : X → Bool) where
   pub record Sheet : Type 0 where
-    pub on_sheet : (x : X) → on (make x) ≡ Some x
-    pub apart : (s : Spec) → on s ≡ None → role s ≡ Apart
-    pub opened : (o : Option (flat.Group H F)) (x : X) → is_none (with_card o (role (make x))) ≡ (is_none o && not (begins x))
+    pub opened : (o : Option (flat.Group H F)) (x : X) → is_none (with_card o (card_role x)) ≡ (is_none o && not (begins x))
     pub no_follower : (x : X) → begins x ≡ true → continues x ≡ false
     pub takes_some : (x : X) → begins x ≡ true → takes x ≡ true
     pub no_field : (x : X) → begins x ≡ true → is_field x ≡ false
 
-  -- no card of the sheet
-  abbrev pub NoneOn : List SpecCard → Type 0
-  NoneOn [] = Unit {0}
-  NoneOn (c ∷ cs) = (on c.spec ≡ None) × NoneOn cs
+  abbrev pub role : Spec → Role H F
+  role s = role_on card_role (on s)
 
-  pub none_on-append : (xs ys : List SpecCard) → NoneOn xs → NoneOn ys → NoneOn (xs ++ ys)
-  none_on-append [] ys none more = more
-  none_on-append (x ∷ xs) ys none more = (none.0, none_on-append xs ys none.1 more)
+  -- the card right before, if it is of the sheet, and what it takes
+  abbrev before_on : List SpecCard → Option X
+  before_on before = option_and_then (λ (c : SpecCard). on c.spec) (card_right_before before)
 
-  pub none_on-back : {Y : Type 0} (other : Y → Spec) → ((y : Y) → on (other y) ≡ None) → (ys : List (Card Y)) → NoneOn (back other ys)
-  none_on-back other none [] = tt
-  none_on-back other none (y ∷ ys) = (none y.spec, none_on-back other none ys)
-
-  -- what the card right before takes
   abbrev pub is_taken : List SpecCard → Bool
-  is_taken before = option_map_or takes (option_and_then (λ (c : SpecCard). on c.spec) (card_right_before before)) false
+  is_taken before = option_map_or takes (before_on before) false
 
   abbrev pub cut_rule : Rule
   cut_rule before c after = option_map_or (λ x. continues x && not (is_taken before)) (on c.spec) false
@@ -68,23 +59,64 @@ module _ {X H F : Type 0} (on : Spec → Option X) (make : X → Spec) (role : S
   abbrev pub field_rule : Rule
   field_rule before c after = option_map_or (λ x. is_field x && is_none (open_group role before)) (on c.spec) false
 
+  abbrev numbered : SpecCard → Bool → X → Card X
+  numbered c adjoins x = record { number = c.number; adjoins = adjoins; spec = x }
+
+  push_on : (before : List SpecCard) (c : SpecCard) → before_on (before ++ c ∷ []) ≡ on c.spec
+  push_on before c = ap (option_and_then (λ (d : SpecCard). on d.spec)) (right_before before c)
+
+  -- ---- cards that continue one
+
+  -- the cards are cut off, if the last card of the sheet before them takes these
+  abbrev Cut : List SpecCard → List SpecCard → Bool → Type 0
+  Cut before cs taken = is_taken before ≡ (is_some (before_on before) && taken) → each cut_rule before cs ≡ cut_off continues takes taken (cards_from on (is_some (before_on before)) cs)
+
+  cut_on : (cs before : List SpecCard) (taken : Bool) → Cut before cs taken
+  cut_on [] before taken state = refl
+  cut_on (c ∷ cs) before taken state = by (on c.spec) refl (λ b. cut_on cs (before ++ c ∷ []) b)
+    where
+      after : List SpecCard
+      after = before ++ c ∷ []
+
+      by : (o : Option X) → on c.spec ≡ o → ((b : Bool) → Cut after cs b)
+          → one_if (option_map_or (λ x. continues x && not (is_taken before)) o false) c.number ++ each cut_rule after cs
+          ≡ cut_off continues takes taken (cons_option (option_map (numbered c (is_some (before_on before))) o) (cards_from on (is_some o) cs))
+      by None is rest =
+          let here : before_on after ≡ None = push_on before c ∙ is in
+          rest taken (ap (λ o. option_map_or takes o false) here ∙ sym (ap (λ o. is_some o && taken) here)) ∙ ap (λ o. cut_off continues takes taken (cards_from on (is_some o) cs)) here
+      by (Some x) is rest =
+          let here : before_on after ≡ Some x = push_on before c ∙ is in
+          ap (λ b. one_if (continues x && not b) c.number ++ each cut_rule after cs) state
+          ∙ ap (λ ns. one_if (continues x && not (is_some (before_on before) && taken)) c.number ++ ns)
+          (rest (takes x) (ap (λ o. option_map_or takes o false) here ∙ sym (ap (λ o. is_some o && takes x) here)) ∙ ap (λ o. cut_off continues takes (takes x) (cards_from on (is_some o) cs)) here)
+
+  -- ---- fields
+
+  abbrev fields_on : Bool → List (Card X) → List ℕ
+  fields_on none [] = []
+  fields_on none (x ∷ xs) = one_if (is_field x.spec && none) x.number ++ fields_on (none && not (begins x.spec)) xs
+
   module _ (s : Sheet) where
-    abbrev card : Card X → SpecCard
-    card x = record { number = x.number; spec = make x.spec }
+    fields_by : (cs before : List SpecCard) (adjoins : Bool) → each field_rule before cs ≡ fields_on (is_none (open_group role before)) (cards_from on adjoins cs)
+    fields_by [] before adjoins = refl
+    fields_by (c ∷ cs) before adjoins = by (on c.spec) refl (λ b. fields_by cs (before ++ c ∷ []) b)
+      where
+        after : List SpecCard
+        after = before ++ c ∷ []
 
-    none_get : (cs : List SpecCard) → NoneOn cs → (i : ℕ) → option_and_then (λ (c : SpecCard). on c.spec) (slice_get cs i) ≡ None
-    none_get [] none i = refl
-    none_get (c ∷ cs) none zero = none.0
-    none_get (c ∷ cs) none (suc i) = none_get cs none.1 i
+        by : (o : Option X) → on c.spec ≡ o → ((b : Bool) → each field_rule after cs ≡ fields_on (is_none (open_group role after)) (cards_from on b cs))
+            → one_if (option_map_or (λ x. is_field x && is_none (open_group role before)) o false) c.number ++ each field_rule after cs
+            ≡ fields_on (is_none (open_group role before)) (cons_option (option_map (numbered c adjoins) o) (cards_from on (is_some o) cs))
+        by None is rest =
+            rest false
+            ∙ ap (λ o. fields_on (is_none o) (cards_from on false cs)) (open_group-push role before c ∙ ap (λ o. with_card (open_group role before) (role_on card_role o)) is)
+        by (Some x) is rest =
+            ap (λ ns. one_if (is_field x && is_none (open_group role before)) c.number ++ ns)
+            (rest true
+            ∙ ap (λ o. fields_on (is_none o) (cards_from on true cs)) (open_group-push role before c ∙ ap (λ o. with_card (open_group role before) (role_on card_role o)) is)
+            ∙ ap (λ b. fields_on b (cards_from on true cs)) (s.opened (open_group role before) x))
 
-    cut_on : (before : List SpecCard) (xs : List (Card X)) (after : List SpecCard) → each cut_rule before (back make xs) after ≡ cut_off continues takes (is_taken before) xs
-    cut_on before [] after = refl
-    cut_on before (x ∷ xs) after =
-        ap (λ o. one_if (option_map_or (λ y. continues y && not (is_taken before)) o false) x.number ++ each cut_rule (before ++ card x ∷ []) (back make xs) after) (s.on_sheet x.spec)
-        ∙ ap (λ ns. one_if (continues x.spec && not (is_taken before)) x.number ++ ns)
-        (cut_on (before ++ card x ∷ []) xs after
-        ∙ ap (λ o. cut_off continues takes (option_map_or takes (option_and_then (λ (c : SpecCard). on c.spec) o) false) xs) (right_before before (card x))
-        ∙ ap (λ o. cut_off continues takes (option_map_or takes o false) xs) (s.on_sheet x.spec))
+    -- ---- in groups
 
     abbrev begins_card : Card X → Bool
     begins_card x = begins x.spec
@@ -99,32 +131,14 @@ module _ {X H F : Type 0} (on : Spec → Option X) (make : X → Spec) (role : S
     cut_parts [] taken = refl
     cut_parts (x ∷ xs) taken = by (begins x.spec) refl (cut_parts xs true) (cut_parts xs (takes x.spec))
       where
-        by : (b : Bool) → begins x.spec ≡ b → Parted xs true → Parted xs (takes x.spec) → one_if (continues x.spec && not taken) x.number ++ cut_off continues takes (takes x.spec) xs
+        by : (b : Bool) → begins x.spec ≡ b → Parted xs true → Parted xs (takes x.spec) → one_if (continues x.spec && not (x.adjoins && taken)) x.number ++ cut_off continues takes (takes x.spec) xs
             ≡ cut_off continues takes taken (cond b [] (x ∷ strays begins_card xs)) ++ flat_map (λ g. cut_off continues takes true g.followers) (cond b (record { first = x; followers = strays begins_card xs } ∷ groups_begun begins_card xs) (groups_begun begins_card xs))
         by true is begun more =
-            ap (λ b. one_if (b && not taken) x.number ++ cut_off continues takes (takes x.spec) xs) (s.no_follower x.spec is)
+            ap (λ b. one_if (b && not (x.adjoins && taken)) x.number ++ cut_off continues takes (takes x.spec) xs) (s.no_follower x.spec is)
             ∙ ap (λ b. cut_off continues takes b xs) (s.takes_some x.spec is) ∙ begun
         by false is begun more =
-            ap (λ ns. one_if (continues x.spec && not taken) x.number ++ ns) more
-            ∙ sym (append_assoc (one_if (continues x.spec && not taken) x.number) (cut_off continues takes (takes x.spec) (strays begins_card xs)) (in_groups xs))
-
-    pub cut-are : (before : List SpecCard) → NoneOn before → (xs : List (Card X)) (after : List SpecCard) → each cut_rule before (back make xs) after ≡ cut_off_in continues takes (cut_sheet begins_card xs)
-    cut-are before none xs after = cut_on before xs after ∙ ap (λ o. cut_off continues takes (option_map_or takes o false) xs) (none_get before none (length before - 1)) ∙ cut_parts xs false
-
-    -- ---- fields
-
-    abbrev fields_on : Bool → List (Card X) → List ℕ
-    fields_on none [] = []
-    fields_on none (x ∷ xs) = one_if (is_field x.spec && none) x.number ++ fields_on (none && not (begins x.spec)) xs
-
-    fields_by : (before : List SpecCard) (xs : List (Card X)) (after : List SpecCard) → each field_rule before (back make xs) after ≡ fields_on (is_none (open_group role before)) xs
-    fields_by before [] after = refl
-    fields_by before (x ∷ xs) after =
-        ap (λ o. one_if (option_map_or (λ y. is_field y && is_none (open_group role before)) o false) x.number ++ each field_rule (before ++ card x ∷ []) (back make xs) after) (s.on_sheet x.spec)
-        ∙ ap (λ ns. one_if (is_field x.spec && is_none (open_group role before)) x.number ++ ns)
-        (fields_by (before ++ card x ∷ []) xs after
-        ∙ ap (λ o. fields_on (is_none o) xs) (open_group-push role before (card x))
-        ∙ ap (λ b. fields_on b xs) (s.opened (open_group role before) x.spec))
+            ap (λ ns. one_if (continues x.spec && not (x.adjoins && taken)) x.number ++ ns) more
+            ∙ sym (append_assoc (one_if (continues x.spec && not (x.adjoins && taken)) x.number) (cut_off continues takes (takes x.spec) (strays begins_card xs)) (in_groups xs))
 
     fields_done : (xs : List (Card X)) → fields_on false xs ≡ []
     fields_done [] = refl
@@ -138,9 +152,10 @@ module _ {X H F : Type 0} (on : Spec → Option X) (make : X → Spec) (role : S
         by true is more = ap (λ b. one_if b x.number ++ fields_on false xs) (s.no_field x.spec is) ∙ fields_done xs
         by false is more = ap (λ ns. one_if (is_field x.spec) x.number ++ ns) more
 
-    no_groups : (cs : List SpecCard) → NoneOn cs → (file : Option (List ℕ)) → groups_from role file cs ≡ []
-    no_groups [] none file = refl
-    no_groups (c ∷ cs) none file = ap (λ r. opening r file (followers role cs) (λ own. groups_from role own cs)) (s.apart c.spec none.0) ∙ no_groups cs none.1 file
+    -- ---- all cards of the sheet
 
-    pub fields-are : (before : List SpecCard) → NoneOn before → (xs : List (Card X)) (after : List SpecCard) → each field_rule before (back make xs) after ≡ passing_numbers is_field (cut_sheet begins_card xs).strays
-    fields-are before none xs after = fields_by before xs after ∙ ap (λ gs. fields_on (is_none (last_or None gs)) xs) (no_groups before none None) ∙ fields_of xs
+    pub cut-are : (cards : List SpecCard) → each cut_rule [] cards ≡ cut_off_in continues takes (cut_sheet begins_card (cards_on on cards))
+    cut-are cards = cut_on cards [] false refl ∙ cut_parts (cards_on on cards) false
+
+    pub fields-are : (cards : List SpecCard) → each field_rule [] cards ≡ passing_numbers is_field (cut_sheet begins_card (cards_on on cards)).strays
+    fields-are cards = fields_by cards [] false ∙ fields_of (cards_on on cards)

@@ -14,7 +14,6 @@ use Rattle.rpg_cards.specs.declared.spec_card.SpecCard.{SpecCard}
 use Rattle.rpg_faults_flow.proofs.Facts.{last_with}
 use Rattle.rpg_deck.proofs.Grouping.{calculations-are}
 use Rattle.rpg_deck.proofs.Placing.{labels-are}
-use Rattle.rpg_deck.specs.Flat.{IsInOrder}
 use Rattle.rpg_deck.specs.Steps as steps
 use Rattle.rpg_deck.specs.Steps.{steps_in}
 use Rattle.rpg_deck.specs.Tree.{tree}
@@ -60,6 +59,6 @@ module _ (before : List SpecCard) (c : SpecCard) (after : List SpecCard) where
       ∙ double_not (is_defined name (definitions (before ++ c ∷ [])))
 
 -- the labels before a card are the first of the steps
-pub labels_of_steps : (cards before : List SpecCard) (c : SpecCard) (after : List SpecCard) → IsInOrder 0 cards → cards ≡ before ++ c ∷ after → steps.labels_of_steps (steps_in (tree cards)) ≡ labels (front before c after) ++ labels_after_front before c after
-labels_of_steps cards before c after ordered split =
-    sym (ap labels (calculations-are 0 cards ordered) ∙ labels-are (tree cards).calculations) ∙ ap (λ cs. labels (calculations cs)) split ∙ labels_split before c after
+pub labels_of_steps : (cards before : List SpecCard) (c : SpecCard) (after : List SpecCard) → cards ≡ before ++ c ∷ after → steps.labels_of_steps (steps_in (tree cards)) ≡ labels (front before c after) ++ labels_after_front before c after
+labels_of_steps cards before c after split =
+    sym (ap labels (calculations-are cards) ∙ labels-are (tree cards).calculations) ∙ ap (λ cs. labels (calculations cs)) split ∙ labels_split before c after

@@ -3,7 +3,6 @@ use Rattle.std.specs.Prelude.{◌≡◌, ◌≤◌, ℕ, List, ◌∷◌, ◌++�
 use Rattle.std.specs.List.{list_any}
 use Rattle.rpg_cards.specs.Cards.{Numbered}
 use Rattle.rpg_cards.specs.declared.spec_card.SpecCard.{SpecCard}
-use Rattle.rpg_deck.specs.Flat.{IsInOrder}
 use Rattle.rpg_deck.specs.Steps.{steps_in}
 use Rattle.rpg_deck.specs.Tree.{Tree, tree}
 use Rattle.rpg_faults_flow.specs.Flow as goals
@@ -28,16 +27,14 @@ pub record IsFoundInTree (t : Tree) (f : FlowFaults) : Type 0 where
   pub recursive : AreMarked f.recursive (recursive_cards t)
   pub wrongly_rounding : AreMarked f.wrongly_rounding (wrongly_rounding_cards t)
 
--- numbered, in the order of the sheets, and at most 2,000, as a source's cards are
-pub record AreOrdered (cards : List SpecCard) : Type 0 where
+-- numbered, and at most 2,000, as a source's cards are
+pub record AreNumbered (cards : List SpecCard) : Type 0 where
   pub numbered : Numbered 1 cards
-  pub ordered : IsInOrder 0 cards
   pub few : length cards ≤ 2000
 
--- the cards of a source are in order, and for each rule exactly those that break it are found
+-- the cards of a source are numbered, and for each rule exactly those that break it are found
 pub record IsFoundIn (cards : List SpecCard) (f : FlowFaults) : Type 0 where
   pub numbered : Numbered 1 cards
-  pub ordered : IsInOrder 0 cards
   pub found : IsFoundInTree (tree cards) f
 
 -- the answer is whether a card of a source breaks the rule, seen with the cards before and after it

@@ -61,10 +61,10 @@ is_unpaired s after =
 -- ---- I and O cards
 
 module _ {X : Type 0} (continues takes : X → Bool) where
-  -- the cards that have to continue the card right before them, if that takes none such
+  -- the cards that have to continue the card right before them, if there is none of the sheet, or one that takes none such
   abbrev pub cut_off : Bool → List (Card X) → List ℕ
   cut_off taken [] = []
-  cut_off taken (c ∷ cs) = one_if (continues c.spec && not taken) c.number ++ cut_off (takes c.spec) cs
+  cut_off taken (c ∷ cs) = one_if (continues c.spec && not (c.adjoins && taken)) c.number ++ cut_off (takes c.spec) cs
 
   -- those among the followers of groups: the card that a group begins with takes them
   abbrev pub cut_off_followers : List (GroupOfCards (Card X)) → List ℕ

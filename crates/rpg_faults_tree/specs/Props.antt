@@ -5,7 +5,6 @@ use mathlib.Core.HLevel.{×_prop, Unit-prop}
 use mathlib.Core.Sum.{⊎_set}
 use Rattle.rpg_cards.specs.Cards.{Numbered}
 use Rattle.rpg_cards.specs.declared.spec_card.SpecCard.{SpecCard}
-use Rattle.rpg_deck.specs.Flat.{IsInOrder, place}
 use Rattle.rpg_faults_tree.specs.Marked.{IsFoundIn}
 use Rattle.rpg_faults_tree.specs.declared.found.FlowFaults.{FlowFaults}
 
@@ -13,9 +12,5 @@ pub Numbered-prop : (low : ℕ) (cards : List SpecCard) → IsProp (Numbered low
 Numbered-prop low [] = Unit-prop
 Numbered-prop low (c ∷ cs) = let first : IsProp (low ≤ c.number) = hlevel props in ×_prop first (Numbered-prop (c.number + 1) cs)
 
-pub IsInOrder-prop : (low : ℕ) (cards : List SpecCard) → IsProp (IsInOrder low cards)
-IsInOrder-prop low [] = Unit-prop
-IsInOrder-prop low (c ∷ cs) = let first : IsProp (low ≤ place c.spec) = hlevel props in ×_prop first (IsInOrder-prop (place c.spec) cs)
-
 pub IsFoundIn-prop : (cards : List SpecCard) (f : FlowFaults) → IsProp (IsFoundIn cards f)
-IsFoundIn-prop cards f = hlevel (props, ⊎_set, Numbered-prop, IsInOrder-prop)
+IsFoundIn-prop cards f = hlevel (props, ⊎_set, Numbered-prop)

@@ -28,7 +28,7 @@ wrong_in is_after_division c (d ∷ ds) = one_if c.spec.half_adjust c.number ++ 
 abbrev pub wrong_in_group : Bool → CalculationCards → List ℕ
 wrong_in_group is_after_division g = wrong_in is_after_division g.first g.followers
 
--- groups in sequence
+-- groups in sequence; a division leaves its remainder only to the card right after it
 abbrev pub wrong_from : Bool → List CalculationCards → List ℕ
 wrong_from is_after_division [] = []
-wrong_from is_after_division (g ∷ gs) = wrong_in_group is_after_division g ++ wrong_from (leaves_remainder (operation_card g).spec) gs
+wrong_from is_after_division (g ∷ gs) = wrong_in_group (g.first.adjoins && is_after_division) g ++ wrong_from (leaves_remainder (operation_card g).spec) gs

@@ -6,7 +6,6 @@ use Rattle.rpg_cards.specs.declared.labels.Label.{Label}
 use Rattle.rpg_cards.specs.declared.labels.Named.{Named}
 use Rattle.rpg_cards.specs.declared.labels.Section.{Section}
 use Rattle.rpg_cards.specs.declared.spec_card.SpecCard.{SpecCard}
-use Rattle.rpg_deck.specs.Flat.{IsInOrder}
 use Rattle.rpg_deck.specs.Steps.{Step, call_of, calls_of_steps, statement, labels_of_steps, steps_in}
 use Rattle.rpg_deck.specs.Tree.{Tree, tree}
 use Rattle.rpg_faults_tree.specs.Numbers.{at_operations}
@@ -16,9 +15,9 @@ use Rattle.rpg_faults_tree.specs.Breaks.{BreaksRule}
 use Rattle.rpg_faults_flow.specs.Flow.{comes_back, is_given_as, leaves_by}
 use Rattle.rpg_faults_flow.specs.Kept.{Rule}
 
--- of cards in the order of the sheets, the list of their tree has just the numbers of those that break the rule
+-- of any cards, the list of their tree has just the numbers of those that break the rule
 abbrev pub Finds : (Tree → List ℕ) → Rule → Type 0
-Finds list r = (cards : List SpecCard) → IsInOrder 0 cards → (number : ℕ) → Contains (list (tree cards)) number ↔ BreaksRule r cards number
+Finds list r = (cards : List SpecCard) (number : ℕ) → Contains (list (tree cards)) number ↔ BreaksRule r cards number
 
 -- a GOTO to a label, or an EXSR of a subroutine, that isn't defined
 abbrev pub step_lacks_target : List Label → Step → Bool

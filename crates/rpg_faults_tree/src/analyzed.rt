@@ -2,14 +2,13 @@
 
 ghost use Rattle.std.specs.Prelude.{◌≡◌, ◌≤◌, ◌↔◌, length, IfOk, IfSome, IsSome};
 ghost use Rattle.rpg_cards.specs.Cards.{Numbered};
-ghost use Rattle.rpg_deck.specs.Flat.{IsInOrder};
 ghost use Rattle.rpg_faults_flow.specs.Rounding.{bad_rounding};
 ghost use Rattle.rpg_faults_tree.specs.Marked as marked;
-ghost use Rattle.rpg_faults_tree.specs.Marked.{AreOrdered, IsFoundIn, DetectsBreach};
+ghost use Rattle.rpg_faults_tree.specs.Marked.{AreNumbered, IsFoundIn, DetectsBreach};
 ghost use Rattle.rpg_faults_tree.specs.Props.{IsFoundIn-prop};
 
 use crate::found::FlowFaults;
-use crate::in_order::are_in_order;
+use crate::numbered::are_numbered;
 use rpg_card_index::IndexedCards;
 use rpg_cards::SpecCard;
 use std::alloc::{AllocError, Global};
@@ -30,7 +29,6 @@ impl<'a> AnalyzedCards<'a> {
     /// Finds the cards that break the rules. Fails only if memory runs out.
     pub fn new(alloc: Global, cards: &'a IndexedCards<'a>) -> Result<Self, AllocError>
         requires numbered { Numbered 1 cards.now }
-        requires ordered { IsInOrder 0 cards.now }
         requires few { length cards.now ≤ 2000 }
         ensures { IfOk result (λ analyzed. analyzed.cards.now ≡ cards.now) }
     {
@@ -38,16 +36,16 @@ impl<'a> AnalyzedCards<'a> {
         Ok(AnalyzedCards { cards, found })
     }
 
-    /// Like `new`, for any cards: None if they are out of order, or more than 2,000. Fails only if memory runs out.
-    pub fn if_in_order(
+    /// Like `new`, for any cards: None if they aren't numbered in ascending order, or are more than 2,000. Fails only if memory runs out.
+    pub fn if_numbered(
         alloc: Global,
         cards: &'a IndexedCards<'a>,
     ) -> Result<Option<Self>, AllocError>
         ensures same { IfOk result (λ found. IfSome found (λ analyzed. analyzed.cards.now ≡ cards.now)) }
-        ensures ordered { IfOk result (λ found. IsSome found ↔ AreOrdered cards.now) }
+        ensures numbered { IfOk result (λ found. IsSome found ↔ AreNumbered cards.now) }
     {
         let listed = cards.as_slice();
-        if listed.len() > MOST_CARDS || !are_in_order(listed) {
+        if listed.len() > MOST_CARDS || !are_numbered(listed) {
             return Ok(None);
         }
         Ok(Some(AnalyzedCards::new(alloc, cards)?))

@@ -2,7 +2,6 @@
 
 ghost use Rattle.std.specs.Prelude.{◌≤◌, length, IfOk};
 ghost use Rattle.rpg_cards.specs.Cards.{Numbered};
-ghost use Rattle.rpg_deck.specs.Flat.{IsInOrder};
 ghost use Rattle.rpg_deck.specs.Seen.{tree_in};
 ghost use Rattle.rpg_faults_tree.specs.Marked.{IsFoundIn, IsFoundInTree};
 
@@ -29,7 +28,6 @@ pub struct FlowFaults {
 impl FlowFaults {
     pub(crate) fn new(alloc: Global, cards: &[SpecCard]) -> Result<Self, AllocError>
         requires numbered { Numbered 1 cards.now }
-        requires ordered { IsInOrder 0 cards.now }
         requires few { length cards.now ≤ 2000 }
         ensures { IfOk result (λ found. IsFoundIn cards.now found) }
     {

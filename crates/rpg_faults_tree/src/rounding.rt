@@ -21,7 +21,8 @@ pub(crate) fn wrongly_rounding_cards(
     let mut found = Vec::new(alloc);
     let mut is_after_division = false;
     for group in groups {
-        push_wrong(&mut found, is_after_division, group)?;
+        let follows_division = group.first.adjoins && is_after_division;
+        push_wrong(&mut found, follows_division, group)?;
         is_after_division = leaves_remainder(last_card(group).spec);
     }
     Ok(found)

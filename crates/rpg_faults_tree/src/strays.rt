@@ -98,7 +98,8 @@ fn push_cut_off<X: Joined>(
 {
     let mut is_taken = is_first_taken;
     for card in cards {
-        add(found, card.spec.joins() && !is_taken, card.number)?;
+        let is_continued = card.adjoins && is_taken;
+        add(found, card.spec.joins() && !is_continued, card.number)?;
         is_taken = card.spec.takes();
     }
     Ok(())

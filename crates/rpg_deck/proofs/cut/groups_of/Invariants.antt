@@ -6,7 +6,7 @@ use Rattle.rpg_deck.proofs.cut.groups_of.Given as goal
 abbrev pub invariant-loop-start : goal.invariant-loop-start
 invariant-loop-start g l = record {
   within : l.start ≤ length l.cards;
-  so_far : map group_in_memory l.groups.items ++ all_groups (λ c. g.X.Grouped.begins c.spec.now) (drop l.start l.cards) ≡ all_groups (λ c. g.X.Grouped.begins c.spec.now) l.cards;
+  so_far : map group_in_memory l.groups.items ++ all_groups (λ c. g.X.Grouped.begins c.spec.now c.adjoins) (drop l.start l.cards) ≡ all_groups (λ c. g.X.Grouped.begins c.spec.now c.adjoins) l.cards;
 }
 
 abbrev pub decreases-loop-start : goal.decreases-loop-start

@@ -6,4 +6,4 @@ use Rattle.rpg_deck.specs.Tree.{tree}
 use Rattle.rpg_deck.proofs.laws.calls_are_of_steps.Goals as goal
 
 pub returns : goal.returns
-returns c = λ cards ordered. ap calls (calculations-are 0 cards ordered) ∙ calls-are (tree cards).calculations
+returns c = λ cards. ap calls (calculations-are cards) ∙ calls-are (tree cards).calculations

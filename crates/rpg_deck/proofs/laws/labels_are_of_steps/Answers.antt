@@ -6,4 +6,4 @@ use Rattle.rpg_deck.specs.Tree.{tree}
 use Rattle.rpg_deck.proofs.laws.labels_are_of_steps.Goals as goal
 
 pub returns : goal.returns
-returns c = λ cards ordered. ap labels (calculations-are 0 cards ordered) ∙ labels-are (tree cards).calculations
+returns c = λ cards. ap labels (calculations-are cards) ∙ labels-are (tree cards).calculations

@@ -1,7 +1,7 @@
 use Rattle.std.proofs.Common.{subst, sym}
 use Rattle.rpg_deck.proofs.Flattening.{flat-tree}
 use Rattle.rpg_deck.specs.Flat.{IsInOrder}
-use Rattle.rpg_faults.proofs.Ordering.{sources-are}
+use Rattle.rpg_deck_laws.proofs.Ordering.{sources-are}
 use Rattle.rpg_deck_laws.proofs.laws.sources_come_back.Goals as goal
 
 pub returns : goal.returns

@@ -1,6 +1,11 @@
-use Rattle.std.proofs.Common.{take}
+use Rattle.std.proofs.Common.{◌≡◌, None, take}
+use Rattle.std.specs.List.{last_or}
+use Rattle.std.specs.Prelude.{option_copied}
 use Rattle.rpg_deck.specs.Seen.{IsDeckOf}
 use Rattle.rpg_deck.proofs.deck.Deck.new.Given as goal
 
 abbrev pub invariant-loop-card : goal.invariant-loop-card
-invariant-loop-card l = IsDeckOf (take l.card-index l.cards) l.deck
+invariant-loop-card l = record {
+  deck : IsDeckOf (take l.card-index l.cards) l.deck;
+  previous : option_copied l.previous ≡ last_or None (take l.card-index l.cards);
+}

@@ -25,7 +25,7 @@ returns c = λ cards of. tree_is cards c.args.deck.now
       files = c.as_slice-files.ensures.value;
       tables = c.as_slice-tables.ensures.value;
       types = c.in_ok-types.ensures ∙ ap (cut_sheet (λ (k : Card (Bor InputSpec)). is_type k.spec.now)) c.as_slice-inputs.ensures.value;
-      calculations = c.in_ok-calculations.ensures ∙ ap (all_groups (λ (k : Card (Bor CalculationSpec)). is_calculation k.spec.now)) c.as_slice-cards.ensures.value;
+      calculations = c.in_ok-calculations.ensures ∙ ap (all_groups (λ (k : Card (Bor CalculationSpec)). is_calculation k.spec.now k.adjoins)) c.as_slice-cards.ensures.value;
       lines = c.in_ok-lines.ensures ∙ ap (cut_sheet (λ (k : Card (Bor OutputSpec)). is_output_line k.spec.now)) c.as_slice-outputs.ensures.value;
       decks = c.in_ok-decks.ensures ∙ ap (cut_sheet (λ (k : Card (Bor DataSpec)). is_deck k.spec.now)) c.as_slice-data.ensures.value;
     })

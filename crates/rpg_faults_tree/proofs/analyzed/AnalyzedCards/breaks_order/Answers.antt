@@ -10,4 +10,4 @@ pub returns : goal.returns
 returns c = λ before after split.
     let source = c.args.self.now in
     let cards = source.cards.now in
-    c.has.ensures ∙ reported breaks_any_order cards before c.args.card.now after source.found.misplaced (misplaced_cards (tree cards)) source.exact.numbered (order-broken cards source.exact.ordered) source.exact.found.misplaced split
+    c.has.ensures ∙ reported breaks_any_order cards before c.args.card.now after source.found.misplaced (misplaced_cards (tree cards)) source.exact.numbered (order-broken cards) source.exact.found.misplaced split

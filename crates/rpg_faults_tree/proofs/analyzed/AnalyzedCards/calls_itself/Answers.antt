@@ -10,4 +10,4 @@ pub returns : goal.returns
 returns c = λ before after split.
     let source = c.args.self.now in
     let cards = source.cards.now in
-    c.has.ensures ∙ reported calls_itself_in_source cards before c.args.card.now after source.found.recursive (recursive_cards (tree cards)) source.exact.numbered (recursion-broken cards source.exact.ordered) source.exact.found.recursive split
+    c.has.ensures ∙ reported calls_itself_in_source cards before c.args.card.now after source.found.recursive (recursive_cards (tree cards)) source.exact.numbered (recursion-broken cards) source.exact.found.recursive split

@@ -10,4 +10,4 @@ pub returns : goal.returns
 returns c = λ before after split.
     let source = c.args.self.now in
     let cards = source.cards.now in
-    c.has.ensures ∙ reported leaves_its_section_in_source cards before c.args.card.now after source.found.leaving (leaving_cards (tree cards)) source.exact.numbered (apart-broken cards source.exact.ordered) source.exact.found.leaving split
+    c.has.ensures ∙ reported leaves_its_section_in_source cards before c.args.card.now after source.found.leaving (leaving_cards (tree cards)) source.exact.numbered (apart-broken cards) source.exact.found.leaving split

@@ -10,4 +10,4 @@ pub returns : goal.returns
 returns c = λ before after split.
     let source = c.args.self.now in
     let cards = source.cards.now in
-    c.has.ensures ∙ reported bad_rounding cards before c.args.card.now after source.found.wrongly_rounding (wrongly_rounding_cards (tree cards)) source.exact.numbered (rounding-broken cards source.exact.ordered) source.exact.found.wrongly_rounding split
+    c.has.ensures ∙ reported bad_rounding cards before c.args.card.now after source.found.wrongly_rounding (wrongly_rounding_cards (tree cards)) source.exact.numbered (rounding-broken cards) source.exact.found.wrongly_rounding split

@@ -1,0 +1,20 @@
+//! The numbers of cards.
+
+ghost use Rattle.std.specs.Prelude.{◌↔◌, IsTrue};
+ghost use Rattle.rpg_cards.specs.Cards.{Numbered};
+
+use rpg_cards::SpecCard;
+
+/// Whether cards are numbered in ascending order, from 1 on.
+pub(crate) fn are_numbered(cards: &[SpecCard]) -> bool
+    ensures { IsTrue result ↔ Numbered 1 cards.now }
+{
+    let mut number = 0;
+    for card in cards {
+        if card.number <= number {
+            return false;
+        }
+        number = card.number;
+    }
+    true
+}
