@@ -30,11 +30,11 @@ header_on (spec.Output x) = None
 header_on (spec.Data x) = None
 
 module _ {X : Type 0} (on : Spec → Option X) where
-  -- a card of the sheet, with its number, and whether it adjoins one: whether the card right before it is of the sheet
+  -- a card of the sheet, with its number; it adjoins if the card right before it is of the sheet too
   abbrev pub numbered_card : Bool → SpecCard → Option (Card X)
   numbered_card adjoins c = option_map (λ x. record { number = c.number; adjoins = adjoins; spec = x }) (on c.spec)
 
-  -- the cards of the sheet among these, whose first one adjoins a card of the sheet or doesn't
+  -- the cards of the sheet among these, given whether the card right before them is of the sheet
   abbrev pub cards_from : Bool → List SpecCard → List (Card X)
   cards_from adjoins [] = []
   cards_from adjoins (c ∷ cs) = cons_option (numbered_card adjoins c) (cards_from (is_some (on c.spec)) cs)

@@ -10,7 +10,7 @@ use rpg_sheet_specs::{CalculationSpec, DataSpec, InputSpec, OutputSpec};
 pub(crate) trait Grouped: Drop {
     ghost begins: { Self → Bool → Bool };
 
-    /// Whether the card begins a group, if it adjoins a card of its sheet or doesn't.
+    /// Whether the card begins a group, given whether it adjoins a card of its sheet.
     fn begins(&self, adjoins: bool) -> bool
         ensures { result ≡ begins self.now adjoins };
 }

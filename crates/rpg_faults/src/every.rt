@@ -17,7 +17,7 @@ use rpg_faults_operands::has_valid_operands;
 use rpg_faults_tree::AnalyzedCards;
 use std::alloc::{AllocError, Global};
 
-/// Returns all faults by card, then by code, each with its columns. Fails only if memory runs out.
+/// Returns all faults by card, then by code, each with its columns. Card 0 is the source as a whole. Fails only if memory runs out.
 pub fn all_faults(alloc: Global, cards: &[SpecCard]) -> Result<Vec<CardFault>, AllocError>
     requires numbered { Numbered 1 cards.now }
     requires few { length cards.now ≤ 2000 }

@@ -18,7 +18,7 @@ use rpg_faults_operands::has_valid_operands;
 use rpg_faults_tree::AnalyzedCards;
 use std::alloc::{AllocError, Global};
 
-/// Returns the first fault by card, then by code, in one pass over the cards; None if no card has a fault. Fails only if memory runs out.
+/// Returns the first fault by card, then by code, or None if there is no fault. Card 0 is the source as a whole. Fails only if memory runs out.
 pub fn first_fault(alloc: Global, cards: &[SpecCard]) -> Result<Option<Fault>, AllocError>
     requires numbered { Numbered 1 cards.now }
     requires few { length cards.now ≤ 2000 }
@@ -28,7 +28,7 @@ pub fn first_fault(alloc: Global, cards: &[SpecCard]) -> Result<Option<Fault>, A
     Ok(judged.err())
 }
 
-/// Returns the index of cards without faults, or their first fault. Fails only if memory runs out.
+/// Like `first_fault`, but returns the index of cards without faults.
 pub(crate) fn faultless_index(
     alloc: Global,
     cards: &[SpecCard],

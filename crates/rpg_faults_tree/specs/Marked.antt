@@ -27,7 +27,7 @@ pub record IsFoundInTree (t : Tree) (f : FlowFaults) : Type 0 where
   pub recursive : AreMarked f.recursive (recursive_cards t)
   pub wrongly_rounding : AreMarked f.wrongly_rounding (wrongly_rounding_cards t)
 
--- numbered, and at most 2,000, as a source's cards are
+-- their numbers ascend, and there are at most 2,000, as in a source
 pub record AreNumbered (cards : List SpecCard) : Type 0 where
   pub numbered : Numbered 1 cards
   pub few : length cards ≤ 2000

@@ -61,7 +61,7 @@ is_unpaired s after =
 -- ---- I and O cards
 
 module _ {X : Type 0} (continues takes : X → Bool) where
-  -- the cards that have to continue the card right before them, if there is none of the sheet, or one that takes none such
+  -- the cards that have to continue the card right before them, if that isn't of the sheet, or can't be continued
   abbrev pub cut_off : Bool → List (Card X) → List ℕ
   cut_off taken [] = []
   cut_off taken (c ∷ cs) = one_if (continues c.spec && not (c.adjoins && taken)) c.number ++ cut_off (takes c.spec) cs

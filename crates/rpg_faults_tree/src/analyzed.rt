@@ -36,7 +36,7 @@ impl<'a> AnalyzedCards<'a> {
         Ok(AnalyzedCards { cards, found })
     }
 
-    /// Like `new`, for any cards: None if they aren't numbered in ascending order, or are more than 2,000. Fails only if memory runs out.
+    /// Like `new`, for any cards: None if their numbers don't ascend, or there are more than 2,000 cards. Fails only if memory runs out.
     pub fn if_numbered(
         alloc: Global,
         cards: &'a IndexedCards<'a>,

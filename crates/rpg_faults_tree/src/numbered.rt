@@ -5,7 +5,7 @@ ghost use Rattle.rpg_cards.specs.Cards.{Numbered};
 
 use rpg_cards::SpecCard;
 
-/// Whether cards are numbered in ascending order, from 1 on.
+/// Whether the numbers of cards ascend. The first is at least 1, and there may be gaps.
 pub(crate) fn are_numbered(cards: &[SpecCard]) -> bool
     ensures { IsTrue result ↔ Numbered 1 cards.now }
 {
