@@ -99,11 +99,11 @@ group_with (Some g) k = if joins k.control_level then joined_group g k else alon
 
 -- ---- from the front: the group that the previous card belongs to
 
--- the group of a card, if that is a C card and this group was open before it
+-- the group that is open after a card, given the one before it: none if the card isn't a C card
 abbrev pub open_with : Option CalculationGroup → Spec → Option CalculationGroup
 open_with o s = option_map (group_with o) (calculation_on s)
 
--- the group of the last of these cards, if that is a C card
+-- the group that is open after some cards, given the one before them
 abbrev pub open_after : Option CalculationGroup → List SpecCard → Option CalculationGroup
 open_after o [] = o
 open_after o (c ∷ cs) = open_after (open_with o c.spec) cs
