@@ -191,7 +191,7 @@ fn recursion(
     requires { source.now.cards.now ≡ before.now ++ card.now ∷ after.now }
     ensures { result ≡ causes.recursion before.now card.now after.now }
 {
-    if source.calls_itself(card) {
+    if source.calls_itself(before.len()) {
         target_on(source.cards, card, after)
     } else {
         None

@@ -92,7 +92,7 @@ fn cards_text(
     let source = IndexedCards::new(alloc, &read.cards)?;
     let mut out = TextWriter::new(alloc);
     write_head(&mut out, path, read.lines.len(), faults);
-    let analyzed = AnalyzedCards::if_numbered(alloc, &source)?;
+    let analyzed = AnalyzedCards::if_few(alloc, &source)?;
     let known = SourceCards {
         cards: analyzed.as_ref(),
         text,

@@ -28,7 +28,7 @@ pub fn source_messages(
 ) -> Result<String, AllocError> {
     let cards = readable_cards(alloc, source, faults)?;
     let cards = IndexedCards::new(alloc, &cards)?;
-    let analyzed = AnalyzedCards::if_numbered(alloc, &cards)?;
+    let analyzed = AnalyzedCards::if_few(alloc, &cards)?;
     let known = SourceCards {
         cards: analyzed.as_ref(),
         text: source,

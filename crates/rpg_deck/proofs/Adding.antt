@@ -1,5 +1,5 @@
 -- The sheets of cards with one more card.
-use Rattle.std.proofs.Common.{◌≡◌, Bool, false, List, [], ◌∷◌, ◌++◌, map, Option, None, Some, refl, sym, ap, ◌∙◌, append-nil}
+use Rattle.std.proofs.Common.{◌≡◌, ℕ, suc, ◌+◌, Bool, false, List, [], ◌∷◌, ◌++◌, map, length, Option, None, Some, refl, sym, ap, ◌∙◌, arith, append-nil}
 use Rattle.std.proofs.lemmas.List.{map-append}
 use Rattle.std.specs.Borrow.{Bor}
 use Rattle.std.specs.List.{cons_option, last_or}
@@ -7,7 +7,7 @@ use Rattle.std.specs.Option.{option_map, option_map_or}
 use Rattle.std.specs.Prelude.{is_some}
 use Rattle.rpg_cards.specs.declared.spec_card.SpecCard.{SpecCard}
 use Rattle.rpg_deck.specs.Seen.{card_in_memory}
-use Rattle.rpg_deck.specs.Tree.{cards_from, cards_on, numbered_card, same_sheet}
+use Rattle.rpg_deck.specs.Tree.{card_at, cards_from, cards_on, same_sheet}
 use Rattle.rpg_deck.specs.declared.card.Card.{Card}
 use Rattle.rpg_sheet_specs.specs.declared.spec.Spec.{Spec}
 
@@ -32,32 +32,52 @@ module _ {X : Type 0} (on : Spec → Option X) where
   by_last o [] = refl
   by_last o (c ∷ cs) = by_last (Some c) cs
 
-  from_push : (adjoins : Bool) (cs : List SpecCard) (c : SpecCard) → cards_from on adjoins (cs ++ c ∷ []) ≡ cards_from on adjoins cs ++ cons_option (numbered_card on (after_all adjoins cs) c) []
-  from_push adjoins [] c = refl
-  from_push adjoins (d ∷ ds) c = ap (cons_option (numbered_card on adjoins d)) (from_push (is_some (on d.spec)) ds c) ∙ by (numbered_card on adjoins d)
+  -- the position after all of these
+  abbrev position_after : ℕ → List SpecCard → ℕ
+  position_after p [] = p
+  position_after p (c ∷ cs) = position_after (suc p) cs
+
+  counted : (p : ℕ) (cs : List SpecCard) → position_after p cs ≡ p + length cs
+  counted p [] = omega arith
+  counted p (c ∷ cs) = counted (suc p) cs ∙ omega arith
+
+  counted_all : (cs : List SpecCard) → position_after 0 cs ≡ length cs
+  counted_all cs = counted 0 cs ∙ omega arith
+
+  from_push : (p : ℕ) (adjoins : Bool) (cs : List SpecCard) (c : SpecCard) → cards_from on p adjoins (cs ++ c ∷ []) ≡ cards_from on p adjoins cs ++ cons_option (card_at on (position_after p cs) (after_all adjoins cs) c) []
+  from_push p adjoins [] c = refl
+  from_push p adjoins (d ∷ ds) c = ap (cons_option (card_at on p adjoins d)) (from_push (suc p) (is_some (on d.spec)) ds c) ∙ by (card_at on p adjoins d)
     where
-      by : (o : Option (Card X)) → cons_option o (cards_from on (is_some (on d.spec)) ds ++ cons_option (numbered_card on (after_all (is_some (on d.spec)) ds) c) []) ≡ cons_option o (cards_from on (is_some (on d.spec)) ds) ++ cons_option (numbered_card on (after_all (is_some (on d.spec)) ds) c) []
+      last : List (Card X)
+      last = cons_option (card_at on (position_after (suc p) ds) (after_all (is_some (on d.spec)) ds) c) []
+
+      by : (o : Option (Card X)) → cons_option o (cards_from on (suc p) (is_some (on d.spec)) ds ++ last) ≡ cons_option o (cards_from on (suc p) (is_some (on d.spec)) ds) ++ last
       by None = refl
       by (Some k) = refl
 
   module _ (before : List SpecCard) (c : SpecCard) where
     -- with what the card is on this sheet
-    abbrev with_one : Bool → Option X → List (Card X)
-    with_one adjoins o = cards_on on before ++ cons_option (option_map (λ x. record { number = c.number; adjoins = adjoins; spec = x }) o) []
+    abbrev with_one : ℕ → Bool → Option X → List (Card X)
+    with_one p adjoins o = cards_on on before ++ cons_option (option_map (λ x. record { number = c.number; position = p; adjoins = adjoins; spec = x }) o) []
 
-    with_card : (o : Option X) → on c.spec ≡ o → cards_on on (before ++ c ∷ []) ≡ with_one (is_on (last_or None before)) o
-    with_card o is = from_push false before c ∙ ap (λ b. with_one b (on c.spec)) (by_last None before) ∙ ap (with_one (is_on (last_or None before))) is
+    with_card : (o : Option X) → on c.spec ≡ o → cards_on on (before ++ c ∷ []) ≡ with_one (length before) (is_on (last_or None before)) o
+    with_card o is =
+        from_push 0 false before c ∙ ap (λ b. with_one (position_after 0 before) b (on c.spec)) (by_last None before)
+        ∙ ap (λ n. with_one n (is_on (last_or None before)) (on c.spec)) (counted_all before) ∙ ap (with_one (length before) (is_on (last_or None before))) is
 
     -- a card of another sheet
     pub kept : (items : List (Card (Bor X))) → on c.spec ≡ None → map card_in_memory items ≡ cards_on on before → map card_in_memory items ≡ cards_on on (before ++ c ∷ [])
     kept items is so_far = so_far ∙ sym (append-nil (cards_on on before)) ∙ sym (with_card None is)
 
     -- a card of this sheet
-    pub put : (x : X) (items new : List (Card (Bor X))) (one : Card (Bor X)) (adjoins : Bool) → on c.spec ≡ Some x → map card_in_memory items ≡ cards_on on before → new ≡ items ++ one ∷ []
-        → card_in_memory one ≡ record { number = c.number; adjoins = adjoins; spec = x } → adjoins ≡ is_on (last_or None before) → map card_in_memory new ≡ cards_on on (before ++ c ∷ [])
-    put x items new one adjoins is so_far more same last =
+    pub put : (x : X) (items new : List (Card (Bor X))) (one : Card (Bor X)) (p : ℕ) (adjoins : Bool) → on c.spec ≡ Some x → map card_in_memory items ≡ cards_on on before → new ≡ items ++ one ∷ []
+        → card_in_memory one ≡ record { number = c.number; position = p; adjoins = adjoins; spec = x } → p ≡ length before → adjoins ≡ is_on (last_or None before) → map card_in_memory new ≡ cards_on on (before ++ c ∷ [])
+    put x items new one p adjoins is so_far more same here last =
         ap (map card_in_memory) more ∙ map-append card_in_memory items (one ∷ [])
-        ∙ ap (λ cs. cs ++ card_in_memory one ∷ []) so_far ∙ ap (λ k. cards_on on before ++ k ∷ []) (same ∙ ap (λ b. record { number = c.number; adjoins = b; spec = x }) last) ∙ sym (with_card (Some x) is)
+        ∙ ap (λ cs. cs ++ card_in_memory one ∷ []) so_far
+        ∙ ap (λ k. cards_on on before ++ k ∷ [])
+        (same ∙ ap (λ n. record { number = c.number; position = n; adjoins = adjoins; spec = x }) here ∙ ap (λ b. record { number = c.number; position = length before; adjoins = b; spec = x }) last)
+        ∙ sym (with_card (Some x) is)
 
     -- whether the card right before it is of this sheet
     pub by_previous : (s : Spec) (adjoins : Bool) (previous : Option SpecCard) → ((p : Spec) → same_sheet p s ≡ is_some (on p)) → c.spec ≡ s

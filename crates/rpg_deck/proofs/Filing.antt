@@ -1,5 +1,5 @@
 -- The groups of I, O and data cards are those of the tree, with their files.
-use Rattle.std.proofs.Common.{◌≡◌, ℕ, Bool, true, false, cond, List, [], ◌∷◌, map, Option, None, Some, refl, sym, ap, ◌∙◌}
+use Rattle.std.proofs.Common.{◌≡◌, ℕ, suc, Bool, true, false, cond, List, [], ◌∷◌, map, Option, None, Some, refl, sym, ap, ◌∙◌}
 use Rattle.std.specs.List.{cons_option}
 use Rattle.std.specs.Prelude.{is_some}
 use Rattle.std.specs.Option.{option_map, option_or}
@@ -36,62 +36,62 @@ module _ {X H F : Type 0} (on : Spec → Option X) (role : X → Role H F) (begi
   abbrev texts : List (Card X) → List X
   texts cs = map (λ c. c.spec) cs
 
-  abbrev numbered : ℕ → Bool → X → Card X
-  numbered n adjoins x = record { number = n; adjoins = adjoins; spec = x }
+  abbrev numbered : ℕ → ℕ → Bool → X → Card X
+  numbered n p adjoins x = record { number = n; position = p; adjoins = adjoins; spec = x }
 
   module _ (is_as : (x : X) → IsAs x (role x)) where
-    same_followers : (adjoins : Bool) (cards : List SpecCard) → map follower (followers by_role cards) ≡ texts (strays by_card (cards_from on adjoins cards))
-    same_followers adjoins [] = refl
-    same_followers adjoins (c ∷ cs) = by (on c.spec) (λ b. same_followers b cs)
+    same_followers : (p : ℕ) (adjoins : Bool) (cards : List SpecCard) → map follower (followers by_role cards) ≡ texts (strays by_card (cards_from on p adjoins cards))
+    same_followers p adjoins [] = refl
+    same_followers p adjoins (c ∷ cs) = by (on c.spec) (λ b. same_followers (suc p) b cs)
       where
         next : List (Card X)
-        next = cards_from on true cs
+        next = cards_from on (suc p) true cs
 
         acts : (x : X) (r : Role H F) → IsAs x r → map follower (followers by_role cs) ≡ texts (strays by_card next)
-            → map follower (followers_with r (followers by_role cs)) ≡ texts (cond (begins x) [] (numbered c.number adjoins x ∷ strays by_card next))
-        acts x (Heading h n) is rest = sym (ap (λ b. texts (cond b [] (numbered c.number adjoins x ∷ strays by_card next))) is.0)
+            → map follower (followers_with r (followers by_role cs)) ≡ texts (cond (begins x) [] (numbered c.number p adjoins x ∷ strays by_card next))
+        acts x (Heading h n) is rest = sym (ap (λ b. texts (cond b [] (numbered c.number p adjoins x ∷ strays by_card next))) is.0)
         acts x (Follower f) is rest =
             ap (λ y. y ∷ map follower (followers by_role cs)) is.1 ∙ ap (λ ys. x ∷ ys) rest
-            ∙ sym (ap (λ b. texts (cond b [] (numbered c.number adjoins x ∷ strays by_card next))) is.0)
+            ∙ sym (ap (λ b. texts (cond b [] (numbered c.number p adjoins x ∷ strays by_card next))) is.0)
         acts x Apart is rest = absurd is
 
-        by : (o : Option X) → ((b : Bool) → map follower (followers by_role cs) ≡ texts (strays by_card (cards_from on b cs)))
-            → map follower (followers_with (role_on role o) (followers by_role cs)) ≡ texts (strays by_card (cons_option (option_map (numbered c.number adjoins) o) (cards_from on (is_some o) cs)))
+        by : (o : Option X) → ((b : Bool) → map follower (followers by_role cs) ≡ texts (strays by_card (cards_from on (suc p) b cs)))
+            → map follower (followers_with (role_on role o) (followers by_role cs)) ≡ texts (strays by_card (cons_option (option_map (numbered c.number p adjoins) o) (cards_from on (suc p) (is_some o) cs)))
         by None rest = rest false
         by (Some x) rest = acts x (role x) (is_as x) (rest true)
 
     abbrev made : Option (List ℕ) → X → List X → Filed X
     made file x ys = record { file = file; first = x; followers = ys }
 
-    abbrev rest_of : Bool → List SpecCard → Option (List ℕ) → List (Filed X)
-    rest_of adjoins cs own = filed name own (groups_begun by_card (cards_from on adjoins cs))
+    abbrev rest_of : ℕ → Bool → List SpecCard → Option (List ℕ) → List (Filed X)
+    rest_of p adjoins cs own = filed name own (groups_begun by_card (cards_from on p adjoins cs))
 
     abbrev tree_with : Option (List ℕ) → Card X → List (Card X) → Bool → List (Filed X)
     tree_with file x xs b = filed name file (cond b (record { first = x; followers = strays by_card xs } ∷ groups_begun by_card xs) (groups_begun by_card xs))
 
-    pub same_groups : (adjoins : Bool) (file : Option (List ℕ)) (cards : List SpecCard) → map (as_filed heading follower) (flat.groups_from by_role file cards) ≡ filed name file (groups_begun by_card (cards_from on adjoins cards))
-    same_groups adjoins file [] = refl
-    same_groups adjoins file (c ∷ cs) = by (on c.spec) (λ b own. same_groups b own cs)
+    pub same_groups : (p : ℕ) (adjoins : Bool) (file : Option (List ℕ)) (cards : List SpecCard) → map (as_filed heading follower) (flat.groups_from by_role file cards) ≡ filed name file (groups_begun by_card (cards_from on p adjoins cards))
+    same_groups p adjoins file [] = refl
+    same_groups p adjoins file (c ∷ cs) = by (on c.spec) (λ b own. same_groups (suc p) b own cs)
       where
         next : List (Card X)
-        next = cards_from on true cs
+        next = cards_from on (suc p) true cs
 
         card : X → Card X
-        card x = numbered c.number adjoins x
+        card x = numbered c.number p adjoins x
 
-        acts : (x : X) (r : Role H F) → IsAs x r → ((own : Option (List ℕ)) → map (as_filed heading follower) (flat.groups_from by_role own cs) ≡ rest_of true cs own)
+        acts : (x : X) (r : Role H F) → IsAs x r → ((own : Option (List ℕ)) → map (as_filed heading follower) (flat.groups_from by_role own cs) ≡ rest_of (suc p) true cs own)
             → map (as_filed heading follower) (opening r file (followers by_role cs) (λ own. flat.groups_from by_role own cs)) ≡ tree_with file (card x) next (begins x)
         acts x (Heading h n) is rest =
             ap (λ gs. made (option_or n file) (heading h) (map follower (followers by_role cs)) ∷ gs) (rest (option_or n file))
-            ∙ ap (λ ys. made (option_or n file) (heading h) ys ∷ rest_of true cs (option_or n file)) (same_followers true cs)
-            ∙ ap (λ y. made (option_or n file) y (texts (strays by_card next)) ∷ rest_of true cs (option_or n file)) is.1
-            ∙ ap (λ m. made (option_or m file) x (texts (strays by_card next)) ∷ rest_of true cs (option_or m file)) (sym is.2)
+            ∙ ap (λ ys. made (option_or n file) (heading h) ys ∷ rest_of (suc p) true cs (option_or n file)) (same_followers (suc p) true cs)
+            ∙ ap (λ y. made (option_or n file) y (texts (strays by_card next)) ∷ rest_of (suc p) true cs (option_or n file)) is.1
+            ∙ ap (λ m. made (option_or m file) x (texts (strays by_card next)) ∷ rest_of (suc p) true cs (option_or m file)) (sym is.2)
             ∙ sym (ap (tree_with file (card x) next) is.0)
         acts x (Follower f) is rest = rest file ∙ sym (ap (tree_with file (card x) next) is.0)
         acts x Apart is rest = absurd is
 
-        by : (o : Option X) → ((b : Bool) (own : Option (List ℕ)) → map (as_filed heading follower) (flat.groups_from by_role own cs) ≡ rest_of b cs own)
-            → map (as_filed heading follower) (opening (role_on role o) file (followers by_role cs) (λ own. flat.groups_from by_role own cs)) ≡ filed name file (groups_begun by_card (cons_option (option_map card o) (cards_from on (is_some o) cs)))
+        by : (o : Option X) → ((b : Bool) (own : Option (List ℕ)) → map (as_filed heading follower) (flat.groups_from by_role own cs) ≡ rest_of (suc p) b cs own)
+            → map (as_filed heading follower) (opening (role_on role o) file (followers by_role cs) (λ own. flat.groups_from by_role own cs)) ≡ filed name file (groups_begun by_card (cons_option (option_map card o) (cards_from on (suc p) (is_some o) cs)))
         by None rest = rest false file
         by (Some x) rest = acts x (role x) (is_as x) (rest true)
 
@@ -114,10 +114,10 @@ deck_is (text.Card t) = (refl, refl)
 
 -- the laws
 pub types-are : (cards : List SpecCard) → map type_group (flat.groups input_role cards) ≡ filed type_file None (tree cards).types.groups
-types-are cards = same_groups input_on input_card_role is_type type_file (λ t. input.Type t) (λ x. x) type_is false None cards
+types-are cards = same_groups input_on input_card_role is_type type_file (λ t. input.Type t) (λ x. x) type_is 0 false None cards
 
 pub lines-are : (cards : List SpecCard) → map line_group (flat.groups output_role cards) ≡ filed line_file None (tree cards).lines.groups
-lines-are cards = same_groups output_on output_card_role is_output_line line_file (λ r. output.Record r) (λ x. x) line_is false None cards
+lines-are cards = same_groups output_on output_card_role is_output_line line_file (λ r. output.Record r) (λ x. x) line_is 0 false None cards
 
 pub decks-are : (cards : List SpecCard) → map data_group (flat.groups data_role cards) ≡ filed (λ d. None) None (tree cards).decks.groups
-decks-are cards = same_groups data_on data_card_role is_deck (λ d. None) (λ u. text.Begin) (λ t. text.Card t) deck_is false None cards
+decks-are cards = same_groups data_on data_card_role is_deck (λ d. None) (λ u. text.Begin) (λ t. text.Card t) deck_is 0 false None cards

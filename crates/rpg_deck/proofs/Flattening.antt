@@ -2,7 +2,7 @@
 use Rattle.std.specs.List.{cons_option, filter_map}
 use Rattle.std.specs.Option.{option_map}
 use Rattle.std.specs.Prelude.{is_some}
-use Rattle.std.proofs.Common.{◌≡◌, ℕ, ◌<◌, Bool, false, List, [], ◌∷◌, ◌++◌, Option, None, Some, refl, ap, ◌∙◌, arith}
+use Rattle.std.proofs.Common.{◌≡◌, ℕ, suc, ◌<◌, Bool, false, List, [], ◌∷◌, ◌++◌, Option, None, Some, refl, ap, ◌∙◌, arith}
 use Rattle.rpg_cards.specs.Cards.{calculation_on, data_on, extension_on, file_on, input_on, output_on}
 use Rattle.rpg_cards.specs.declared.spec_card.SpecCard.{SpecCard}
 use Rattle.rpg_deck.specs.Cut.{all_in, flat_sheet}
@@ -17,17 +17,17 @@ abbrev sheet : {X : Type 0} → (Spec → Option X) → (X → Spec) → List Sp
 sheet on make cards = filter_map (λ (c : SpecCard). option_map (λ x. record { number = c.number; spec = make x }) (on c.spec)) cards
 
 module _ {X : Type 0} (on : Spec → Option X) (make : X → Spec) where
-  back_from : (adjoins : Bool) (cards : List SpecCard) → back make (cards_from on adjoins cards) ≡ sheet on make cards
-  back_from adjoins [] = refl
-  back_from adjoins (c ∷ cs) = by (on c.spec) (back_from (is_some (on c.spec)) cs)
+  back_from : (p : ℕ) (adjoins : Bool) (cards : List SpecCard) → back make (cards_from on p adjoins cards) ≡ sheet on make cards
+  back_from p adjoins [] = refl
+  back_from p adjoins (c ∷ cs) = by (on c.spec) (back_from (suc p) (is_some (on c.spec)) cs)
     where
-      by : (o : Option X) → back make (cards_from on (is_some (on c.spec)) cs) ≡ sheet on make cs
-          → back make (cons_option (option_map (λ x. record { number = c.number; adjoins = adjoins; spec = x }) o) (cards_from on (is_some (on c.spec)) cs)) ≡ cons_option (option_map (λ x. record { number = c.number; spec = make x }) o) (sheet on make cs)
+      by : (o : Option X) → back make (cards_from on (suc p) (is_some (on c.spec)) cs) ≡ sheet on make cs
+          → back make (cons_option (option_map (λ x. record { number = c.number; position = p; adjoins = adjoins; spec = x }) o) (cards_from on (suc p) (is_some (on c.spec)) cs)) ≡ cons_option (option_map (λ x. record { number = c.number; spec = make x }) o) (sheet on make cs)
       by None rest = rest
       by (Some x) rest = ap (λ ds. record { number = c.number; spec = make x } ∷ ds) rest
 
   back_is : (cards : List SpecCard) → back make (cards_on on cards) ≡ sheet on make cards
-  back_is cards = back_from false cards
+  back_is cards = back_from 0 false cards
 
 abbrev joined : List SpecCard → List SpecCard
 joined cards =

@@ -1,6 +1,7 @@
 -- What a deck, a tree and steps in memory represent.
 use Rattle.std.specs.Borrow.{Bor}
-use Rattle.std.specs.Prelude.{◌≡◌, List, map}
+use Rattle.std.specs.List.{last_or}
+use Rattle.std.specs.Prelude.{◌≡◌, ℕ, List, [], ◌∷◌, ◌++◌, length, Bool, Option, None, map}
 use Rattle.rpg_cards.specs.Cards.{calculation_on, data_on, extension_on, file_on, input_on, output_on}
 use Rattle.rpg_cards.specs.declared.spec_card.SpecCard.{SpecCard}
 use Rattle.rpg_deck.specs.Cut as cut
@@ -18,7 +19,7 @@ use Rattle.rpg_deck.specs.declared.tree.Tree as read
 
 -- a card in memory refers to what it represents
 abbrev pub card_in_memory : {X : Type 0} → Card (Bor X) → Card X
-card_in_memory c = record { number = c.number; adjoins = c.adjoins; spec = c.spec.now }
+card_in_memory c = record { number = c.number; position = c.position; adjoins = c.adjoins; spec = c.spec.now }
 
 -- a deck in memory has the cards of each sheet of the source
 pub record IsDeckOf (cards : List SpecCard) (d : Deck) : Type 0 where
@@ -30,7 +31,16 @@ pub record IsDeckOf (cards : List SpecCard) (d : Deck) : Type 0 where
   pub outputs : map card_in_memory d.outputs.items ≡ cards_on output_on cards
   pub decks : map card_in_memory d.decks.items ≡ cards_on data_on cards
 
+-- a deck of some cards, with one more, given the card right before it and its position
+abbrev pub AddsCard : Option SpecCard → ℕ → SpecCard → Deck → Deck → Type 0
+AddsCard previous position c old new =
+    (before : List SpecCard) → previous ≡ last_or None before → position ≡ length before → IsDeckOf before old → IsDeckOf (before ++ c ∷ []) new
+
 -- ---- groups
+
+-- whether a card in memory begins a group
+abbrev pub begins_in_memory : {X : Type 0} → (X → Bool → Bool) → Card (Bor X) → Bool
+begins_in_memory begins c = begins c.spec.now c.adjoins
 
 -- a group of cards in memory
 abbrev pub group_in_memory : {X : Type 0} → Group X → cut.GroupOfCards (Card (Bor X))

@@ -1,5 +1,5 @@
--- The cards of a source as one tree. Each card keeps its number, and whether it adjoins a card of its sheet.
-use Rattle.std.specs.Prelude.{List, [], ◌∷◌, Option, None, Some, is_some, Bool, false}
+-- The cards of a source as one tree. Each card keeps its number, its position, and whether it adjoins a card of its sheet.
+use Rattle.std.specs.Prelude.{ℕ, suc, List, [], ◌∷◌, Option, None, Some, is_some, Bool, false}
 use Rattle.std.specs.List.{cons_option}
 use Rattle.std.specs.Option.{option_map}
 use Rattle.rpg_cards.specs.Cards.{calculation_on, data_on, extension_on, file_on, input_on, output_on}
@@ -30,18 +30,18 @@ header_on (spec.Output x) = None
 header_on (spec.Data x) = None
 
 module _ {X : Type 0} (on : Spec → Option X) where
-  -- a card of the sheet, with its number; it adjoins if the card right before it is of the sheet too
-  abbrev pub numbered_card : Bool → SpecCard → Option (Card X)
-  numbered_card adjoins c = option_map (λ x. record { number = c.number; adjoins = adjoins; spec = x }) (on c.spec)
+  -- a card of the sheet, with its number and its position; it adjoins if the card right before it is of the sheet too
+  abbrev pub card_at : ℕ → Bool → SpecCard → Option (Card X)
+  card_at position adjoins c = option_map (λ x. record { number = c.number; position = position; adjoins = adjoins; spec = x }) (on c.spec)
 
-  -- the cards of the sheet among these, given whether the card right before them is of the sheet
-  abbrev pub cards_from : Bool → List SpecCard → List (Card X)
-  cards_from adjoins [] = []
-  cards_from adjoins (c ∷ cs) = cons_option (numbered_card adjoins c) (cards_from (is_some (on c.spec)) cs)
+  -- the cards of the sheet among these, given the position of the first, and whether the card right before it is of the sheet
+  abbrev pub cards_from : ℕ → Bool → List SpecCard → List (Card X)
+  cards_from position adjoins [] = []
+  cards_from position adjoins (c ∷ cs) = cons_option (card_at position adjoins c) (cards_from (suc position) (is_some (on c.spec)) cs)
 
   -- all cards of the sheet
   abbrev pub cards_on : List SpecCard → List (Card X)
-  cards_on cards = cards_from false cards
+  cards_on cards = cards_from 0 false cards
 
 -- two cards are of the same sheet
 abbrev pub same_sheet : Spec → Spec → Bool

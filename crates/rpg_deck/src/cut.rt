@@ -2,7 +2,7 @@
 
 ghost use Rattle.std.specs.Prelude.{◌≡◌, ◌≤◌, length, map, take, drop, IfOk};
 ghost use Rattle.rpg_deck.specs.Cut as spec;
-ghost use Rattle.rpg_deck.specs.Seen.{group_in_memory, sheet_at};
+ghost use Rattle.rpg_deck.specs.Seen.{begins_in_memory, group_in_memory, sheet_at};
 
 use crate::begins::Grouped;
 use crate::card::Card;
@@ -27,7 +27,7 @@ pub(crate) fn sheet_of<'deck, 'source, X: Grouped>(
     alloc: Global,
     cards: &'deck [Card<&'source X>],
 ) -> Result<Sheet<'deck, 'source, X>, AllocError>
-    ensures { IfOk result (λ s. sheet_at s ≡ spec.cut_sheet (λ c. X.begins c.spec.now c.adjoins) cards.now) }
+    ensures { IfOk result (λ s. sheet_at s ≡ spec.cut_sheet (begins_in_memory X.begins) cards.now) }
 {
     let (strays, rest) = cards.split_at(stray_count(cards));
     let groups = groups_of(alloc, rest)?;
@@ -39,7 +39,7 @@ pub(crate) fn groups_of<'deck, 'source, X: Grouped>(
     alloc: Global,
     cards: &'deck [Card<&'source X>],
 ) -> Result<Vec<Group<'deck, 'source, X>>, AllocError>
-    ensures { IfOk result (λ gs. map group_in_memory gs.items ≡ spec.all_groups (λ c. X.begins c.spec.now c.adjoins) cards.now) }
+    ensures { IfOk result (λ gs. map group_in_memory gs.items ≡ spec.all_groups (begins_in_memory X.begins) cards.now) }
 {
     let mut groups = Vec::new(alloc);
     let mut start = 0;
@@ -58,8 +58,8 @@ pub(crate) fn groups_of<'deck, 'source, X: Grouped>(
 /// Counts the cards before the first one that begins a group.
 fn stray_count<X: Grouped>(cards: &[Card<&X>]) -> usize
     ensures within { result ≤ length cards.now }
-    ensures strays { take result cards.now ≡ spec.strays (λ c. X.begins c.spec.now c.adjoins) cards.now }
-    ensures groups { spec.all_groups (λ c. X.begins c.spec.now c.adjoins) (drop result cards.now) ≡ spec.groups_begun (λ c. X.begins c.spec.now c.adjoins) cards.now }
+    ensures strays { take result cards.now ≡ spec.strays (begins_in_memory X.begins) cards.now }
+    ensures groups { spec.all_groups (begins_in_memory X.begins) (drop result cards.now) ≡ spec.groups_begun (begins_in_memory X.begins) cards.now }
 {
     let mut count = 0;
     while count < cards.len() {

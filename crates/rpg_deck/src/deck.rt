@@ -1,10 +1,8 @@
 //! The cards of a source, by their sheets.
 
-ghost use Rattle.std.specs.Prelude.{◌≡◌, ◌∷◌, ◌++◌, [], List, None, false, option_copied, IfOk, OnOk};
-ghost use Rattle.std.specs.List.{last_or};
+ghost use Rattle.std.specs.Prelude.{◌≡◌, false, option_copied, IfOk, OnOk};
 ghost use Rattle.std.specs.Option.{option_map_or};
-ghost use Rattle.rpg_cards.specs.declared.spec_card.SpecCard.{SpecCard};
-ghost use Rattle.rpg_deck.specs.Seen.{IsDeckOf};
+ghost use Rattle.rpg_deck.specs.Seen.{AddsCard, IsDeckOf};
 ghost use Rattle.rpg_deck.specs.Tree as tree;
 
 use crate::card::Card;
@@ -40,31 +38,46 @@ impl<'source> Deck<'source> {
             decks: Vec::new(alloc),
         };
         let mut previous = None;
-        for card in cards {
-            deck.add(previous, card)?;
+        for (position, card) in cards.iter().enumerate() {
+            deck.add(previous, position, card)?;
             previous = Some(card);
         }
         Ok(deck)
     }
 
-    /// Adds a card, given the card right before it.
+    /// Adds a card, given the card right before it and its position.
     fn add(
         &mut self,
         previous: Option<&SpecCard>,
+        position: usize,
         card: &'source SpecCard,
     ) -> Result<(), AllocError>
-        ensures { OnOk result ((before : List SpecCard) → option_copied previous.entry ≡ last_or None before → IsDeckOf before self.old → IsDeckOf (before ++ card.now ∷ []) self.new) }
+        ensures { OnOk result (AddsCard (option_copied previous.entry) position card.now self.old self.new) }
     {
         let number = card.number;
         let adjoins = adjoins(previous, card);
         match &card.spec {
-            Spec::Header(spec) => self.headers.push(Card::new(number, adjoins, spec))?,
-            Spec::File(spec) => self.files.push(Card::new(number, adjoins, spec))?,
-            Spec::Extension(spec) => self.tables.push(Card::new(number, adjoins, spec))?,
-            Spec::Input(spec) => self.inputs.push(Card::new(number, adjoins, spec))?,
-            Spec::Calculation(spec) => self.calculations.push(Card::new(number, adjoins, spec))?,
-            Spec::Output(spec) => self.outputs.push(Card::new(number, adjoins, spec))?,
-            Spec::Data(spec) => self.decks.push(Card::new(number, adjoins, spec))?,
+            Spec::Header(spec) => {
+                self.headers.push(Card::new(number, position, adjoins, spec))?
+            }
+            Spec::File(spec) => {
+                self.files.push(Card::new(number, position, adjoins, spec))?
+            }
+            Spec::Extension(spec) => {
+                self.tables.push(Card::new(number, position, adjoins, spec))?
+            }
+            Spec::Input(spec) => {
+                self.inputs.push(Card::new(number, position, adjoins, spec))?
+            }
+            Spec::Calculation(spec) => {
+                self.calculations.push(Card::new(number, position, adjoins, spec))?
+            }
+            Spec::Output(spec) => {
+                self.outputs.push(Card::new(number, position, adjoins, spec))?
+            }
+            Spec::Data(spec) => {
+                self.decks.push(Card::new(number, position, adjoins, spec))?
+            }
         }
         Ok(())
     }

@@ -10,9 +10,8 @@ use Rattle.rpg_faults.specs.declared.code.FaultCode.{FaultCode}
 use Rattle.rpg_faults.specs.declared.code.FaultCode.TheVariants.{F1, F7}
 use Rattle.rpg_faults.specs.declared.fault.Fault.{Fault}
 use Rattle.rpg_faults_flow.specs.Kept.{Rule}
-use Rattle.rpg_faults_tree.specs.Breaks.{BreaksRule}
 use Rattle.rpg_faults.specs.Codes.{fault_number}
-use Rattle.rpg_faults.specs.Faults.{codes, fault_on, least_fault_from, least_fault, HasFault, FaultNotAfter, IsLeastFault, Faultless}
+use Rattle.rpg_faults.specs.Faults.{BreaksRule, codes, fault_on, least_fault_from, least_fault, HasFault, FaultNotAfter, IsLeastFault, Faultless}
 use Rattle.rpg_faults.specs.Rules.{rule, source_rule}
 use Rattle.rpg_faults_limits.specs.Files.{lacks_input}
 

@@ -1,16 +1,25 @@
 -- The faults of a source without sheet faults, as a set of pairs, and the first of them.
-use Rattle.std.specs.Prelude.{◌≡◌, ◌<◌, ◌≤◌, ◌⊎◌, true, List, [], ◌∷◌, ◌++◌, Option, None, Some, find, if◌then◌else◌}
+use Rattle.std.specs.Prelude.{◌≡◌, ℕ, ◌<◌, ◌≤◌, ◌⊎◌, true, List, [], ◌∷◌, ◌++◌, Option, None, Some, find, if◌then◌else◌}
 use Rattle.std.specs.Option.{option_map, option_or}
 use Rattle.rpg_cards.specs.declared.spec_card.SpecCard.{SpecCard}
 use Rattle.rpg_faults.specs.declared.code.FaultCode.{FaultCode}
 use Rattle.rpg_faults.specs.declared.code.FaultCode.TheVariants.{F1, F2, F3, F4, F5, F6, F7, F8, F9, F10, F11, F12, F13, F14, F15, F16, F17, F18}
 use Rattle.rpg_faults.specs.declared.fault.Fault.{Fault}
-use Rattle.rpg_faults_tree.specs.Breaks.{BreaksRule}
+use Rattle.rpg_faults_flow.specs.Kept.{Rule}
 use Rattle.rpg_faults.specs.Codes.{fault_number}
 use Rattle.rpg_faults_limits.specs.Files.{lacks_input}
 use Rattle.rpg_faults.specs.Rules.{rule, source_rule}
 
 -- ---- the set: pairs of a card and a code
+
+-- a card with this number breaks a rule
+pub record BreaksRule (r : Rule) (cards : List SpecCard) (number : ℕ) : Type 0 where
+  pub before : List SpecCard
+  pub card : SpecCard
+  pub after : List SpecCard
+  pub split : cards ≡ before ++ card ∷ after
+  pub here : card.number ≡ number
+  pub broken : r before card after ≡ true
 
 -- what is wrong with the source as a whole has card 0
 abbrev pub HasFault : List SpecCard → Fault → Type 0

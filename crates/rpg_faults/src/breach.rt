@@ -29,6 +29,7 @@ pub(crate) fn breaks(
 {
     let cards = source.cards;
     let before = seen.before;
+    let position = before.len();
     match code {
         FaultCode::F1 => {
             !has_valid_operands && rpg_faults_operands::lacks_name(cards, card, after)
@@ -54,14 +55,14 @@ pub(crate) fn breaks(
                 || rpg_faults_operands::bad_columns(cards, card, after)
                 || rpg_faults_limits::moves_disk(cards, &seen.sheets, before, card)
         }
-        FaultCode::F10 => source.lacks_target(card),
+        FaultCode::F10 => source.lacks_target(position),
         FaultCode::F11 => {
             rpg_faults_tree::repeats_name(source, &seen.counts, before, card, after)
         }
-        FaultCode::F12 => source.breaks_order(card),
-        FaultCode::F13 => source.leaves_its_section(card),
-        FaultCode::F14 => source.calls_itself(card),
-        FaultCode::F15 => source.rounds_wrongly(card),
+        FaultCode::F12 => source.breaks_order(position),
+        FaultCode::F13 => source.leaves_its_section(position),
+        FaultCode::F14 => source.calls_itself(position),
+        FaultCode::F15 => source.rounds_wrongly(position),
         FaultCode::F16 => crate::misplaces(cards, &seen.sheets, &seen.places, before, card, after),
         FaultCode::F17 => rpg_faults_operands::bad_editing(cards, card),
         FaultCode::F18 => rpg_faults_data::breaks_data(cards, &seen.places.decks, before, card),

@@ -3,7 +3,7 @@
 ghost use Rattle.std.specs.Prelude.{◌≡◌, ◌≤◌, length, vec_len, IfOk};
 ghost use Rattle.rpg_cards.specs.Cards.{Numbered};
 ghost use Rattle.rpg_faults.specs.Cards as specs_of;
-ghost use Rattle.rpg_faults_tree.specs.Props.{Numbered-prop};
+ghost use Rattle.rpg_faults.specs.Props.{Numbered-prop};
 
 use rpg_cards::SpecCard;
 use rpg_sheet::{Cards, Spec};

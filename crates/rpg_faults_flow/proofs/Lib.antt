@@ -2,7 +2,6 @@ pub mod Counted
 pub mod Ending
 pub mod Facts
 pub mod Goals
-pub mod GroupEnds
 pub mod Joined
 pub mod Paired
 pub mod Placed

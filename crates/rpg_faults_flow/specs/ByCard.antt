@@ -1,7 +1,7 @@
 -- The rules for a card, given the group of the previous card.
-use Rattle.std.specs.Prelude.{List, Bool, false, not, ◌&&◌, ◌||◌, Option, None, Some, is_none, is_some, if◌then◌else◌}
+use Rattle.std.specs.Prelude.{List, Bool, false, not, ◌&&◌, ◌||◌, Option, None, Some, if◌then◌else◌}
 use Rattle.std.specs.Option.{option_and_then, option_map, option_map_or}
-use Rattle.rpg_cards.specs.Calculations.{CalculationGroup, calculations, card_ending, depends, continues, group_end}
+use Rattle.rpg_cards.specs.Calculations.{CalculationGroup, calculations, card_ending}
 use Rattle.rpg_cards.specs.Statements.{Calculation, statement_of}
 use Rattle.rpg_cards.specs.Keys.{Key}
 use Rattle.rpg_cards.specs.Labels.{begins_subroutine, ends, is_endsr, labels, target_name}
@@ -10,7 +10,6 @@ use Rattle.rpg_cards.specs.Sections.{is_subroutine}
 use Rattle.rpg_cards.specs.Cards.{calculation_on}
 use Rattle.rpg_cards.specs.Groups.{joins}
 use Rattle.rpg_cards.specs.declared.spec_card.SpecCard.{SpecCard}
-use Rattle.rpg_faults_flow.specs.Columns.{bad_by_end, may_depend}
 use Rattle.rpg_faults_flow.specs.Flow.{is_given_as}
 use Rattle.rpg_faults_flow.specs.Order.{is_bracket}
 use Rattle.rpg_sheet_specs.specs.declared.calculation.CalculationSpec.{CalculationSpec}
@@ -44,16 +43,6 @@ bracket_in level k = if is_subroutine level && is_bracket (statement_of k) then 
 -- likewise for the card with the operation, if a group ends on the card
 abbrev pub bracket_at : Option ControlLevel → SpecCard → List SpecCard → Option Bool
 bracket_at group c after = option_and_then (λ k. bracket_in (calculation_level group k) k) (card_ending c after)
-
--- ---- F9
-
--- F9 of the conditions, given whether a group is open, whether the next card continues it, and the group's last card
-abbrev pub bad_dependence : Bool → Bool → CalculationSpec → CalculationSpec → Bool
-bad_dependence in_group on k last = ((on || (joins k.control_level && in_group)) && not (depends k)) || (depends k && not (may_depend last))
-
--- F9 of a C card, given whether a group is open
-abbrev pub bad_card : Bool → CalculationSpec → List SpecCard → Bool
-bad_card in_group k after = bad_dependence in_group (continues after) k (group_end k after) || ((is_some k.length && is_none k.result_field) || bad_by_end (continues after) k)
 
 -- ---- F10
 

@@ -86,8 +86,3 @@ bad_calculation group k after = bad_conditions group k after || ((is_some k.leng
 -- F9 of a card, if it is a C card
 abbrev pub bad_calculation_columns : List SpecCard → SpecCard → List SpecCard → Bool
 bad_calculation_columns before c after = option_map_or (λ k. bad_calculation (open_calculation_group before) k after) (calculation_on c.spec) false
-
--- F9 of the first of the remaining cards, if there is one
-abbrev pub bad_next_columns : List SpecCard → List SpecCard → Bool
-bad_next_columns before [] = false
-bad_next_columns before (c ∷ after) = bad_calculation_columns before c after

@@ -2,7 +2,6 @@ pub mod ByCard
 pub mod Columns
 pub mod Faultless
 pub mod Flow
-pub mod GroupEnd
 pub mod Kept
 pub mod Marks
 pub mod Order

@@ -1,86 +1,12 @@
 //! F9 of calculation cards: columns that are missing or not allowed.
 
-ghost use Rattle.std.specs.Prelude.{◌≡◌, ◌∷◌, Option, is_some, option_copied};
+ghost use Rattle.std.specs.Prelude.{◌≡◌};
 ghost use Rattle.std.specs.Option.{option_map};
-ghost use Rattle.rpg_cards.specs.Calculations.{group_end, open_calculation_group};
-ghost use Rattle.rpg_faults_flow.specs.GroupEnd.{EndsGroup};
 ghost use Rattle.rpg_faults_flow.specs.Columns as spec;
-ghost use Rattle.rpg_faults_flow.specs.ByCard as by_card;
 ghost use Rattle.rpg_sheet_specs.specs.declared.literal.Factor.TheVariants as factor;
 
-use crate::group_end::RemainingCards;
-use rpg_cards::{Column, Content, Shown, SpecCard, columns, continues, depends, joins, plain_name};
+use rpg_cards::{Column, Content, Shown, columns, plain_name};
 use rpg_sheet_specs::{CalculationSpec, Entry, Factor, Indicator, Operation, Three};
-
-/// F9 of calculation cards, for the first of the remaining cards. Doesn't check the sequence of what LOKUP searches.
-pub fn bad_columns(before: &[SpecCard], remaining: &RemainingCards) -> bool
-    ensures { result ≡ spec.bad_next_columns before.now remaining.now }
-{
-    let Some((card, after)) = remaining.as_slice().split_first() else {
-        return false;
-    };
-    has_bad_columns(remaining.group_end(), before, card, after)
-}
-
-fn has_bad_columns(
-    group_end: Option<&CalculationSpec>,
-    before: &[SpecCard],
-    card: &SpecCard,
-    after: &[SpecCard],
-) -> bool
-    requires { EndsGroup (card.now ∷ after.now) (option_copied group_end) }
-    ensures { result ≡ spec.bad_calculation_columns before.now card.now after.now }
-{
-    let Some(calculation) = card.calculation() else {
-        return false;
-    };
-    let Some(last) = group_end else {
-        return false;
-    };
-    bad_card(is_in_group(before), calculation, last, after)
-}
-
-/// Whether the previous card is a calculation card.
-fn is_in_group(before: &[SpecCard]) -> bool
-    ensures { result ≡ is_some (open_calculation_group before.now) }
-{
-    match before.last() {
-        None => false,
-        Some(card) => card.calculation().is_some(),
-    }
-}
-
-fn bad_card(
-    is_in_group: bool,
-    calculation: &CalculationSpec,
-    last: &CalculationSpec,
-    after: &[SpecCard],
-) -> bool
-    requires { last.now ≡ group_end calculation.now after.now }
-    ensures { result ≡ by_card.bad_card is_in_group calculation.now after.now }
-{
-    let continues = continues(after);
-    bad_conditions(is_in_group, continues, calculation, last)
-        || (calculation.length.is_some() && calculation.result_field.is_none())
-        || bad_by_end(continues, calculation)
-}
-
-/// Whether a card of several has no conditions, or a card has some although the group's operation
-/// allows none.
-fn bad_conditions(
-    is_in_group: bool,
-    continues: bool,
-    calculation: &CalculationSpec,
-    last: &CalculationSpec,
-) -> bool
-    ensures { result ≡ by_card.bad_dependence is_in_group continues calculation.now last.now }
-{
-    if depends(calculation) {
-        !may_depend(last)
-    } else {
-        continues || (joins(calculation) && is_in_group)
-    }
-}
 
 /// Whether the group that ends in this card may have conditions.
 pub fn may_depend(last: &CalculationSpec) -> bool
@@ -92,7 +18,9 @@ pub fn may_depend(last: &CalculationSpec) -> bool
     }
 }
 
-pub(crate) fn bad_by_end(continues: bool, calculation: &CalculationSpec) -> bool
+/// Whether a card before the last of its group has more than conditions, or the last one is wrong. Doesn't check the sequence of
+/// what LOKUP searches.
+pub fn bad_by_end(continues: bool, calculation: &CalculationSpec) -> bool
     ensures { result ≡ spec.bad_by_end continues calculation.now }
 {
     if continues {

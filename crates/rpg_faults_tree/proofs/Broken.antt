@@ -21,12 +21,14 @@ use Rattle.rpg_deck.specs.Tree.{cards_on, tree}
 use Rattle.rpg_faults_tree.proofs.Begins.{at_start, starts-are}
 use Rattle.rpg_faults_tree.proofs.Each.{AreBroken, broken-either, broken-same, by-each, either}
 use Rattle.rpg_faults_tree.proofs.Ends.{Test, at_end, ends-are}
+use Rattle.rpg_faults_tree.proofs.Filling.{filled-are}
 use Rattle.rpg_faults_tree.proofs.Rounds.{rounds-are}
 use Rattle.rpg_faults_tree.proofs.Stepping.{IsTestOf, all_join, back_is, ends-steps, leaves_is, nowhere_is, starts-steps, unpaired_is}
 use Rattle.rpg_faults_tree.proofs.Straying as strays
-use Rattle.rpg_faults_tree.specs.Numbers.{at_operations}
-use Rattle.rpg_faults_tree.specs.Order.{cut_off_in, misplaced_from, passing_numbers, strays_on_input, strays_on_output, is_and, is_and_or, is_input_field, is_unpaired}
-use Rattle.rpg_faults_tree.specs.Rules.{calls_back, recursive_cards, step_lacks_target, step_leaves_section, leaving_cards, lost_cards, misplaced_cards, wrongly_rounding_cards}
+use Rattle.rpg_faults_tree.specs.Positions.{at_operations}
+use Rattle.rpg_faults_tree.specs.Order.{cut_off_in, misplaced_from, passing_cards, strays_on_input, strays_on_output, is_and, is_and_or, is_input_field, is_unpaired}
+use Rattle.rpg_faults_tree.specs.Rules.{badly_filled_cards, calls_back, recursive_cards, step_lacks_target, step_leaves_section, leaving_cards, lost_cards, misplaced_cards, wrongly_rounding_cards}
+use Rattle.rpg_faults_flow.specs.Columns.{bad_calculation_columns}
 use Rattle.rpg_faults_flow.specs.Flow as flow
 use Rattle.rpg_faults_flow.specs.Kept.{Rule}
 use Rattle.rpg_faults_flow.specs.Order.{breaks_order, unpaired}
@@ -163,6 +165,12 @@ module _ (cards : List SpecCard) where
       by-each at_start cards (misplaced_from 0 (steps_in (tree cards)))
       (starts-are cards ∙ starts-steps (tree cards).calculations (all_join (cards_on calculation_on cards)))
 
+  -- F9
+  pub filling-broken : AreBroken bad_calculation_columns cards (badly_filled_cards (tree cards))
+  filling-broken =
+      by-each bad_calculation_columns cards (badly_filled_cards (tree cards))
+      (filled-are cards)
+
   -- F15
   pub rounding-broken : AreBroken bad_rounding cards (wrongly_rounding_cards (tree cards))
   rounding-broken =
@@ -224,13 +232,13 @@ module _ (cards : List SpecCard) where
   inputs_broken =
       broken-either input_cut input_field cards _ _
       (by-each input_cut cards (cut_off_in is_and takes_codes (tree cards).types) (strays.cut-are input_on input_card_role is_type is_and takes_codes is_input_field input_sheet cards))
-      (by-each input_field cards (passing_numbers is_input_field (tree cards).types.strays) (strays.fields-are input_on input_card_role is_type is_and takes_codes is_input_field input_sheet cards))
+      (by-each input_field cards (passing_cards is_input_field (tree cards).types.strays) (strays.fields-are input_on input_card_role is_type is_and takes_codes is_input_field input_sheet cards))
 
   outputs_broken : AreBroken (either output_cut output_field) cards (strays_on_output (tree cards).lines)
   outputs_broken =
       broken-either output_cut output_field cards _ _
       (by-each output_cut cards (cut_off_in is_and_or takes_conditions (tree cards).lines) (strays.cut-are output_on output_card_role is_output_line is_and_or takes_conditions is_output_field output_sheet cards))
-      (by-each output_field cards (passing_numbers is_output_field (tree cards).lines.strays) (strays.fields-are output_on output_card_role is_output_line is_and_or takes_conditions is_output_field output_sheet cards))
+      (by-each output_field cards (passing_cards is_output_field (tree cards).lines.strays) (strays.fields-are output_on output_card_role is_output_line is_and_or takes_conditions is_output_field output_sheet cards))
 
   abbrev parts : Rule
   parts = either (either at_start (at_end unpaired)) (either (either input_cut input_field) (either output_cut output_field))

@@ -5,12 +5,12 @@ pub mod Calling
 pub mod Counting
 pub mod Each
 pub mod Ends
+pub mod Filling
 pub mod Gathered
 pub mod Here
 pub mod Indexing
 pub mod LookedUp
 pub mod Marking
-pub mod Ordered
 pub mod Rounds
 pub mod Stepping
 pub mod Straying

@@ -24,8 +24,8 @@ use Rattle.rpg_deck.specs.Steps.{CalculationCards, SubroutineState, Step, group_
 use Rattle.rpg_deck.specs.Tree.{begins_calculation}
 use Rattle.rpg_deck.specs.declared.card.Card.{Card}
 use Rattle.rpg_faults_tree.proofs.Begins.{specs_of, starts_from}
-use Rattle.rpg_faults_tree.proofs.Ends.{Test, ends_from, last_number}
-use Rattle.rpg_faults_tree.specs.Numbers.{at_operations, one_if}
+use Rattle.rpg_faults_tree.proofs.Ends.{Test, ends_from, last_position}
+use Rattle.rpg_faults_tree.specs.Positions.{at_operations, one_if}
 use Rattle.rpg_faults_tree.specs.Order.{next_is_endsr, is_misplaced, in_no_section, is_unpaired, misplaced_from}
 use Rattle.rpg_faults_tree.specs.Rules.{calls_back, step_lacks_target, step_leaves_section}
 use Rattle.rpg_faults_flow.specs.Flow as flow
@@ -48,9 +48,9 @@ IsTestOf test of = (p : SubroutineState) (done : List (Calculation Key)) (g : Ca
 ends_of : (test : Test) (of : Step → List Step → Bool) → IsTestOf test of → (gs : List CalculationCards) (p : SubroutineState) (done : List (Calculation Key)) → Matches p done → ends_from test done gs ≡ at_operations of (steps_from p gs)
 ends_of test of same [] p done m = refl
 ends_of test of same (g ∷ gs) p done m =
-    ap (λ n. one_if (test done (calculation_in g) (map calculation_in gs)) n ++ ends_from test (done ++ calculation_in g ∷ []) gs) (sym (last_number g))
-    ∙ ap (λ b. one_if b (steps.operation_card g).number ++ ends_from test (done ++ calculation_in g ∷ []) gs) (same p done g gs m)
-    ∙ ap (λ ns. one_if (of (step p g) (steps_from (subroutine_state_after p g) gs)) (steps.operation_card g).number ++ ns) (ends_of test of same gs (subroutine_state_after p g) (done ++ calculation_in g ∷ []) (matches_next p done g m))
+    ap (λ n. one_if (test done (calculation_in g) (map calculation_in gs)) n ++ ends_from test (done ++ calculation_in g ∷ []) gs) (sym (last_position g))
+    ∙ ap (λ b. one_if b (steps.operation_card g).position ++ ends_from test (done ++ calculation_in g ∷ []) gs) (same p done g gs m)
+    ∙ ap (λ ns. one_if (of (step p g) (steps_from (subroutine_state_after p g) gs)) (steps.operation_card g).position ++ ns) (ends_of test of same gs (subroutine_state_after p g) (done ++ calculation_in g ∷ []) (matches_next p done g m))
 
 pub ends-steps : (test : Test) (of : Step → List Step → Bool) → IsTestOf test of → (gs : List CalculationCards) → ends_from test [] gs ≡ at_operations of (steps.steps gs)
 ends-steps test of same gs = ends_of test of same gs steps.before_calculations [] (record { begun = refl; own = refl })
@@ -217,10 +217,10 @@ highest_next ks highest g joined is r =
 starts_of : (gs : List CalculationCards) (p : SubroutineState) (done : List (Calculation Key)) (ks : List CalculationSpec) (highest : ℕ) → AreJoined gs → Matches p done → IsHighest ks highest → starts_from done ks gs ≡ misplaced_from highest (steps_from p gs)
 starts_of [] p done ks highest joined m is = refl
 starts_of (g ∷ gs) p done ks highest joined m is =
-    ap (λ b. one_if (joins l || (b || is_outside_subroutine done (flat_group g))) g.first.number ++ later) (is (section_rank l))
-    ∙ ap (λ d. one_if (joins l || (nat_lt (section_rank l) highest || (is_subroutine l && (not (is_bracket d) && not (is_inside_subroutine done))))) g.first.number ++ later) (same_statement g)
-    ∙ ap (λ b. one_if (joins l || (nat_lt (section_rank l) highest || b)) g.first.number ++ later) (loose_outside p done m l (group_statement g))
-    ∙ ap (λ ns. one_if (is_misplaced highest (step p g)) g.first.number ++ ns)
+    ap (λ b. one_if (joins l || (b || is_outside_subroutine done (flat_group g))) g.first.position ++ later) (is (section_rank l))
+    ∙ ap (λ d. one_if (joins l || (nat_lt (section_rank l) highest || (is_subroutine l && (not (is_bracket d) && not (is_inside_subroutine done))))) g.first.position ++ later) (same_statement g)
+    ∙ ap (λ b. one_if (joins l || (nat_lt (section_rank l) highest || b)) g.first.position ++ later) (loose_outside p done m l (group_statement g))
+    ∙ ap (λ ns. one_if (is_misplaced highest (step p g)) g.first.position ++ ns)
     (starts_of gs (subroutine_state_after p g) (done ++ calculation_in g ∷ []) (ks ++ specs_of (group_cards g)) (max highest (section_rank l)) joined.1 (matches_next p done g m) (highest_next ks highest g joined.0 is))
   where
     l : ControlLevel

@@ -1,9 +1,10 @@
 pub mod Breaks
+pub mod Columns
 pub mod Counted
 pub mod Index
 pub mod Marked
-pub mod Numbers
 pub mod Order
+pub mod Positions
 pub mod Props
 pub mod Rounding
 pub mod Rules

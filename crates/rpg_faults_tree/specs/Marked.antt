@@ -1,7 +1,6 @@
 -- What the rules of a tree find, as sets of cards.
-use Rattle.std.specs.Prelude.{◌≡◌, ◌≤◌, ℕ, List, ◌∷◌, ◌++◌, Bool, false, ◌||◌, get_or, length, nat_eq}
+use Rattle.std.specs.Prelude.{◌≡◌, ◌<◌, ℕ, List, ◌∷◌, ◌++◌, Bool, false, ◌||◌, get_or, length, nat_eq}
 use Rattle.std.specs.List.{list_any}
-use Rattle.rpg_cards.specs.Cards.{Numbered}
 use Rattle.rpg_cards.specs.declared.spec_card.SpecCard.{SpecCard}
 use Rattle.rpg_deck.specs.Steps.{steps_in}
 use Rattle.rpg_deck.specs.Tree.{Tree, tree}
@@ -10,36 +9,31 @@ use Rattle.rpg_faults_flow.specs.Kept.{Rule}
 use Rattle.rpg_faults_flow.specs.Order as flow
 use Rattle.rpg_faults_flow.specs.Strays.{is_stray}
 use Rattle.rpg_faults_tree.specs.Index.{AreLabelsOf}
-use Rattle.rpg_faults_tree.specs.Rules.{leaving_cards, lost_cards, misplaced_cards, recursive_cards, wrongly_rounding_cards}
+use Rattle.rpg_faults_tree.specs.Rules.{badly_filled_cards, leaving_cards, lost_cards, misplaced_cards, recursive_cards, wrongly_rounding_cards}
 use Rattle.rpg_faults_tree.specs.declared.card_set.CardSet.{CardSet}
 use Rattle.rpg_faults_tree.specs.declared.found.FlowFaults.{FlowFaults}
 
--- the set has just these numbers
-abbrev pub AreMarked : CardSet → List ℕ → Type 0
-AreMarked set numbers = (n : ℕ) → get_or set.marks.items n false ≡ list_any (nat_eq n) numbers
+-- of so many cards, the set has just those at these positions
+abbrev pub AreMarked : ℕ → CardSet → List ℕ → Type 0
+AreMarked count set positions = (n : ℕ) → n < count → get_or set.marks.items n false ≡ list_any (nat_eq n) positions
 
 -- for each rule, exactly the cards of a tree that break it are found
-pub record IsFoundInTree (t : Tree) (f : FlowFaults) : Type 0 where
+pub record IsFoundInTree (count : ℕ) (t : Tree) (f : FlowFaults) : Type 0 where
   pub labels : AreLabelsOf (steps_in t) f.labels
-  pub lost : AreMarked f.lost (lost_cards t)
-  pub misplaced : AreMarked f.misplaced (misplaced_cards t)
-  pub leaving : AreMarked f.leaving (leaving_cards t)
-  pub recursive : AreMarked f.recursive (recursive_cards t)
-  pub wrongly_rounding : AreMarked f.wrongly_rounding (wrongly_rounding_cards t)
+  pub badly_filled : AreMarked count f.badly_filled (badly_filled_cards t)
+  pub lost : AreMarked count f.lost (lost_cards t)
+  pub misplaced : AreMarked count f.misplaced (misplaced_cards t)
+  pub leaving : AreMarked count f.leaving (leaving_cards t)
+  pub recursive : AreMarked count f.recursive (recursive_cards t)
+  pub wrongly_rounding : AreMarked count f.wrongly_rounding (wrongly_rounding_cards t)
 
--- their numbers ascend, and there are at most 2,000, as in a source
-pub record AreNumbered (cards : List SpecCard) : Type 0 where
-  pub numbered : Numbered 1 cards
-  pub few : length cards ≤ 2000
+-- for each rule, exactly the cards of a source that break it are found
+abbrev pub IsFoundIn : List SpecCard → FlowFaults → Type 0
+IsFoundIn cards f = IsFoundInTree (length cards) (tree cards) f
 
--- the cards of a source are numbered, and for each rule exactly those that break it are found
-pub record IsFoundIn (cards : List SpecCard) (f : FlowFaults) : Type 0 where
-  pub numbered : Numbered 1 cards
-  pub found : IsFoundInTree (tree cards) f
-
--- the answer is whether a card of a source breaks the rule, seen with the cards before and after it
-abbrev pub DetectsBreach : Rule → List SpecCard → SpecCard → Bool → Type 0
-DetectsBreach r cards c answer = (before after : List SpecCard) → cards ≡ before ++ c ∷ after → answer ≡ r before c after
+-- the answer is whether the card at a position of a source breaks the rule, seen with the cards before and after it
+abbrev pub DetectsBreach : Rule → List SpecCard → ℕ → Bool → Type 0
+DetectsBreach r cards position answer = (before after : List SpecCard) (c : SpecCard) → cards ≡ before ++ c ∷ after → position ≡ length before → answer ≡ r before c after
 
 -- F12 of C cards, and of I and O cards
 abbrev pub breaks_any_order : Rule

@@ -9,7 +9,7 @@ use Rattle.rpg_cards.specs.declared.labels.Section.TheVariants.{Detail, Outside,
 use Rattle.rpg_deck.specs.Cut.{GroupOfCards, Sheet}
 use Rattle.rpg_deck.specs.Steps.{Step, opens_subroutine, control_of, closes_subroutine, group_statement}
 use Rattle.rpg_deck.specs.declared.card.Card.{Card}
-use Rattle.rpg_faults_tree.specs.Numbers.{at_operations, one_if}
+use Rattle.rpg_faults_tree.specs.Positions.{at_operations, one_if}
 use Rattle.rpg_faults_flow.specs.Order.{is_bracket, section_rank}
 use Rattle.rpg_faults_flow.specs.Strays.{takes_codes, takes_conditions}
 use Rattle.rpg_sheet_specs.specs.declared.input.InputSpec.{InputSpec}
@@ -45,7 +45,7 @@ is_misplaced highest s = joins (control_of s.group) || (nat_lt (step_rank s) hig
 -- the first cards of misplaced steps, if the last of the sections above has this place
 abbrev pub misplaced_from : ℕ → List Step → List ℕ
 misplaced_from highest [] = []
-misplaced_from highest (s ∷ ss) = one_if (is_misplaced highest s) s.group.first.number ++ misplaced_from (max highest (step_rank s)) ss
+misplaced_from highest (s ∷ ss) = one_if (is_misplaced highest s) s.group.first.position ++ misplaced_from (max highest (step_rank s)) ss
 
 -- of the BEGSR and ENDSR of SR cards the next is an ENDSR
 abbrev pub next_is_endsr : List Step → Bool
@@ -64,7 +64,7 @@ module _ {X : Type 0} (continues takes : X → Bool) where
   -- the cards that have to continue the card right before them, if that isn't of the sheet, or can't be continued
   abbrev pub cut_off : Bool → List (Card X) → List ℕ
   cut_off taken [] = []
-  cut_off taken (c ∷ cs) = one_if (continues c.spec && not (c.adjoins && taken)) c.number ++ cut_off (takes c.spec) cs
+  cut_off taken (c ∷ cs) = one_if (continues c.spec && not (c.adjoins && taken)) c.position ++ cut_off (takes c.spec) cs
 
   -- those among the followers of groups: the card that a group begins with takes them
   abbrev pub cut_off_followers : List (GroupOfCards (Card X)) → List ℕ
@@ -75,12 +75,12 @@ module _ {X : Type 0} (continues takes : X → Bool) where
   cut_off_in s = cut_off false s.strays ++ cut_off_followers s.groups
 
 -- the cards that pass a test
-abbrev pub passing_numbers : {X : Type 0} → (X → Bool) → List (Card X) → List ℕ
-passing_numbers test cs = flat_map (λ c. one_if (test c.spec) c.number) cs
+abbrev pub passing_cards : {X : Type 0} → (X → Bool) → List (Card X) → List ℕ
+passing_cards test cs = flat_map (λ c. one_if (test c.spec) c.position) cs
 
 -- those of a sheet that need one before them
 abbrev pub strays_in : {X : Type 0} → (X → Bool) → (X → Bool) → (X → Bool) → Sheet (Card X) → List ℕ
-strays_in continues takes is_field s = cut_off_in continues takes s ++ passing_numbers is_field s.strays
+strays_in continues takes is_field s = cut_off_in continues takes s ++ passing_cards is_field s.strays
 
 -- an AND card of a record type
 abbrev pub is_and : InputSpec → Bool

@@ -3,7 +3,7 @@ use Rattle.std.specs.Prelude.{ℕ, List, [], ◌∷◌, ◌++◌, Bool, not, ◌
 use Rattle.rpg_cards.specs.Groups.{joins}
 use Rattle.rpg_deck.specs.Steps.{CalculationCards, operation_card}
 use Rattle.rpg_deck.specs.declared.card.Card.{Card}
-use Rattle.rpg_faults_tree.specs.Numbers.{one_if}
+use Rattle.rpg_faults_tree.specs.Positions.{one_if}
 use Rattle.rpg_faults_flow.specs.Rounding.{is_remainder, leaves_remainder, may_half_adjust, operation_passes}
 use Rattle.rpg_sheet_specs.specs.declared.calculation.CalculationSpec.{CalculationSpec}
 
@@ -21,8 +21,8 @@ breaks_rounding_rule is_after_division k = half_adjusts_nothing k || lacks_divis
 
 -- a card of a group with those after it: any H before the card with the operation is wrong
 abbrev pub wrong_in : Bool → Card CalculationSpec → List (Card CalculationSpec) → List ℕ
-wrong_in is_after_division c [] = one_if (breaks_rounding_rule is_after_division c.spec) c.number
-wrong_in is_after_division c (d ∷ ds) = one_if c.spec.half_adjust c.number ++ wrong_in is_after_division d ds
+wrong_in is_after_division c [] = one_if (breaks_rounding_rule is_after_division c.spec) c.position
+wrong_in is_after_division c (d ∷ ds) = one_if c.spec.half_adjust c.position ++ wrong_in is_after_division d ds
 
 -- those of a group
 abbrev pub wrong_in_group : Bool → CalculationCards → List ℕ

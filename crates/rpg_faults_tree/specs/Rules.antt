@@ -1,4 +1,4 @@
--- F10, F12, F13, F14 and F15 as rules of a tree: for each the numbers of the cards that break it.
+-- F9 of C cards, F10, F12, F13, F14 and F15 as rules of a tree: for each the positions of the cards that break it.
 use Rattle.std.specs.Prelude.{◌↔◌, ℕ, List, Contains, Bool, false, not}
 use Rattle.std.specs.Option.{option_map_or}
 use Rattle.rpg_cards.specs.Labels.{label_named, target_name}
@@ -8,16 +8,21 @@ use Rattle.rpg_cards.specs.declared.labels.Section.{Section}
 use Rattle.rpg_cards.specs.declared.spec_card.SpecCard.{SpecCard}
 use Rattle.rpg_deck.specs.Steps.{Step, call_of, calls_of_steps, statement, labels_of_steps, steps_in}
 use Rattle.rpg_deck.specs.Tree.{Tree, tree}
-use Rattle.rpg_faults_tree.specs.Numbers.{at_operations}
+use Rattle.rpg_faults_tree.specs.Columns.{badly_filled}
+use Rattle.rpg_faults_tree.specs.Positions.{at_operations}
 use Rattle.rpg_faults_tree.specs.Order.{out_of_order}
 use Rattle.rpg_faults_tree.specs.Rounding.{wrong_from}
-use Rattle.rpg_faults_tree.specs.Breaks.{BreaksRule}
+use Rattle.rpg_faults_tree.specs.Breaks.{BreaksAt}
 use Rattle.rpg_faults_flow.specs.Flow.{comes_back, is_given_as, leaves_by}
 use Rattle.rpg_faults_flow.specs.Kept.{Rule}
 
--- of any cards, the list of their tree has just the numbers of those that break the rule
+-- of any cards, the list of their tree has just the positions of those that break the rule
 abbrev pub Finds : (Tree → List ℕ) → Rule → Type 0
-Finds list r = (cards : List SpecCard) (number : ℕ) → Contains (list (tree cards)) number ↔ BreaksRule r cards number
+Finds list r = (cards : List SpecCard) (position : ℕ) → Contains (list (tree cards)) position ↔ BreaksAt r cards position
+
+-- F9: the C cards with columns that are missing, or filled where nothing is allowed
+abbrev pub badly_filled_cards : Tree → List ℕ
+badly_filled_cards t = badly_filled t.calculations
 
 -- a GOTO to a label, or an EXSR of a subroutine, that isn't defined
 abbrev pub step_lacks_target : List Label → Step → Bool

@@ -1,53 +1,52 @@
 //! A set of cards.
 
-ghost use Rattle.std.specs.Prelude.{◌≡◌, ℕ, ◌<◌, ◌≤◌, ◌||◌, length, get_or, nat_eq, false, IfOk};
+ghost use Rattle.std.specs.Prelude.{◌≡◌, ℕ, ◌<◌, ◌||◌, length, get_or, nat_eq, false, IfOk};
 ghost use Rattle.std.specs.List.{list_any};
 ghost use Rattle.rpg_faults_tree.specs.Marked.{AreMarked};
 
 use std::alloc::{AllocError, Global};
 
-/// A set of cards: for each card number, whether it is in the set.
+/// A set of cards: for each position, whether the card is in the set.
 #[derive(Drop)]
 pub struct CardSet {
     pub(crate) marks: Vec<bool>,
 }
 
 impl CardSet {
-    pub fn of(alloc: Global, numbers: &[u16]) -> Result<Self, AllocError>
-        ensures { IfOk result (λ set. AreMarked set numbers.now) }
+    /// Returns the cards at these positions, of so many cards.
+    pub fn of(alloc: Global, positions: &[usize], count: usize) -> Result<Self, AllocError>
+        ensures { IfOk result (λ set. AreMarked count set positions.now) }
     {
-        let mut marks = vec![in alloc; false; room_for(numbers)]?;
-        mark(marks.as_mut_slice(), numbers);
+        let mut marks = vec![in alloc; false; count]?;
+        mark(marks.as_mut_slice(), positions);
         Ok(CardSet { marks })
     }
 
-    pub fn has(&self, number: u16) -> bool
-        ensures { result ≡ get_or self.now.marks.items number false }
+    pub fn has(&self, position: usize) -> bool
+        ensures { result ≡ get_or self.now.marks.items position false }
     {
-        match self.marks.get(usize::from(number)) {
+        match self.marks.get(position) {
             None => false,
             Some(mark) => *mark,
         }
     }
 }
 
-/// Returns a length that makes these numbers valid indexes.
-fn room_for(numbers: &[u16]) -> usize
-    ensures below { (k : ℕ) → k < length numbers.now → get_or numbers.now k 0 < result }
-    ensures most { result ≤ 65536 }
+fn mark(marks: &mut [bool], positions: &[usize])
+    ensures same { length marks.new ≡ length marks.old }
+    ensures marked { (n : ℕ) → n < length marks.old → get_or marks.new n false ≡ (get_or marks.old n false || list_any (nat_eq n) positions.now) }
 {
-    let mut room = 0;
-    for number in numbers {
-        room = room.max(usize::from(*number) + 1);
+    for position in positions {
+        mark_one(marks, *position);
     }
-    room
 }
 
-fn mark(marks: &mut [bool], numbers: &[u16])
-    requires { (k : ℕ) → k < length numbers.now → get_or numbers.now k 0 < length marks.old }
-    ensures { (n : ℕ) → get_or marks.new n false ≡ (get_or marks.old n false || list_any (nat_eq n) numbers.now) }
+/// Marks a position, if it is that of a card.
+fn mark_one(marks: &mut [bool], position: usize)
+    ensures same { length marks.new ≡ length marks.old }
+    ensures marked { (n : ℕ) → n < length marks.old → get_or marks.new n false ≡ (get_or marks.old n false || nat_eq n position) }
 {
-    for number in numbers {
-        marks[usize::from(*number)] = true;
+    if position < marks.len() {
+        marks[position] = true;
     }
 }

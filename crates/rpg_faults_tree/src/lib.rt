@@ -3,14 +3,14 @@
 
 mod analyzed;
 mod card_set;
+mod columns;
 mod counts;
 mod cycles;
 mod found;
 mod labels;
 mod names;
-mod numbered;
-mod numbers;
 mod order;
+mod positions;
 mod rounding;
 mod strays;
 mod targets;

@@ -3,10 +3,10 @@
 ghost use Rattle.std.specs.Prelude.{◌≡◌, ◌++◌, map, IfOk, OnOk};
 ghost use Rattle.rpg_deck.specs.Seen.{sheet_in, step_in};
 ghost use Rattle.rpg_deck.specs.Steps as steps_of;
-ghost use Rattle.rpg_faults_tree.specs.Numbers.{at_operations};
+ghost use Rattle.rpg_faults_tree.specs.Positions.{at_operations};
 ghost use Rattle.rpg_faults_tree.specs.Order as order;
 
-use crate::numbers::add;
+use crate::positions::add;
 use crate::strays::push_strays;
 use rpg_cards::{Section, begins_subroutine, ends_subroutine, is_subroutine, joins};
 use rpg_deck::{Sheet, Step, last_card};
@@ -19,7 +19,7 @@ pub(crate) fn misplaced_cards(
     steps: &[Step],
     types: &Sheet<InputSpec>,
     lines: &Sheet<OutputSpec>,
-) -> Result<Vec<u16>, AllocError>
+) -> Result<Vec<usize>, AllocError>
     ensures { IfOk result (λ found. found.items ≡ order.out_of_order (map step_in steps.now) (sheet_in types.now) (sheet_in lines.now)) }
 {
     let mut found = Vec::new(alloc);
@@ -31,25 +31,25 @@ pub(crate) fn misplaced_cards(
 }
 
 /// Appends the first cards of misplaced calculations.
-fn push_misplaced(found: &mut Vec<u16>, steps: &[Step]) -> Result<(), AllocError>
+fn push_misplaced(found: &mut Vec<usize>, steps: &[Step]) -> Result<(), AllocError>
     ensures { OnOk result (found.new.items ≡ found.old.items ++ order.misplaced_from 0 (map step_in steps.now)) }
 {
     let mut highest = 0;
     for step in steps {
         let first = step.group.first;
-        add(found, is_misplaced(highest, step), first.number)?;
+        add(found, is_misplaced(highest, step), first.position)?;
         highest = highest.max(rank(step));
     }
     Ok(())
 }
 
 /// Appends the cards with an unpaired BEGSR or ENDSR.
-fn push_unpaired(found: &mut Vec<u16>, steps: &[Step]) -> Result<(), AllocError>
+fn push_unpaired(found: &mut Vec<usize>, steps: &[Step]) -> Result<(), AllocError>
     ensures { OnOk result (found.new.items ≡ found.old.items ++ at_operations order.is_unpaired (map step_in steps.now)) }
 {
     for (i, step) in steps.iter().enumerate() {
         let last = last_card(step.group);
-        add(found, is_unpaired(step, &steps[i + 1..]), last.number)?;
+        add(found, is_unpaired(step, &steps[i + 1..]), last.position)?;
     }
     Ok(())
 }

@@ -5,7 +5,7 @@ ghost use Rattle.rpg_deck.specs.Seen.{group_in};
 ghost use Rattle.rpg_faults_flow.specs.Rounding as flow;
 ghost use Rattle.rpg_faults_tree.specs.Rounding as rounding;
 
-use crate::numbers::add;
+use crate::positions::add;
 use rpg_cards::{columns, joins};
 use rpg_deck::{Group, last_card};
 use rpg_sheet_specs::{CalculationSpec, Operation};
@@ -15,7 +15,7 @@ use std::alloc::{AllocError, Global};
 pub(crate) fn wrongly_rounding_cards(
     alloc: Global,
     groups: &[Group<CalculationSpec>],
-) -> Result<Vec<u16>, AllocError>
+) -> Result<Vec<usize>, AllocError>
     ensures { IfOk result (λ found. found.items ≡ rounding.wrong_from false (map group_in groups.now)) }
 {
     let mut found = Vec::new(alloc);
@@ -30,7 +30,7 @@ pub(crate) fn wrongly_rounding_cards(
 
 /// Appends those of a group.
 fn push_wrong(
-    found: &mut Vec<u16>,
+    found: &mut Vec<usize>,
     is_after_division: bool,
     group: &Group<CalculationSpec>,
 ) -> Result<(), AllocError>
@@ -38,13 +38,13 @@ fn push_wrong(
 {
     let mut card = group.first;
     for next in group.followers {
-        add(found, card.spec.half_adjust, card.number)?;
+        add(found, card.spec.half_adjust, card.position)?;
         card = next;
     }
     add(
         found,
         rounds_wrongly(is_after_division, card.spec),
-        card.number,
+        card.position,
     )
 }
 

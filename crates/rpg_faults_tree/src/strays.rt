@@ -6,7 +6,7 @@ ghost use Rattle.rpg_deck.specs.Seen.{card_in_memory, sheet_in};
 ghost use Rattle.rpg_faults_flow.specs.Strays as rules;
 ghost use Rattle.rpg_faults_tree.specs.Order as order;
 
-use crate::numbers::add;
+use crate::positions::add;
 use rpg_deck::{Card, Sheet};
 use rpg_sheet_specs::{InputSpec, OutputSpec};
 use std::alloc::AllocError;
@@ -78,7 +78,7 @@ impl Joined for OutputSpec {
 
 /// Appends the cards of a sheet that lack the card before them.
 pub(crate) fn push_strays<X: Joined>(
-    found: &mut Vec<u16>,
+    found: &mut Vec<usize>,
     sheet: &Sheet<X>,
 ) -> Result<(), AllocError>
     ensures { OnOk result (found.new.items ≡ found.old.items ++ order.strays_in X.joins X.takes X.is_field (sheet_in sheet.now)) }
@@ -90,7 +90,7 @@ pub(crate) fn push_strays<X: Joined>(
 
 /// Appends the cards that continue one that can't be continued. `is_first_taken` says whether the first card may do so.
 fn push_cut_off<X: Joined>(
-    found: &mut Vec<u16>,
+    found: &mut Vec<usize>,
     is_first_taken: bool,
     cards: &[Card<&X>],
 ) -> Result<(), AllocError>
@@ -99,7 +99,7 @@ fn push_cut_off<X: Joined>(
     let mut is_taken = is_first_taken;
     for card in cards {
         let is_continued = card.adjoins && is_taken;
-        add(found, card.spec.joins() && !is_continued, card.number)?;
+        add(found, card.spec.joins() && !is_continued, card.position)?;
         is_taken = card.spec.takes();
     }
     Ok(())
@@ -107,7 +107,7 @@ fn push_cut_off<X: Joined>(
 
 /// Appends those among the followers of the groups.
 fn push_cut_off_followers<X: Joined>(
-    found: &mut Vec<u16>,
+    found: &mut Vec<usize>,
     sheet: &Sheet<X>,
 ) -> Result<(), AllocError>
     ensures { OnOk result (found.new.items ≡ found.old.items ++ order.cut_off_followers X.joins X.takes (sheet_in sheet.now).groups) }
@@ -119,11 +119,11 @@ fn push_cut_off_followers<X: Joined>(
 }
 
 /// Appends fields.
-fn push_fields<X: Joined>(found: &mut Vec<u16>, cards: &[Card<&X>]) -> Result<(), AllocError>
-    ensures { OnOk result (found.new.items ≡ found.old.items ++ order.passing_numbers X.is_field (map card_in_memory cards.now)) }
+fn push_fields<X: Joined>(found: &mut Vec<usize>, cards: &[Card<&X>]) -> Result<(), AllocError>
+    ensures { OnOk result (found.new.items ≡ found.old.items ++ order.passing_cards X.is_field (map card_in_memory cards.now)) }
 {
     for card in cards {
-        add(found, card.spec.is_field(), card.number)?;
+        add(found, card.spec.is_field(), card.position)?;
     }
     Ok(())
 }

@@ -8,7 +8,7 @@ ghost use Rattle.rpg_faults_tree.specs.Index.{AreLabelsOf};
 ghost use Rattle.rpg_faults_tree.specs.Rules as rules;
 
 use crate::labels::Labels;
-use crate::numbers::add;
+use crate::positions::add;
 use rpg_cards::{Named, Section, target_name};
 use rpg_deck::{Step, last_card};
 use std::alloc::{AllocError, Global};
@@ -18,14 +18,14 @@ pub(crate) fn lost_cards(
     alloc: Global,
     labels: &Labels,
     steps: &[Step],
-) -> Result<Vec<u16>, AllocError>
+) -> Result<Vec<usize>, AllocError>
     requires { AreLabelsOf (map step_in steps.now) labels.now }
     ensures { IfOk result (λ found. found.items ≡ rules.lost_among (map step_in steps.now)) }
 {
     let mut found = Vec::new(alloc);
     for step in steps {
         let last = last_card(step.group);
-        add(&mut found, lacks_target(labels, step), last.number)?;
+        add(&mut found, lacks_target(labels, step), last.position)?;
     }
     Ok(found)
 }
@@ -35,14 +35,14 @@ pub(crate) fn leaving_cards(
     alloc: Global,
     labels: &Labels,
     steps: &[Step],
-) -> Result<Vec<u16>, AllocError>
+) -> Result<Vec<usize>, AllocError>
     requires { AreLabelsOf (map step_in steps.now) labels.now }
     ensures { IfOk result (λ found. found.items ≡ rules.leaving_among (map step_in steps.now)) }
 {
     let mut found = Vec::new(alloc);
     for step in steps {
         let last = last_card(step.group);
-        add(&mut found, leaves_section(labels, step), last.number)?;
+        add(&mut found, leaves_section(labels, step), last.position)?;
     }
     Ok(found)
 }
@@ -52,14 +52,14 @@ pub(crate) fn recursive_cards(
     alloc: Global,
     labels: &Labels,
     steps: &[Step],
-) -> Result<Vec<u16>, AllocError>
+) -> Result<Vec<usize>, AllocError>
     requires { AreLabelsOf (map step_in steps.now) labels.now }
     ensures { IfOk result (λ found. found.items ≡ rules.recursive_among (map step_in steps.now)) }
 {
     let mut found = Vec::new(alloc);
     for step in steps {
         let last = last_card(step.group);
-        add(&mut found, labels.calls_back(step), last.number)?;
+        add(&mut found, labels.calls_back(step), last.position)?;
     }
     Ok(found)
 }

@@ -9,4 +9,4 @@ pub returns : goal.returns
 returns c = λ before after card split counts.
     let cards = c.args.source.now.cards.now in
     let exact = c.args.source.now.exact in
-    c.is_given.ensures (steps_in (tree cards)) (labels (front before card after)) (labels_after_front before card after) exact.found.labels (labels_of_steps cards before card after split) counts.labels
+    c.is_given.ensures (steps_in (tree cards)) (labels (front before card after)) (labels_after_front before card after) exact.labels (labels_of_steps cards before card after split) counts.labels

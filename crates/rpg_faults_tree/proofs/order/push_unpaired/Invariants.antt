@@ -1,6 +1,6 @@
 use Rattle.std.proofs.Common.{◌≡◌, ◌++◌, drop, map}
 use Rattle.rpg_deck.specs.Seen.{step_in}
-use Rattle.rpg_faults_tree.specs.Numbers.{at_operations}
+use Rattle.rpg_faults_tree.specs.Positions.{at_operations}
 use Rattle.rpg_faults_tree.specs.Order.{is_unpaired}
 use Rattle.rpg_faults_tree.proofs.order.push_unpaired.Given as goal
 

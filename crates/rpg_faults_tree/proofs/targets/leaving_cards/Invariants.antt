@@ -1,7 +1,7 @@
 use Rattle.std.proofs.Common.{◌≡◌, ◌++◌, drop, map}
 use Rattle.rpg_deck.specs.Seen.{step_in}
 use Rattle.rpg_deck.specs.Steps.{labels_of_steps}
-use Rattle.rpg_faults_tree.specs.Numbers.{at_operations}
+use Rattle.rpg_faults_tree.specs.Positions.{at_operations}
 use Rattle.rpg_faults_tree.specs.Rules.{leaving_among, step_leaves_section}
 use Rattle.rpg_faults_tree.proofs.targets.leaving_cards.Given as goal
 

@@ -1,7 +1,7 @@
 use Rattle.std.proofs.Common.{◌≡◌, ◌++◌, drop, map}
 use Rattle.rpg_deck.specs.Seen.{step_in}
 use Rattle.rpg_deck.specs.Steps.{calls_of_steps, labels_of_steps}
-use Rattle.rpg_faults_tree.specs.Numbers.{at_operations}
+use Rattle.rpg_faults_tree.specs.Positions.{at_operations}
 use Rattle.rpg_faults_tree.specs.Rules.{calls_back, recursive_among}
 use Rattle.rpg_faults_tree.proofs.targets.recursive_cards.Given as goal
 

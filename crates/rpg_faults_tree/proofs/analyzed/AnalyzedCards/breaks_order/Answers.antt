@@ -7,7 +7,7 @@ use Rattle.rpg_faults_tree.specs.Rules.{misplaced_cards}
 use Rattle.rpg_faults_tree.proofs.analyzed.AnalyzedCards.breaks_order.Goals as goal
 
 pub returns : goal.returns
-returns c = λ before after split.
+returns c = λ before after card split at.
     let source = c.args.self.now in
     let cards = source.cards.now in
-    c.has.ensures ∙ reported breaks_any_order cards before c.args.card.now after source.found.misplaced (misplaced_cards (tree cards)) source.exact.numbered (order-broken cards) source.exact.found.misplaced split
+    c.has.ensures ∙ reported breaks_any_order cards before card after source.found.misplaced (misplaced_cards (tree cards)) c.args.position (order-broken cards) source.exact.misplaced split at

@@ -7,7 +7,7 @@ use Rattle.rpg_faults_tree.specs.Rules.{lost_cards}
 use Rattle.rpg_faults_tree.proofs.analyzed.AnalyzedCards.lacks_target.Goals as goal
 
 pub returns : goal.returns
-returns c = λ before after split.
+returns c = λ before after card split at.
     let source = c.args.self.now in
     let cards = source.cards.now in
-    c.has.ensures ∙ reported lacks_target_in_source cards before c.args.card.now after source.found.lost (lost_cards (tree cards)) source.exact.numbered (nowhere-broken cards) source.exact.found.lost split
+    c.has.ensures ∙ reported lacks_target_in_source cards before card after source.found.lost (lost_cards (tree cards)) c.args.position (nowhere-broken cards) source.exact.lost split at

@@ -9,4 +9,4 @@ pub found_in-requires : goal.found_in-requires
 found_in-requires c =
     let cards = c.args.cards.now in
     let is : tree_in c.in_ok-tree.tree ≡ tree cards = c.in_ok-tree.ensures cards c.in_ok-deck.ensures in
-    omega (arith, few_calculations cards, ap (λ (t : Tree). length t.calculations) is, length-map c.in_ok-tree.tree.calculations.items group_in, c.requires.few)
+    omega (arith, few_calculations cards, ap (λ (t : Tree). length t.calculations) is, length-map c.in_ok-tree.tree.calculations.items group_in, c.requires)
