@@ -11,7 +11,6 @@ use Rattle.rpg_faults.specs.State.{IsPlaces}
 pub record AreCardsSeen (cards rest : List SpecCard) (s : Seen) : Type 0 where
   pub split : cards ≡ s.before.now ++ rest
   pub few : length cards ≤ 2000
-  pub remaining : s.remaining ≡ rest
   pub sheets : AreSheets cards s.before.now s.sheets
   pub limits : AreLimits s.before.now rest s.limits
   pub counts : AreCounts s.before.now rest s.counts

@@ -51,7 +51,7 @@ pub(crate) fn breaks(
         }
         FaultCode::F8 => rpg_faults_operands::bad_indicator(cards, card),
         FaultCode::F9 => {
-            rpg_faults_flow::bad_columns(before, &seen.remaining)
+            source.has_bad_columns(position)
                 || rpg_faults_operands::bad_columns(cards, card, after)
                 || rpg_faults_limits::moves_disk(cards, &seen.sheets, before, card)
         }

@@ -1,6 +1,6 @@
 //! Which columns of a card a fault points at.
 
-ghost use Rattle.std.specs.Prelude.{◌≡◌, ◌∷◌, Option};
+ghost use Rattle.std.specs.Prelude.{◌≡◌, ◌∷◌, ◌++◌, Option};
 ghost use Rattle.std.specs.Option.{option_map};
 ghost use Rattle.rpg_faults_limits.specs.Sheets.{AreSheets};
 ghost use Rattle.rpg_faults.specs.Marks as marks;
@@ -60,7 +60,7 @@ fn fault_range(
             rpg_faults_limits::file_columns(&before, card)
         }
         FaultCode::F8 => rpg_faults_operands::indicator_columns(cards, card),
-        FaultCode::F9 => missing_columns(cards, seen, card, after),
+        FaultCode::F9 => missing_columns(source, before, card, after),
         FaultCode::F10 | FaultCode::F13 | FaultCode::F14 => Some(rpg_faults_flow::target_range()),
         FaultCode::F11 => {
             let counts = &seen.counts;
@@ -76,17 +76,17 @@ fn fault_range(
 
 /// F9: of the calculation, of its operands, or of a line.
 fn missing_columns(
-    source: &IndexedCards,
-    seen: &Seen,
+    source: &AnalyzedCards,
+    before: &[SpecCard],
     card: &SpecCard,
     after: &[SpecCard],
 ) -> Option<ColumnRange>
-    requires { AreCardsSeen source.now (card.now ∷ after.now) seen.now }
-    ensures { result ≡ marks.missing_columns seen.now.before.now card.now after.now }
+    requires { source.now.cards.now ≡ before.now ++ card.now ∷ after.now }
+    ensures { result ≡ marks.missing_columns before.now card.now after.now }
 {
-    if rpg_faults_flow::bad_columns(seen.before, &seen.remaining) {
+    if source.has_bad_columns(before.len()) {
         rpg_faults_flow::calculation_columns(card, after)
-    } else if rpg_faults_operands::bad_columns(source, card, after) {
+    } else if rpg_faults_operands::bad_columns(source.cards, card, after) {
         rpg_faults_operands::missing_columns(card, after)
     } else {
         rpg_faults_limits::movement_columns(card)

@@ -6,7 +6,6 @@ ghost use Rattle.rpg_faults.specs.Seen.{AreCardsSeen};
 use crate::Places;
 use rpg_card_index::IndexedCards;
 use rpg_cards::SpecCard;
-use rpg_faults_flow::RemainingCards;
 use rpg_faults_limits::{Limits, Sheets};
 use rpg_faults_tree::{AnalyzedCards, Counts};
 
@@ -14,8 +13,6 @@ use rpg_faults_tree::{AnalyzedCards, Counts};
 #[derive(Drop)]
 pub(crate) struct Seen<'a> {
     pub before: &'a [SpecCard],
-    /// The card and those after it.
-    pub remaining: RemainingCards<'a>,
     pub sheets: Sheets,
     pub limits: Limits,
     pub counts: Counts,
@@ -31,7 +28,6 @@ impl<'a> Seen<'a> {
         let cards = source.cards;
         Seen {
             before: &cards.as_slice()[..0],
-            remaining: RemainingCards::new(cards.as_slice()),
             sheets: Sheets::none(),
             limits: Limits::nothing(),
             counts: Counts::nothing(),
@@ -46,7 +42,6 @@ impl<'a> Seen<'a> {
         ensures seen { AreCardsSeen source.now after.now self.new }
     {
         let before = self.before;
-        self.remaining.pass();
         self.sheets = self.sheets.with(source, before, card);
         self.limits.pass(before, card, after);
         self.counts = self.counts.with(before, card, after);

@@ -7,7 +7,6 @@ returns-clause-seen c =
     record {
       split = refl;
       few = c.args.source.now.few;
-      remaining = c.new.ensures ∙ c.as_slice-2.ensures;
       sheets = c.none.ensures cards;
       limits = c.nothing.ensures cards;
       counts = c.nothing-2.ensures cards;

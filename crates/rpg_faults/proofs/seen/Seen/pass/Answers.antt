@@ -1,4 +1,4 @@
-use Rattle.std.proofs.Common.{◌++◌, ◌∷◌, [], ◌∙◌, drop, sym, ap, subst, append_assoc}
+use Rattle.std.proofs.Common.{◌++◌, ◌∷◌, [], ◌∙◌, sym, ap, subst, append_assoc}
 use Rattle.rpg_faults_limits.specs.Sheets.{AreSheets}
 use Rattle.rpg_faults_tree.specs.Counted.{AreCounts}
 use Rattle.rpg_faults_limits.specs.State.{AreLimits}
@@ -12,9 +12,8 @@ returns-clause-seen c =
     record {
       split = c.requires.split ∙ sym (append_assoc c.args.self.now.before.now (c.args.card.now ∷ []) after) ∙ ap (λ b. b ++ after) same;
       few = c.requires.few;
-      remaining = c.pass.ensures ∙ ap (drop 1) c.requires.remaining;
       sheets = subst (λ b. AreSheets cards b c.with-self.result) same c.with-self.ensures;
-      limits = subst (λ b. AreLimits b after c.pass-2.new.self) same c.pass-2.ensures;
+      limits = subst (λ b. AreLimits b after c.pass.new.self) same c.pass.ensures;
       counts = subst (λ b. AreCounts b after c.with-self-2.result) same c.with-self-2.ensures;
-      places = rw c.up_to-self.ensures c.pass-3.ensures;
+      places = rw c.up_to-self.ensures c.pass-2.ensures;
     }
