@@ -97,6 +97,23 @@ fn write_other_length(
     );
 }
 
+/// Writes a match field whose length differs from that of an earlier type, or that only one of the two has.
+fn write_other_matches(out: &mut TextWriter, level: u8, lengths: (u32, u32), card: u16) {
+    match lengths {
+        (0, _) => out.fill_two(
+            "this type has no M{}, and the one of card {} has it",
+            level,
+            card,
+        ),
+        (_, 0) => out.fill_two(
+            "this type has M{}, and the one of card {} doesn't",
+            level,
+            card,
+        ),
+        _ => write_other_length(out, 'M', level, lengths, card),
+    }
+}
+
 /// F16 of control fields and match fields: which level, and how many columns it has.
 pub(crate) fn write_join(out: &mut TextWriter, cause: JoinCause) {
     match cause {
@@ -117,29 +134,9 @@ pub(crate) fn write_join(out: &mut TextWriter, cause: JoinCause) {
         } => write_other_length(out, 'L', level, (length, first), card),
         JoinCause::OtherMatches {
             level,
-            length: 0,
-            card,
-            ..
-        } => out.fill_two(
-            "this type has no M{}, and the one of card {} has it",
-            level,
-            card,
-        ),
-        JoinCause::OtherMatches {
-            level,
-            first: 0,
-            card,
-            ..
-        } => out.fill_two(
-            "this type has M{}, and the one of card {} doesn't",
-            level,
-            card,
-        ),
-        JoinCause::OtherMatches {
-            level,
             length,
             first,
             card,
-        } => write_other_length(out, 'M', level, (length, first), card),
+        } => write_other_matches(out, level, (length, first), card),
     }
 }
