@@ -58,26 +58,27 @@ impl<'source> Deck<'source> {
         let adjoins = adjoins(previous, card);
         match &card.spec {
             Spec::Header(spec) => {
-                self.headers.push(Card::new(number, position, adjoins, spec))?
+                self.headers
+                    .push(Card::new(number, position, adjoins, spec))?
             }
-            Spec::File(spec) => {
-                self.files.push(Card::new(number, position, adjoins, spec))?
-            }
+            Spec::File(spec) => { self.files.push(Card::new(number, position, adjoins, spec))? }
             Spec::Extension(spec) => {
-                self.tables.push(Card::new(number, position, adjoins, spec))?
+                self.tables
+                    .push(Card::new(number, position, adjoins, spec))?
             }
             Spec::Input(spec) => {
-                self.inputs.push(Card::new(number, position, adjoins, spec))?
+                self.inputs
+                    .push(Card::new(number, position, adjoins, spec))?
             }
             Spec::Calculation(spec) => {
-                self.calculations.push(Card::new(number, position, adjoins, spec))?
+                self.calculations
+                    .push(Card::new(number, position, adjoins, spec))?
             }
             Spec::Output(spec) => {
-                self.outputs.push(Card::new(number, position, adjoins, spec))?
+                self.outputs
+                    .push(Card::new(number, position, adjoins, spec))?
             }
-            Spec::Data(spec) => {
-                self.decks.push(Card::new(number, position, adjoins, spec))?
-            }
+            Spec::Data(spec) => { self.decks.push(Card::new(number, position, adjoins, spec))? }
         }
         Ok(())
     }

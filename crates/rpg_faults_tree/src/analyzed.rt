@@ -34,10 +34,7 @@ impl<'a> AnalyzedCards<'a> {
     }
 
     /// Like `new`, but None if there are more than 2,000 cards. Fails only if memory runs out.
-    pub fn if_few(
-        alloc: Global,
-        cards: &'a IndexedCards<'a>,
-    ) -> Result<Option<Self>, AllocError>
+    pub fn if_few(alloc: Global, cards: &'a IndexedCards<'a>) -> Result<Option<Self>, AllocError>
         ensures same { IfOk result (λ found. IfSome found (λ analyzed. analyzed.cards.now ≡ cards.now)) }
         ensures few { IfOk result (λ found. IsSome found ↔ (length cards.now ≤ 2000)) }
     {

@@ -46,7 +46,11 @@ fn push_bad_followers(
 {
     for (i, card) in followers.iter().enumerate() {
         let has_after = are_more(&followers[i + 1..]);
-        add(found, is_bad(true, has_after, last, card.spec), card.position)?;
+        add(
+            found,
+            is_bad(true, has_after, last, card.spec),
+            card.position,
+        )?;
     }
     Ok(())
 }
