@@ -3,7 +3,6 @@ use Rattle.std.specs.Prelude.{◌≡◌, ◌≤◌, ◌++◌, List, length}
 use Rattle.rpg_faults_limits.specs.Sheets.{AreSheets}
 use Rattle.rpg_cards.specs.declared.spec_card.SpecCard.{SpecCard}
 use Rattle.rpg_faults.specs.declared.seen.Seen.{Seen}
-use Rattle.rpg_faults_tree.specs.Counted.{AreCounts}
 use Rattle.rpg_faults_limits.specs.State.{AreLimits}
 use Rattle.rpg_faults.specs.State.{IsPlaces}
 
@@ -13,5 +12,4 @@ pub record AreCardsSeen (cards rest : List SpecCard) (s : Seen) : Type 0 where
   pub few : length cards ≤ 2000
   pub sheets : AreSheets cards s.before.now s.sheets
   pub limits : AreLimits s.before.now rest s.limits
-  pub counts : AreCounts s.before.now rest s.counts
   pub places : IsPlaces cards s.before.now s.places

@@ -56,9 +56,7 @@ pub(crate) fn breaks(
                 || rpg_faults_limits::moves_disk(cards, &seen.sheets, before, card)
         }
         FaultCode::F10 => source.lacks_target(position),
-        FaultCode::F11 => {
-            rpg_faults_tree::repeats_name(source, &seen.counts, before, card, after)
-        }
+        FaultCode::F11 => { rpg_faults_tree::repeats_name(source, before, card, after) }
         FaultCode::F12 => source.breaks_order(position),
         FaultCode::F13 => source.leaves_its_section(position),
         FaultCode::F14 => source.calls_itself(position),

@@ -62,10 +62,7 @@ fn fault_range(
         FaultCode::F8 => rpg_faults_operands::indicator_columns(cards, card),
         FaultCode::F9 => missing_columns(source, before, card, after),
         FaultCode::F10 | FaultCode::F13 | FaultCode::F14 => Some(rpg_faults_flow::target_range()),
-        FaultCode::F11 => {
-            let counts = &seen.counts;
-            Some(rpg_faults_tree::twice_range(source, counts, before, card, after))
-        }
+        FaultCode::F11 => { Some(rpg_faults_tree::twice_range(source, before, card, after)) }
         FaultCode::F12 => order_columns(card),
         FaultCode::F15 => rpg_faults_flow::rounding_columns(card, after),
         FaultCode::F16 => place_columns(cards, &seen.sheets, &seen.places, before, card),

@@ -7,7 +7,7 @@ use crate::Places;
 use rpg_card_index::IndexedCards;
 use rpg_cards::SpecCard;
 use rpg_faults_limits::{Limits, Sheets};
-use rpg_faults_tree::{AnalyzedCards, Counts};
+use rpg_faults_tree::AnalyzedCards;
 
 /// The cards before a card, with the state after them.
 #[derive(Drop)]
@@ -15,7 +15,6 @@ pub(crate) struct Seen<'a> {
     pub before: &'a [SpecCard],
     pub sheets: Sheets,
     pub limits: Limits,
-    pub counts: Counts,
     pub places: Places<'a>,
 }
 
@@ -30,7 +29,6 @@ impl<'a> Seen<'a> {
             before: &cards.as_slice()[..0],
             sheets: Sheets::none(),
             limits: Limits::nothing(),
-            counts: Counts::nothing(),
             places: Places::nothing(cards),
         }
     }
@@ -44,7 +42,6 @@ impl<'a> Seen<'a> {
         let before = self.before;
         self.sheets = self.sheets.with(source, before, card);
         self.limits.pass(before, card, after);
-        self.counts = self.counts.with(before, card, after);
         self.places.pass(source, before, card, after);
         self.before = source.up_to(before, card, after);
     }

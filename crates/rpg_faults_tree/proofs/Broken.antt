@@ -1,5 +1,6 @@
 -- The rules of a tree are those of its cards.
 use Rattle.std.proofs.Common.{◌≡◌, ℕ, Bool, true, false, not, ◌&&◌, ◌||◌, List, [], ◌∷◌, ◌++◌, Option, None, Some, refl, sym, ap, ◌∙◌}
+use Rattle.std.proofs.Math.Bool.{or-false}
 use Rattle.std.specs.Prelude.{is_none}
 use Rattle.std.specs.Option.{option_and_then, option_map, option_map_or}
 use Rattle.rpg_cards.specs.Calculations.{CalculationGroup, calculation_ending, calculation_of, calculations, calculations_before, group_ending}
@@ -110,10 +111,6 @@ output_sheet = record { opened = opened; no_follower = no_follower; takes_some =
     no_field (output.Or t) is = refl
     no_field (output.Field f) is = absurd cc
 
-or_false : (b : Bool) → b ≡ (b || false)
-or_false true = refl
-or_false false = refl
-
 -- what the rule says of an I card and of an O card
 abbrev input_rule : Rule
 input_rule before c after = option_map_or (stray_rules.is_stray_input before) (input_on c.spec) false
@@ -139,7 +136,7 @@ input_same before c after = by (input_on c.spec)
     by : (o : Option InputSpec) → (option_map_or (λ x. is_and x && not (stray_rules.follows_codes before)) o false || option_map_or (λ x. is_input_field x && is_none (open_group input_role before)) o false) ≡ option_map_or (stray_rules.is_stray_input before) o false
     by None = refl
     by (Some (input.Type t)) = refl
-    by (Some (input.And codes)) = sym (or_false (not (stray_rules.follows_codes before)))
+    by (Some (input.And codes)) = or-false (not (stray_rules.follows_codes before))
     by (Some (input.Field f)) = refl
 
 output_same : (before : List SpecCard) (c : SpecCard) (after : List SpecCard) → either output_cut output_field before c after ≡ output_rule before c after
@@ -148,8 +145,8 @@ output_same before c after = by (output_on c.spec)
     by : (o : Option OutputSpec) → (option_map_or (λ x. is_and_or x && not (stray_rules.follows_conditions before)) o false || option_map_or (λ x. is_output_field x && is_none (open_group output_role before)) o false) ≡ option_map_or (stray_rules.is_stray_output before) o false
     by None = refl
     by (Some (output.Record r)) = refl
-    by (Some (output.And t)) = sym (or_false (not (stray_rules.follows_conditions before)))
-    by (Some (output.Or t)) = sym (or_false (not (stray_rules.follows_conditions before)))
+    by (Some (output.And t)) = or-false (not (stray_rules.follows_conditions before))
+    by (Some (output.Or t)) = or-false (not (stray_rules.follows_conditions before))
     by (Some (output.Field f)) = refl
 
 module _ (cards : List SpecCard) where

@@ -1,5 +1,6 @@
 -- The call of a step is among all calls, so that the calls that come back tell of it.
 use Rattle.std.proofs.Common.{◌≡◌, ℕ, zero, suc, ◌<◌, Bool, true, false, ◌&&◌, ◌||◌, List, [], ◌∷◌, Option, None, Some, length, get_or, refl, sym, ap, ◌∙◌, arith}
+use Rattle.std.proofs.Math.Bool.{or-true}
 use Rattle.std.proofs.lemmas.Bool.{eq-eqb}
 use Rattle.std.specs.List.{cons_option, filter_map, list_any}
 use Rattle.std.specs.Option.{option_map_or}
@@ -14,10 +15,6 @@ use Rattle.rpg_faults_tree.specs.declared.labels.Labels.{Labels}
 same_as_itself : (p : Call) → same_call p p ≡ true
 same_as_itself p = ap (λ b. b && p.1 == p.1) (eq-eqb p.0 p.0 refl) ∙ eq-eqb p.1 p.1 refl
 
-either : (b : Bool) → (b || true) ≡ true
-either true = refl
-either false = refl
-
 called_among : {S : Type 0} (f : S → Option Call) (ss : List S) (k : ℕ) (s : S) (p : Call) → k < length ss → get_or ss k s ≡ s → f s ≡ Some p → list_any (same_call p) (filter_map f ss) ≡ true
 called_among f [] k s p within here is = absurd (omega arith)
 called_among f (t ∷ ts) zero s p within here is =
@@ -26,7 +23,7 @@ called_among f (t ∷ ts) (suc k) s p within here is = by (f t) (called_among f 
   where
     by : (o : Option Call) → list_any (same_call p) (filter_map f ts) ≡ true → list_any (same_call p) (cons_option o (filter_map f ts)) ≡ true
     by None more = more
-    by (Some q) more = ap (λ b. same_call p q || b) more ∙ either (same_call p q)
+    by (Some q) more = ap (λ b. same_call p q || b) more ∙ or-true (same_call p q)
 
 pub back_is : (ss : List Step) (l : Labels) (s : Step) (o : Option Call) → AreLabelsOf ss l → Contains ss s → o ≡ call_of (labels_of_steps ss) s
     → option_map_or (λ p. list_any (same_call p) l.cycles.items) o false ≡ calls_back (labels_of_steps ss) (calls_of_steps ss) s

@@ -1,5 +1,6 @@
 -- F9 of C cards, group by group.
 use Rattle.std.proofs.Common.{◌≡◌, ℕ, suc, Bool, true, false, not, ◌&&◌, cond, List, [], ◌∷◌, ◌++◌, Option, None, Some, refl, sym, ap, ◌∙◌, append_assoc}
+use Rattle.std.proofs.Math.Bool.{and-false}
 use Rattle.std.specs.List.{last_or}
 use Rattle.std.specs.Prelude.{is_some, unwrap_or}
 use Rattle.std.specs.Option.{option_map, option_map_or}
@@ -47,10 +48,6 @@ continues-is p (c ∷ cs) = by (calculation_on c.spec)
     by : (o : Option CalculationSpec) → option_map_or (λ k. joins k.control_level) o false ≡ are_more (strays begins_calculation (cards_with true p c cs o))
     by None = sym (ap (λ xs. are_more xs) (no_strays (suc p) cs))
     by (Some k) = joined k (joins k.control_level)
-
-and_false : (b : Bool) → (b && false) ≡ false
-and_false true = refl
-and_false false = refl
 
 -- with a group that is open before the cards, whose last card so far is k, and with none
 record AreFilled (p : ℕ) (cs : List SpecCard) : Type 0 where
@@ -103,7 +100,7 @@ module _ (p : ℕ) (c : SpecCard) (cs : List SpecCard) (rest : AreFilled (suc p)
   on_none : (o : Option CalculationSpec)
       → one_if (option_map_or (λ k. bad_calculation None k cs) o false) p ++ bad_on (option_map (group_with None) o) (suc p) cs ≡ badly_filled (all_groups begins_calculation (cards_with false p c cs o))
   on_none None = rest.apart
-  on_none (Some k) = begun None false k (and_false (joins k.control_level))
+  on_none (Some k) = begun None false k (and-false (joins k.control_level))
 
 are_filled : (p : ℕ) (cs : List SpecCard) → AreFilled p cs
 are_filled p [] = record { opened = λ g k. refl; apart = refl }

@@ -1,6 +1,6 @@
 -- One more position in a set of cards, and how many groups there are.
 use Rattle.std.proofs.Common.{◌≡◌, ℕ, suc, ◌+◌, ◌<◌, ◌≤◌, Bool, true, false, ◌||◌, cond, List, [], ◌∷◌, length, get_or, set, take, nat_eq, refl, sym, ap, ◌∙◌, arith}
-use Rattle.std.proofs.Math.Bool.{or_assoc}
+use Rattle.std.proofs.Math.Bool.{or-false, or-true, or_assoc}
 use Rattle.std.proofs.lemmas.Bool.{eqb-true, eq-eqb}
 use Rattle.std.proofs.lemmas.List.{get_or-set_other, get_or-set_same}
 use Rattle.std.proofs.lemmas.List.Folds.{list_any_more}
@@ -11,25 +11,17 @@ use Rattle.rpg_cards.specs.declared.spec_card.SpecCard.{SpecCard}
 use Rattle.rpg_deck.specs.Cut.{all_groups, groups_begun, strays}
 use Rattle.rpg_deck.specs.Tree.{begins_calculation, card_at, cards_from, cards_on, tree}
 
-either : (b : Bool) → (b || true) ≡ true
-either true = refl
-either false = refl
-
-neither : (b : Bool) → (b || false) ≡ b
-neither true = refl
-neither false = refl
-
 -- one position that is marked
 pub marked_set : (marks : List Bool) (m : ℕ) → m < length marks → (n : ℕ) → get_or (set marks m true) n false ≡ (get_or marks n false || nat_eq n m)
 marked_set marks m there n = by (nat_eq n m) refl
   where
     by : (b : Bool) → nat_eq n m ≡ b → get_or (set marks m true) n false ≡ (get_or marks n false || b)
-    by true e = rw (eqb-true n m e) (get_or-set_same marks m true false there) ∙ sym (either _)
-    by false e = get_or-set_other marks m n true false (λ same. absurd (let yes = eq-eqb n m same in cc)) ∙ sym (neither _)
+    by true e = rw (eqb-true n m e) (get_or-set_same marks m true false there) ∙ sym (or-true _)
+    by false e = get_or-set_other marks m n true false (λ same. absurd (let yes = eq-eqb n m same in cc)) ∙ sym (or-false _)
 
 -- a position that is past the marks
 pub marked_none : (marks : List Bool) (m : ℕ) → length marks ≤ m → (n : ℕ) → n < length marks → get_or marks n false ≡ (get_or marks n false || nat_eq n m)
-marked_none marks m past n below = sym (ap (λ b. get_or marks n false || b) (other (nat_eq n m) refl) ∙ neither _)
+marked_none marks m past n below = sym (ap (λ b. get_or marks n false || b) (other (nat_eq n m) refl) ∙ or-false _)
   where
     other : (b : Bool) → nat_eq n m ≡ b → nat_eq n m ≡ false
     other true e = let same = eqb-true n m e in absurd (omega arith)

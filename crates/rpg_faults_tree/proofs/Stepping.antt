@@ -1,5 +1,6 @@
 -- What holds of calculations, with those before and after them, holds of the steps of a tree.
 use Rattle.std.proofs.Common.{◌≡◌, ℕ, ◌<◌, ◌≤◌, ◌⊎◌, inl, inr, Bool, true, false, not, ◌&&◌, ◌||◌, cond, List, [], ◌∷◌, ◌++◌, map, refl, sym, ap, ◌∙◌, arith}
+use Rattle.std.proofs.Math.Bool.{and-false, and-true, or-false}
 use Rattle.std.specs.Prelude.{nat_lt, max}
 use Rattle.std.specs.List.{list_any}
 use Rattle.std.specs.Option.{option_and_then, option_map, option_map_or}
@@ -85,14 +86,6 @@ outside_by p done m = ap (λ o. in_no_section (option_map_or Subroutine o Outsid
 abbrev section : SubroutineState → ControlLevel → Statement Key → Section
 section p l d = steps.section_by_level l (cond (is_begsr d) (Subroutine p.begun) (option_map_or Subroutine p.own Outside))
 
-and_true : (b : Bool) → b ≡ (b && true)
-and_true true = refl
-and_true false = refl
-
-and_false : (b : Bool) → false ≡ (b && false)
-and_false true = refl
-and_false false = refl
-
 module _ (p : SubroutineState) (done : List (Calculation Key)) (m : Matches p done) where
   abbrev open_outside : Bool
   open_outside = in_no_section (option_map_or Subroutine p.own Outside)
@@ -116,7 +109,7 @@ module _ (p : SubroutineState) (done : List (Calculation Key)) (m : Matches p do
   ends_outside control.Subroutine Nothing = refl
 
   plain_outside : not inside ≡ (open_outside && true)
-  plain_outside = sym (outside_by p done m) ∙ and_true open_outside
+  plain_outside = sym (outside_by p done m) ∙ sym (and-true open_outside)
 
   -- SR in no subroutine, and neither BEGSR nor ENDSR
   loose_outside : (l : ControlLevel) (d : Statement Key) → (is_subroutine l && (not (is_bracket d) && not inside)) ≡ ((is_subroutine l && in_no_section (section p l d)) && not (is_bracket d))
@@ -130,7 +123,7 @@ module _ (p : SubroutineState) (done : List (Calculation Key)) (m : Matches p do
   loose_outside control.Subroutine (Executes n) = plain_outside
   loose_outside control.Subroutine (Marks n) = plain_outside
   loose_outside control.Subroutine (Begins n) = refl
-  loose_outside control.Subroutine (Ends n) = and_false open_outside
+  loose_outside control.Subroutine (Ends n) = sym (and-false open_outside)
   loose_outside control.Subroutine Nothing = plain_outside
 
 -- of BEGSR and ENDSR the next
@@ -203,16 +196,12 @@ none_later r (x ∷ xs) joined =
     ap (λ n. nat_lt r n || list_any (λ (j : CalculationSpec). nat_lt r (section_rank j.control_level)) (specs_of xs)) (rank_none x.spec.control_level joined.0)
     ∙ ap (λ b. b || list_any (λ (j : CalculationSpec). nat_lt r (section_rank j.control_level)) (specs_of xs)) (below_none r) ∙ none_later r xs joined.1
 
-or_false : (b : Bool) → (b || false) ≡ b
-or_false true = refl
-or_false false = refl
-
 highest_next : (ks : List CalculationSpec) (highest : ℕ) (g : CalculationCards) → Joined g.followers → IsHighest ks highest → IsHighest (ks ++ specs_of (group_cards g)) (max highest (section_rank g.first.spec.control_level))
 highest_next ks highest g joined is r =
     list_any-append (λ (j : CalculationSpec). nat_lt r (section_rank j.control_level)) ks (specs_of (group_cards g))
     ∙ ap (λ b. b || (nat_lt r (section_rank g.first.spec.control_level) || list_any (λ (j : CalculationSpec). nat_lt r (section_rank j.control_level)) (specs_of g.followers))) (is r)
     ∙ ap (λ b. nat_lt r highest || (nat_lt r (section_rank g.first.spec.control_level) || b)) (none_later r g.followers joined)
-    ∙ ap (λ b. nat_lt r highest || b) (or_false (nat_lt r (section_rank g.first.spec.control_level))) ∙ below_max r highest (section_rank g.first.spec.control_level)
+    ∙ ap (λ b. nat_lt r highest || b) (or-false (nat_lt r (section_rank g.first.spec.control_level))) ∙ below_max r highest (section_rank g.first.spec.control_level)
 
 starts_of : (gs : List CalculationCards) (p : SubroutineState) (done : List (Calculation Key)) (ks : List CalculationSpec) (highest : ℕ) → AreJoined gs → Matches p done → IsHighest ks highest → starts_from done ks gs ≡ misplaced_from highest (steps_from p gs)
 starts_of [] p done ks highest joined m is = refl

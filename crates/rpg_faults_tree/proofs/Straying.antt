@@ -1,5 +1,6 @@
 -- F12 of the cards of a sheet of groups: those that need a card before them.
 use Rattle.std.proofs.Common.{◌≡◌, ℕ, suc, ◌-◌, Bool, true, false, not, ◌&&◌, cond, List, [], ◌∷◌, ◌++◌, length, Option, None, Some, refl, sym, ap, ◌∙◌, arith, append_assoc, length-append}
+use Rattle.std.proofs.Math.Bool.{and-false, and-true}
 use Rattle.std.specs.Prelude.{is_none, is_some, slice_get}
 use Rattle.std.specs.List.{cons_option, flat_map}
 use Rattle.std.specs.Option.{option_and_then, option_map, option_map_or}
@@ -26,14 +27,6 @@ right_before before c =
     let more = length-append before (c ∷ []) in
     let size : length (before ++ c ∷ []) - 1 ≡ length before = omega (arith, more) in
     ap (slice_get (before ++ c ∷ [])) size ∙ push_get before c
-
-and_true : (b : Bool) → (b && true) ≡ b
-and_true true = refl
-and_true false = refl
-
-and_false : (b : Bool) → (b && false) ≡ false
-and_false true = refl
-and_false false = refl
 
 -- a sheet whose cards make groups: how a card is on it, and what the cards of its groups are
 module _ {X H F : Type 0} (on : Spec → Option X) (card_role : X → Role H F) (begins continues takes is_field : X → Bool) where
@@ -142,11 +135,11 @@ module _ {X H F : Type 0} (on : Spec → Option X) (card_role : X → Role H F) 
 
     fields_done : (xs : List (Card X)) → fields_on false xs ≡ []
     fields_done [] = refl
-    fields_done (x ∷ xs) = ap (λ b. one_if b x.position ++ fields_on false xs) (and_false (is_field x.spec)) ∙ fields_done xs
+    fields_done (x ∷ xs) = ap (λ b. one_if b x.position ++ fields_on false xs) (and-false (is_field x.spec)) ∙ fields_done xs
 
     fields_of : (xs : List (Card X)) → fields_on true xs ≡ passing_cards is_field (strays begins_card xs)
     fields_of [] = refl
-    fields_of (x ∷ xs) = ap (λ b. one_if b x.position ++ fields_on (not (begins x.spec)) xs) (and_true (is_field x.spec)) ∙ by (begins x.spec) refl (fields_of xs)
+    fields_of (x ∷ xs) = ap (λ b. one_if b x.position ++ fields_on (not (begins x.spec)) xs) (and-true (is_field x.spec)) ∙ by (begins x.spec) refl (fields_of xs)
       where
         by : (b : Bool) → begins x.spec ≡ b → fields_on true xs ≡ passing_cards is_field (strays begins_card xs) → one_if (is_field x.spec) x.position ++ fields_on (not b) xs ≡ passing_cards is_field (cond b [] (x ∷ strays begins_card xs))
         by true is more = ap (λ b. one_if b x.position ++ fields_on false xs) (s.no_field x.spec is) ∙ fields_done xs

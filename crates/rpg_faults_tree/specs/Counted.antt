@@ -1,5 +1,5 @@
 -- How many labels and definitions the cards before a card have.
-use Rattle.std.specs.Prelude.{◌≡◌, List, ◌∷◌, ◌++◌, length, Bool, false, is_some}
+use Rattle.std.specs.Prelude.{◌≡◌, List, ◌∷◌, ◌++◌, get_or, length, Bool, false, is_some}
 use Rattle.std.specs.Option.{option_map_or}
 use Rattle.rpg_cards.specs.Calculations.{calculations_before, card_ending}
 use Rattle.rpg_cards.specs.Statements.{statement_of}
@@ -13,6 +13,11 @@ use Rattle.rpg_faults_tree.specs.declared.counts.Counts.{Counts}
 pub record AreCounts (before rest : List SpecCard) (c : Counts) : Type 0 where
   pub labels : c.labels ≡ length (labels (calculations_before before rest))
   pub definitions : c.definitions ≡ length (definitions before)
+
+-- the counts before each card, at its position
+abbrev pub AreCountsOfAll : List SpecCard → List Counts → Type 0
+AreCountsOfAll cards counts =
+    (before after : List SpecCard) (c : SpecCard) → cards ≡ before ++ c ∷ after → AreCounts before (c ∷ after) (get_or counts (length before) (record { labels = 0; definitions = 0 }))
 
 -- the card defines a label or a subroutine
 abbrev pub is_label_at : SpecCard → List SpecCard → Bool

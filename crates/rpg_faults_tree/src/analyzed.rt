@@ -1,12 +1,15 @@
 //! The cards of a source, with the faults that the rules on their tree find.
 
-ghost use Rattle.std.specs.Prelude.{◌≡◌, ◌≤◌, ◌↔◌, length, IfOk, IfSome, IsSome};
+ghost use Rattle.std.specs.Prelude.{◌≡◌, ◌≤◌, ◌↔◌, ◌∷◌, ◌++◌, List, length, IfOk, IfSome, IsSome};
+ghost use Rattle.rpg_cards.specs.declared.spec_card.SpecCard.{SpecCard};
 ghost use Rattle.rpg_faults_flow.specs.Columns.{bad_calculation_columns};
 ghost use Rattle.rpg_faults_flow.specs.Rounding.{bad_rounding};
+ghost use Rattle.rpg_faults_tree.specs.Counted.{AreCounts, AreCountsOfAll};
 ghost use Rattle.rpg_faults_tree.specs.Marked as marked;
 ghost use Rattle.rpg_faults_tree.specs.Marked.{IsFoundIn, DetectsBreach};
-ghost use Rattle.rpg_faults_tree.specs.Props.{IsFoundIn-prop};
+ghost use Rattle.rpg_faults_tree.specs.Props.{AreCountsOfAll-prop, IsFoundIn-prop};
 
+use crate::counts::{Counts, counts_of};
 use crate::found::FlowFaults;
 use rpg_card_index::IndexedCards;
 use std::alloc::{AllocError, Global};
@@ -14,13 +17,16 @@ use std::alloc::{AllocError, Global};
 /// The most cards of a source.
 const MOST_CARDS: usize = 2000;
 
-/// The cards of a source, which of them break F9 (of C cards), F10 and F12 to F15, and an index of their labels.
+/// The cards of a source, which of them break F9 (of C cards), F10 and F12 to F15, an index of their labels, and for each card how many
+/// labels and names are defined before it.
 #[derive(Drop)]
 pub struct AnalyzedCards<'a> {
     pub cards: &'a IndexedCards<'a>,
     pub(crate) found: FlowFaults,
+    counts: Vec<Counts>,
     pub ghost few: { length cards.now ≤ 2000 },
     pub ghost exact: { IsFoundIn cards.now found } by { IsFoundIn-prop cards.now found },
+    pub ghost counted: { AreCountsOfAll cards.now counts.items } by { AreCountsOfAll-prop cards.now counts.items },
 }
 
 impl<'a> AnalyzedCards<'a> {
@@ -30,7 +36,12 @@ impl<'a> AnalyzedCards<'a> {
         ensures { IfOk result (λ analyzed. analyzed.cards.now ≡ cards.now) }
     {
         let found = FlowFaults::new(alloc, cards.as_slice())?;
-        Ok(AnalyzedCards { cards, found })
+        let counts = counts_of(alloc, cards.as_slice())?;
+        Ok(AnalyzedCards {
+            cards,
+            found,
+            counts,
+        })
     }
 
     /// Like `new`, but None if there are more than 2,000 cards. Fails only if memory runs out.
@@ -42,6 +53,16 @@ impl<'a> AnalyzedCards<'a> {
             return Ok(None);
         }
         Ok(Some(AnalyzedCards::new(alloc, cards)?))
+    }
+
+    /// Returns how many labels and names are defined before the card at a position.
+    pub(crate) fn counts_before(&self, position: usize) -> Counts
+        ensures { (before after : List SpecCard) (c : SpecCard) → self.now.cards.now ≡ before ++ c ∷ after → position ≡ length before → AreCounts before (c ∷ after) result }
+    {
+        match self.counts.get(position) {
+            None => Counts::NONE,
+            Some(counts) => *counts,
+        }
     }
 
     /// F9 of a C card, at this position. Doesn't check the sequence of what LOKUP searches.

@@ -1,11 +1,11 @@
-//! How many labels and names are defined before a card.
+//! How many labels and names are defined before each card.
 
-ghost use Rattle.std.specs.Prelude.{◌≡◌, ◌≤◌, [], ◌∷◌, ◌++◌, List, length};
-ghost use Rattle.rpg_cards.specs.declared.spec_card.SpecCard.{SpecCard};
+ghost use Rattle.std.specs.Prelude.{◌≡◌, ◌≤◌, [], ◌∷◌, ◌++◌, length, IfOk};
 ghost use Rattle.rpg_faults_tree.specs.Counted as counted;
-ghost use Rattle.rpg_faults_tree.specs.Counted.{AreCounts};
+ghost use Rattle.rpg_faults_tree.specs.Counted.{AreCounts, AreCountsOfAll};
 
 use rpg_cards::{SpecCard, defined_name, last_card};
+use std::alloc::{AllocError, Global};
 
 /// How many are defined before a card.
 #[derive(Clone, Copy)]
@@ -17,18 +17,14 @@ pub struct Counts {
 }
 
 impl Counts {
-    /// Returns the counts before the first card.
-    pub fn nothing() -> Self
-        ensures { (cards : List SpecCard) → AreCounts [] cards result }
-    {
-        Counts {
-            labels: 0,
-            definitions: 0,
-        }
-    }
+    /// The counts before the first card.
+    pub(crate) const NONE: Counts = Counts {
+        labels: 0,
+        definitions: 0,
+    };
 
     /// Returns the counts after one more card, given the cards after it.
-    pub fn with(self, before: &[SpecCard], card: &SpecCard, after: &[SpecCard]) -> Self
+    fn with(self, before: &[SpecCard], card: &SpecCard, after: &[SpecCard]) -> Self
         requires few { length before.now ≤ 2000 }
         requires counts { AreCounts before.now (card.now ∷ after.now) self }
         ensures { AreCounts (before.now ++ card.now ∷ []) after.now result }
@@ -38,6 +34,20 @@ impl Counts {
             definitions: self.definitions + card.definition_count() as u16,
         }
     }
+}
+
+/// Returns the counts before each card.
+pub(crate) fn counts_of(alloc: Global, cards: &[SpecCard]) -> Result<Vec<Counts>, AllocError>
+    requires { length cards.now ≤ 2000 }
+    ensures { IfOk result (λ counts. AreCountsOfAll cards.now counts.items) }
+{
+    let mut counts = Vec::with_capacity(alloc, cards.len())?;
+    let mut count = Counts::NONE;
+    for (position, card) in cards.iter().enumerate() {
+        counts.push_reserved(count);
+        count = count.with(&cards[..position], card, &cards[position + 1..]);
+    }
+    Ok(counts)
 }
 
 /// Whether a card ends its group and defines a label or a subroutine.

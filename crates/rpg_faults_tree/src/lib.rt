@@ -16,5 +16,4 @@ mod strays;
 mod targets;
 
 pub use analyzed::AnalyzedCards;
-pub use counts::Counts;
 pub use names::{repeats_name, twice_range};

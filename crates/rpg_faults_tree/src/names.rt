@@ -18,32 +18,30 @@ use rpg_symbols::Name;
 /// F11, on the later of the two cards.
 pub fn repeats_name(
     source: &AnalyzedCards,
-    counts: &Counts,
     before: &[SpecCard],
     card: &SpecCard,
     after: &[SpecCard],
 ) -> bool
-    requires split { source.now.cards.now ≡ before.now ++ card.now ∷ after.now }
-    requires counts { AreCounts before.now (card.now ∷ after.now) counts.now }
+    requires { source.now.cards.now ≡ before.now ++ card.now ∷ after.now }
     ensures { result ≡ spec.repeats_name before.now card.now after.now }
 {
-    defines_again(source, counts, before, card, after)
-        || defines_label(source, counts, before, card, after)
+    let counts = source.counts_before(before.len());
+    defines_again(source, &counts, before, card, after)
+        || defines_label(source, &counts, before, card, after)
 }
 
 /// F11: the columns of the name of the label, subroutine or field.
 pub fn twice_range(
     source: &AnalyzedCards,
-    counts: &Counts,
     before: &[SpecCard],
     card: &SpecCard,
     after: &[SpecCard],
 ) -> ColumnRange
-    requires split { source.now.cards.now ≡ before.now ++ card.now ∷ after.now }
-    requires counts { AreCounts before.now (card.now ∷ after.now) counts.now }
+    requires { source.now.cards.now ≡ before.now ++ card.now ∷ after.now }
     ensures { result ≡ marks.twice_range before.now card.now after.now }
 {
-    if defines_again(source, counts, before, card, after) {
+    let counts = source.counts_before(before.len());
+    if defines_again(source, &counts, before, card, after) {
         ColumnRange::FirstFactor
     } else {
         ColumnRange::ResultName

@@ -9,6 +9,5 @@ returns-clause-seen c =
       few = c.args.source.now.few;
       sheets = c.none.ensures cards;
       limits = c.nothing.ensures cards;
-      counts = c.nothing-2.ensures cards;
-      places = c.nothing-3.ensures;
+      places = c.nothing-2.ensures;
     }

@@ -1,6 +1,5 @@
 use Rattle.std.proofs.Common.{◌++◌, ◌∷◌, [], ◌∙◌, sym, ap, subst, append_assoc}
 use Rattle.rpg_faults_limits.specs.Sheets.{AreSheets}
-use Rattle.rpg_faults_tree.specs.Counted.{AreCounts}
 use Rattle.rpg_faults_limits.specs.State.{AreLimits}
 use Rattle.rpg_faults.proofs.seen.Seen.pass.Goals as goal
 
@@ -14,6 +13,5 @@ returns-clause-seen c =
       few = c.requires.few;
       sheets = subst (λ b. AreSheets cards b c.with-self.result) same c.with-self.ensures;
       limits = subst (λ b. AreLimits b after c.pass.new.self) same c.pass.ensures;
-      counts = subst (λ b. AreCounts b after c.with-self-2.result) same c.with-self-2.ensures;
       places = rw c.up_to-self.ensures c.pass-2.ensures;
     }
