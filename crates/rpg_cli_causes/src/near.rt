@@ -27,8 +27,10 @@ fn write_defined(
     let definitions = card.definitions();
     for definition in definitions.as_slice() {
         let other = definition.name.as_slice();
-        let is_first = source.is_new_name(near.definitions, &definition.name);
-        if near.reported < MOST && is_first && is_near(name, other) {
+        if near.reported < MOST
+            && is_near(name, other)
+            && source.is_new_name(near.definitions, &definition.name)
+        {
             out.write_str(if near.reported == 0 { " (" } else { ", " });
             out.write_shown(other);
             near.reported = near.reported.saturating_add(1);
