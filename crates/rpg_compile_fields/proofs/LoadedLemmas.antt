@@ -4,7 +4,6 @@ use Rattle.std.proofs.lemmas.Cmp.{nat_list_eq_equiv}
 use Rattle.std.proofs.lemmas.List.{append_assoc, map-append, take-append-drop}
 use Rattle.std.proofs.lemmas.Map.Made.{lookup-map_values}
 use Rattle.std.specs.Cmp.Lexicographic.{pointwise}
-use Rattle.std.specs.List.{cons_option}
 use Rattle.std.specs.Map.{lookup}
 use Rattle.std.specs.Option.{option_map, option_map_or, option_or, option_to_list}
 use Rattle.std.specs.Prelude.{is_some, nat_eq, replicate, unwrap_or}
@@ -24,7 +23,7 @@ use Rattle.rpg_sheet_specs.specs.declared.extension.ExtensionSpec.{ExtensionSpec
 use Rattle.rpg_sheet_specs.specs.declared.extension.TableSpec.{TableSpec}
 use Rattle.rpg_symbols.specs.Fields.{NamedForms}
 use Rattle.rpg_compile_program.proofs.Lists.{or_first}
-use Rattle.rpg_compile_program.specs.Data.{Loaded, all_loaded, decks, entry_value, extensions, field_values, first_of_kind, tables_loaded, with_deck}
+use Rattle.rpg_compile_program.specs.Data.{Loaded, all_loaded, decks, entry_value, field_values, first_of_kind, tables_loaded, with_deck}
 
 lookup-append : {K V : Type 0} (test : K → Bool) (xs ys : List (K × V)) → lookup test (xs ++ ys) ≡ option_or (lookup test xs) (lookup test ys)
 lookup-append test [] ys = refl
@@ -48,19 +47,6 @@ same_values xs ys (f ∷ fs) same =
     cc
 
 -- ---- E cards, card by card
-
-extensions_at : (cards : List SpecCard) (i : ℕ) (c : SpecCard) → i < length cards → c ≡ get_or cards i c → extensions (drop i cards) ≡ cons_option (extension_on c.spec) (extensions (drop (i + 1) cards))
-extensions_at cards i c less is =
-    ap extensions (drop-cons cards i c less) ∙ ap (λ (d : SpecCard). extensions (d ∷ drop (suc i) cards)) (sym is)
-    ∙ ap (λ k. cons_option (extension_on c.spec) (extensions (drop k cards))) (sym (add-one i))
-
-pub extensions-card : (cards : List SpecCard) (i : ℕ) (c : SpecCard) (e : ExtensionSpec) → i < length cards → c ≡ get_or cards i c → extension_on c.spec ≡ Some e
-    → extensions (drop i cards) ≡ e ∷ extensions (drop (i + 1) cards)
-extensions-card cards i c e less is on = extensions_at cards i c less is ∙ ap (λ (o : Option ExtensionSpec). cons_option o (extensions (drop (i + 1) cards))) on
-
-pub extensions-other : (cards : List SpecCard) (i : ℕ) (c : SpecCard) → i < length cards → c ≡ get_or cards i c → extension_on c.spec ≡ None
-    → extensions (drop i cards) ≡ extensions (drop (i + 1) cards)
-extensions-other cards i c less is on = extensions_at cards i c less is ∙ ap (λ (o : Option ExtensionSpec). cons_option o (extensions (drop (i + 1) cards))) on
 
 -- no table of an E card has a bad size
 pub sizes_at : (cards : List SpecCard) (i : ℕ) (c : SpecCard) (e : ExtensionSpec) → KeepsRule (λ before c after. bad_size c) cards → i < length cards → c ≡ get_or cards i c

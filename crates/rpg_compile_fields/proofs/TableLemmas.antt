@@ -1,18 +1,13 @@
 -- What a table takes from a card, and from the cards after it.
-use Rattle.std.proofs.Common.{◌≡◌, ℕ, suc, ◌+◌, ◌-◌, ◌<◌, List, [], ◌∷◌, ◌++◌, map, length, drop, min, get_or, Option, Some, refl, sym, ap, ◌∙◌, arith, drop-cons, add-one}
+use Rattle.std.proofs.Common.{◌≡◌, ℕ, ◌+◌, ◌-◌, List, [], ◌∷◌, ◌++◌, map, length, min, refl, sym, ap, ◌∙◌, arith}
 use Rattle.std.proofs.lemmas.List.{append_assoc, append-nil, map-append}
 use Rattle.std.proofs.lemmas.List.FromFn.{map-range_with_len_more}
 use Rattle.std.specs.List.{range_with_len}
-use Rattle.rpg_cards.specs.Cards.{data_on}
-use Rattle.rpg_cards.specs.Groups.{data_card_role, data_role, followers, followers_with, role_on}
-use Rattle.rpg_cards.specs.declared.spec_card.SpecCard.{SpecCard}
 use Rattle.rpg_program.specs.Values.{Value}
 use Rattle.rpg_compile_fields.specs.Tables.{values_on_card}
 use Rattle.rpg_compile_fields.specs.declared.tables.TableData.{TableData}
 use Rattle.rpg_faults_data.proofs.EntryLemmas.{entries-card, entries-none}
 use Rattle.rpg_faults_data.specs.Data.{data_entries, entry_on}
-use Rattle.rpg_sheet_specs.specs.declared.data.DataSpec.{DataSpec}
-use Rattle.rpg_sheet_specs.specs.declared.data.DataSpec.TheVariants as deck
 use Rattle.rpg_compile_program.specs.Data.{entry_value}
 
 map-map : {X Y Z : Type 0} (g : Y → Z) (f : X → Y) (xs : List X) → map g (map f xs) ≡ map (λ x. g (f x)) xs
@@ -20,15 +15,6 @@ map-map g f [] = refl
 map-map g f (x ∷ xs) = ap (λ rest. g (f x) ∷ rest) (map-map g f xs)
 
 -- ---- the texts of a deck
-
-texts_at : (cards : List SpecCard) (i : ℕ) (c : SpecCard) → i < length cards → c ≡ get_or cards i c
-    → followers data_role (drop i cards) ≡ followers_with (data_role c.spec) (followers data_role (drop (i + 1) cards))
-texts_at cards i c less is =
-    ap (followers data_role) (drop-cons cards i c less) ∙ ap (λ (d : SpecCard). followers data_role (d ∷ drop (suc i) cards)) (sym is)
-    ∙ ap (λ k. followers_with (data_role c.spec) (followers data_role (drop k cards))) (sym (add-one i))
-
-pub texts-begin : (cards : List SpecCard) (i : ℕ) (c : SpecCard) → i < length cards → c ≡ get_or cards i c → data_on c.spec ≡ Some deck.Begin → followers data_role (drop i cards) ≡ []
-texts-begin cards i c less is on = texts_at cards i c less is ∙ ap (λ (d : Option DataSpec). followers_with (role_on data_card_role d) (followers data_role (drop (i + 1) cards))) on
 
 -- ---- the values of a table, card by card
 

@@ -14,7 +14,6 @@ pub mod InputTypes
 pub mod Instructions
 pub mod Joined
 pub mod Known
-pub mod Labels
 pub mod LevelSums
 pub mod Lines
 pub mod Lists

@@ -54,11 +54,6 @@ module _ (cards : List SpecCard) (P : SpecCard → Type 0) (h : Seen cards (λ b
   pub each_card : Each P cards
   each_card = each_from [] cards refl
 
--- what stands on a card
-pub on_card : {X : Type 0} (test : X → Bool) (o : Option X) (x : X) → o ≡ Some x → option_map_or test o false ≡ false → test x ≡ false
-on_card test None x is e = absurd cc
-on_card test (Some y) x is e = let same : y ≡ x = cc in subst (λ z. test z ≡ false) same e
-
 -- what holds of no cards, and is kept card by card, holds of the cards before each
 module _ (cards : List SpecCard) (P : List SpecCard → Type 0) (step : Seen cards (λ before c after. P before → P (before ++ c ∷ []))) where
   front_from : (done front back : List SpecCard) → cards ≡ done ++ (front ++ back) → P done → P (done ++ front)

@@ -35,10 +35,6 @@ last_of xs i = let n = length-append xs (i ∷ []) in let e : length (xs ++ i �
     at_end [] = refl
     at_end (y ∷ ys) = at_end ys
 
-sizes_append : (gs hs : List (Calculation Key)) → sizes (gs ++ hs) ≡ sizes gs + sizes hs
-sizes_append [] hs = omega arith
-sizes_append (g ∷ gs) hs = let r = sizes_append gs hs in omega arith
-
 -- the number of a subroutine that is there
 pub callee_there : (n : Option Name) (ss : List (Subroutine Key)) → defines_subroutine n ss ≡ true → callee n ss < length ss
 callee_there n [] h = absurd cc

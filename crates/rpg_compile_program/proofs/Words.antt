@@ -14,7 +14,7 @@ use Rattle.rpg_cards.specs.declared.constants.Constant.TheVariants.{Number, Text
 use Rattle.rpg_cards.specs.declared.names.Definition.{Definition}
 use Rattle.rpg_cards.specs.declared.spec_card.SpecCard.{SpecCard}
 use Rattle.rpg_program.specs.Forms.{is_constant, is_text_constant, same_kind}
-use Rattle.rpg_program.specs.Values.{Value, characters_of}
+use Rattle.rpg_program.specs.Values.{characters_of}
 use Rattle.rpg_program.specs.declared.form.Class.{Class}
 use Rattle.rpg_program.specs.declared.form.Class.TheVariants as class
 use Rattle.rpg_program.specs.declared.form.FieldForm.{FieldForm}
@@ -134,9 +134,6 @@ pub name_is_no_word : (cards : List SpecCard) (name : List ℕ) → is_text_cons
 name_is_no_word cards name = found_is (defined_fields cards) name (names_are given (definitions cards) (refl, (refl, tt)) (all_are cards))
 
 -- ---- words
-
-characters_at : List (List Value) → ℕ → List ℕ
-characters_at values n = characters_of (first_value (values_at values n))
 
 module _ (cards : List SpecCard) (allowance : ℕ) where
   t : Table

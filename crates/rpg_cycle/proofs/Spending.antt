@@ -1,13 +1,12 @@
 -- What phases take, and that all of them together are within the bound.
 use Rattle.rpg_paper.specs.Form.{line_of}
-use Rattle.std.proofs.Common.{◌≡◌, ℕ, ◌≤◌, ◌<◌, ◌+◌, ◌-◌, ◌*◌, ◌^◌, Bool, true, false, cond, ◌&&◌, not, leb, List, [], ◌∷◌, length, slice_get, slice_index, Option, None, Some, is_some, refl, ap, ◌∙◌, subst, arith}
+use Rattle.std.proofs.Common.{◌≡◌, ℕ, ◌≤◌, ◌<◌, ◌+◌, ◌-◌, ◌*◌, ◌^◌, Bool, true, false, cond, leb, List, [], ◌∷◌, length, slice_get, slice_index, Option, None, Some, is_some, refl, ap, ◌∙◌, subst, arith}
 use Rattle.std.proofs.lemmas.Bool.Decides.{nat_tests}
-use Rattle.std.specs.List.{list_all}
 use Rattle.rpg_paper.specs.Paper.{Position}
 use Rattle.rpg_program.specs.Ends as effects
 use Rattle.rpg_program.specs.Input.{TypeRow}
 use Rattle.rpg_program.specs.Lines as lines
-use Rattle.rpg_program.specs.Weights.{is_at_detail, is_at_total, is_in_cycle, line_weight, lines_weight, type_weight, types_weight}
+use Rattle.rpg_program.specs.Weights.{is_at_detail, is_at_total, is_in_cycle, line_weight, lines_weight, types_weight}
 use Rattle.rpg_program.specs.declared.line.Time.{Time}
 use Rattle.rpg_program.specs.declared.line.Time.TheVariants as times
 use Rattle.rpg_cycle.proofs.Composing.{of_none}
@@ -17,8 +16,6 @@ use Rattle.rpg_cycle_records.specs.Earlier.{file_of, levels_of}
 use Rattle.rpg_cycle_records.specs.Paying.{moved_of}
 use Rattle.std.specs.Option.{ForSome}
 use Rattle.rpg_program.specs.declared.input.InputFile.TheVariants.{Primary, Secondary}
-use Rattle.rpg_cycle_records.specs.Identifying.{code_holds, has_position, same_file, trial_weight}
-use Rattle.rpg_program.specs.declared.input.InputFile.{InputFile}
 use Rattle.rpg_cycle.specs.Indicators.{level_indicators, with_all}
 use Rattle.rpg_cycle.specs.Phases.{all_off, has_no_overflow}
 use Rattle.rpg_cycle.specs.Spending.{SpendsSelecting, Spends, SpendsTakingIn, compared_weight, cycle_weight, fields_weight, full_page_weight, matched_weight, phases_weight, reach, record_weight, section_cost, totals_weight}
@@ -120,26 +117,6 @@ at_no_cost {p} {n} {a} {b} {c} h g = record { few = unpaid (reach p a) (reach p 
     unpaid x y z n h g = omega (arith, h, g)
 
 -- ---- the trying of types
-
-abbrev codes_there : List ℕ → TypeRow ℕ → Bool
-codes_there text t = list_all (has_position text) t.codes
-
-abbrev codes_hold : List ℕ → TypeRow ℕ → Bool
-codes_hold text t = list_all (code_holds text) t.codes
-
-at_most : (b : Bool) (codes rest weight others : ℕ) → codes ≤ weight → rest ≤ others → cond b (codes + rest) codes ≤ weight + others
-at_most true codes rest weight others h g = omega arith
-at_most false codes rest weight others h g = omega arith
-
-of_file : (own b : Bool) (codes rest weight others : ℕ) → codes ≤ weight → rest ≤ others → cond (not own) rest (cond b (codes + rest) codes) ≤ weight + others
-of_file true b codes rest weight others h g = at_most b codes rest weight others h g
-of_file false b codes rest weight others h g = omega (arith, g)
-
--- the codes that are tried are some of all that types have
-pub tried_few : (f : InputFile) (ts : List (TypeRow ℕ)) (text : List ℕ) → trial_weight f ts text ≤ types_weight ts
-tried_few f [] text = omega arith
-tried_few f (t ∷ ts) text =
-    of_file (same_file t.file f) (codes_there text t && not (codes_hold text t)) (length t.codes) (trial_weight f ts text) (type_weight t) (types_weight ts) (omega arith) (tried_few f ts text)
 
 -- ---- the records that are taken in, and the one that is selected
 

@@ -56,9 +56,6 @@ steps_low p m b h = low b.config.steps (b.config.allowance * most p) m h
 pub fewer : (x : ℕ) → x ≤ 2 ^ 48 → x ≤ 2 ^ 59
 fewer x h = omega (arith, h)
 
-pub alone_few : (x m k : ℕ) → x + m ≤ k → x ≤ k
-alone_few x m k h = omega (arith, h)
-
 -- nothing was spent
 pub unspent : (p : Object) (a : Running) → Spends p 0 a a
 unspent p a = record { few = same (reach p a) }

@@ -3,7 +3,7 @@ use Rattle.std.proofs.Common.{◌≡◌, ℕ, zero, suc, ◌+◌, ◌-◌, ◌*�
 use Rattle.std.proofs.Math.Nat.{div-div-eq-div-mul, add-mul-div_right}
 use Rattle.std.proofs.lemmas.Nat.{pow-add, mod-mul-add, mul-add-lt, div-mul-add}
 use Rattle.std.proofs.lemmas.Bool.{cases_lt}
-use Rattle.std.proofs.lemmas.List.{map_more, ext_get_or}
+use Rattle.std.proofs.lemmas.List.{map_more}
 use Rattle.rpg_decimal_words.specs.Place.{place_value, lowest_digits}
 use Rattle.rpg_decimal.proofs.WholeLemmas.{ten_pos}
 
@@ -95,17 +95,6 @@ place_digit (d ∷ ds) h i l =
           ∙ mod-eq_of_lt (h 0)
           ∙ ap (λ k. get_or (d ∷ ds) k 0) (sym at)
     ]
-
--- the digits of that number are these
-pub digits-place_value : (ds : List ℕ) → ((i : ℕ) → get_or ds i 0 < 10) → lowest_digits (length ds) (place_value ds) ≡ ds
-digits-place_value ds h =
-    let n = length ds in
-    let v = place_value ds in
-    ext_get_or 0 (lowest_digits n v) ds (length-digits n v)
-    (λ i l.
-    let low : i < n = rw (length-digits n v) at l in
-    let e : n - 1 - (n - 1 - i) ≡ i = omega arith in
-    get_or-digits n v i low ∙ place_digit ds h (n - 1 - i) (omega arith) ∙ ap (λ k. get_or ds k 0) e)
 
 -- each digit of a number is below ten
 pub get_or-digits-below : (k n i : ℕ) → get_or (lowest_digits k n) i 0 < 10

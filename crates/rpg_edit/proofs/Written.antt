@@ -33,10 +33,6 @@ quotient_next size k = div-div-eq-div-mul size (10 ^ k) 10 ∙ ap (λ p. size / 
 shorter : (n m : ℕ) (xs ys : List ℕ) → n ≤ m → take m xs ≡ take m ys → take n xs ≡ take n ys
 shorter n m xs ys h e = sym (take-take n m xs h) ∙ ap (take n) e ∙ take-take n m ys h
 
--- nothing is written
-pub writes-none : (p : Pass) (out : List ℕ) → Writes [] p out p out
-writes-none p out = record { text = refl; front = refl; same_length = refl; start = omega arith; after = omega arith; number = refl; suppression = refl }
-
 -- marks in front of others are written after them
 pub writes-more : (xs ys : List Mark) (p q s : Pass) (o r t : List ℕ) → Writes xs p o q r → Writes ys q r s t → Writes (ys ++ xs) p o s t
 writes-more xs ys p q s o r t one more =

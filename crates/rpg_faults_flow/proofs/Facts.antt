@@ -1,5 +1,5 @@
 -- What the rules F9, F10, F12, F13, F14 say of each calculation, with those before and after it.
-use Rattle.std.proofs.Common.{◌≡◌, ℕ, ◌+◌, Bool, true, false, not, cond, ◌&&◌, ◌||◌, List, [], ◌∷◌, ◌++◌, length, Option, None, Some, refl, sym, ap, ◌∙◌, arith, length-append}
+use Rattle.std.proofs.Common.{◌≡◌, ◌+◌, Bool, true, false, not, cond, ◌&&◌, ◌||◌, List, [], ◌∷◌, ◌++◌, length, Option, None, Some, refl, sym, ap, ◌∙◌, arith, length-append}
 use Rattle.std.specs.Prelude.{is_none, is_some, unwrap_or}
 use Rattle.std.specs.List.{last_or}
 use Rattle.std.specs.Option.{option_and_then, option_map, option_map_or}
@@ -115,9 +115,6 @@ tests_push so_far (j ∷ js) k = by (is_or j.control_level) (λ f. tests_push f 
 
 pub no_tests : (k : CalculationSpec) → depends k ≡ false → length (tests_on k) ≡ 0
 no_tests k e = ap (λ b. length (cond b (conditions_on k ∷ []) [])) e
-
-group_tests : CalculationGroup → ℕ
-group_tests g = tests (alternatives (tests_on g.first) g.followers)
 
 -- ---- the open group
 

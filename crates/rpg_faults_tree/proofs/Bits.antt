@@ -21,9 +21,6 @@ either x y p q = grind (arith, nat_tests)
 pub has_bit-or : (a b i : ℕ) → has_word_bit (bit_or a b) i ≡ (has_word_bit a i || has_word_bit b i)
 has_bit-or a b i = ap (λ n. n == 1) (bit_at_or a b i) ∙ either (bit_at a i) (bit_at b i) (bit_at-lt a i) (bit_at-lt b i)
 
-pub has_bit-zero : (i : ℕ) → has_word_bit 0 i ≡ false
-has_bit-zero i = ap (λ n. n == 1) (bit_at-zero i)
-
 pub has_bit-shift : (k i : ℕ) → k < 64 → has_word_bit (1 * 2 ^ k % 18446744073709551616) i ≡ (i == k)
 has_bit-shift k i small = by (i == k) refl
   where

@@ -7,7 +7,7 @@ use Rattle.rpg_cards.specs.Calculations.{CalculationGroup, calculation_ending, c
 use Rattle.rpg_cards.specs.Cards.{calculation_on, input_on, is_output_field, output_on}
 use Rattle.rpg_cards.specs.Groups as flat
 use Rattle.rpg_cards.specs.Statements.{Calculation}
-use Rattle.rpg_cards.specs.Groups.{input_card_role, input_role, joins, open_group, output_card_role, output_role, role_on, with_card}
+use Rattle.rpg_cards.specs.Groups.{input_card_role, input_role, open_group, output_card_role, output_role, with_card}
 use Rattle.rpg_cards.specs.Keys.{Key}
 use Rattle.rpg_cards.specs.Calls as old_calls
 use Rattle.rpg_cards.specs.Labels as old

@@ -19,14 +19,6 @@ marked_set marks m there n = by (nat_eq n m) refl
     by true e = rw (eqb-true n m e) (get_or-set_same marks m true false there) ∙ sym (or-true _)
     by false e = get_or-set_other marks m n true false (λ same. absurd (let yes = eq-eqb n m same in cc)) ∙ sym (or-false _)
 
--- a position that is past the marks
-pub marked_none : (marks : List Bool) (m : ℕ) → length marks ≤ m → (n : ℕ) → n < length marks → get_or marks n false ≡ (get_or marks n false || nat_eq n m)
-marked_none marks m past n below = sym (ap (λ b. get_or marks n false || b) (other (nat_eq n m) refl) ∙ or-false _)
-  where
-    other : (b : Bool) → nat_eq n m ≡ b → nat_eq n m ≡ false
-    other true e = let same = eqb-true n m e in absurd (omega arith)
-    other false e = e
-
 -- one more of several
 pub mark_more : (marks new : List Bool) (positions : List ℕ) (i m : ℕ) (start : ℕ → Bool) → i < length positions → m ≡ get_or positions i 0
     → ((n : ℕ) → n < length marks → get_or new n false ≡ (get_or marks n false || nat_eq n m))

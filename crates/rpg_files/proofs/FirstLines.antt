@@ -82,12 +82,6 @@ too_long limit xs n within long all more =
 pub open_whole : (limit : ℕ) (xs : List ℕ) (n : ℕ) → n ≡ length xs → n ≤ limit → list_all is_character (take n xs) ≡ true → IsIncomplete limit xs n
 open_whole limit xs n whole short all = record { short = short; within = omega arith; characters = all; following = inl (drop_all n xs (omega arith)) }
 
-last_byte : (xs : List ℕ) (n : ℕ) → n < length xs → length xs ≤ n + 1 → drop n xs ≡ get_or xs n 0 ∷ []
-last_byte [] n lt last = absurd (omega arith)
-last_byte (x ∷ []) zero lt last = refl
-last_byte (x ∷ y ∷ xs) zero lt last = absurd (omega arith)
-last_byte (x ∷ xs) (suc n) lt last = last_byte xs n (omega arith) (omega arith)
-
 -- characters, and characters after them
 pub joined : (xs : List ℕ) (a n : ℕ) → list_all is_character (take a xs) ≡ true → list_all is_character (take n (take (length xs - a) (drop a xs))) ≡ true → list_all is_character (take (a + n) xs) ≡ true
 joined xs a n first following =
@@ -111,10 +105,6 @@ open_line limit xs n is =
     let cut : xs ≡ take n xs ++ drop n xs = sym (append-nil xs) ∙ cut_before xs [] n ∙ ap (λ (ys : List ℕ). take n xs ++ ys) (append-nil (drop n xs)) in
     let back : is_line (drop n xs) ≡ true = elim is.following [ inl none ↦ ap is_line none | inr one ↦ ap is_line one ] in
     ap is_line cut ∙ list_all-append (λ b. not (is_line_feed b)) (take n xs) (drop n xs) ∙ and_from _ _ (characters_line (take n xs) is.characters) back
-
-pub empty_line : (xs : List ℕ) → length xs ≡ 0 → is_line xs ≡ true
-empty_line [] none = refl
-empty_line (x ∷ xs) none = absurd (omega arith)
 
 -- ---- at the end of the input
 

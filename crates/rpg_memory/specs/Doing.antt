@@ -1,5 +1,5 @@
 -- What is done to the data of a memory.
-use Rattle.std.specs.Prelude.{◌≡◌, ℕ, ◌≤◌}
+use Rattle.std.specs.Prelude.{◌≡◌, ◌≤◌}
 use Rattle.std.specs.Ordering.{nat_cmp}
 use Rattle.rpg_program.specs.Ended.{Ended, ends_with}
 use Rattle.rpg_program.specs.Ends.{End, Continues, Halt, Wrong}

@@ -5,7 +5,7 @@ use Rattle.std.proofs.lemmas.Option.{slice_get-get_or, slice_get-map, slice_get_
 use Rattle.std.specs.Option.{option_map}
 use Rattle.std.specs.Prelude.{get_or, nat_lt}
 use Rattle.rpg_program.specs.Forms.{form_at, is_text_constant}
-use Rattle.rpg_program.specs.Values.{Value, characters_of, entries_held}
+use Rattle.rpg_program.specs.Values.{characters_of, entries_held}
 use Rattle.rpg_program.specs.declared.value.FieldValues.{FieldValues}
 use Rattle.rpg_program.specs.Constants.{first_value, values_at, word_at}
 use Rattle.rpg_program.specs.Object.{Object}

@@ -1,5 +1,5 @@
 -- Results that follow one another.
-use Rattle.std.proofs.Common.{◌≡◌, ℕ, List, [], ◌++◌, refl, sym, ap, append_assoc, IfErr, IfOk, Result, Ok, Err}
+use Rattle.std.proofs.Common.{◌≡◌, List, ◌++◌, refl, sym, ap, append_assoc, IfErr, IfOk, Result, Ok, Err}
 use Rattle.rpg_record_decks.specs.Outcomes.{IsDeckFaultOf, and_then, onto}
 use Rattle.rpg_record_decks.specs.declared.fault.DeckFault.{DeckFault}
 use Rattle.rpg_record_decks.specs.declared.fault.DeckFault.TheVariants as faults
@@ -7,10 +7,6 @@ use Rattle.rpg_record_decks.specs.declared.fault.DeckFault.TheVariants as faults
 pub onto-onto : {T E : Type 0} → (xs ys : List T) (r : Result (List T) E) → onto xs (onto ys r) ≡ onto (xs ++ ys) r
 onto-onto xs ys (Ok zs) = ap Ok (sym (append_assoc xs ys zs))
 onto-onto xs ys (Err fault) = refl
-
-pub onto-nil : {T E : Type 0} → (r : Result (List T) E) → onto [] r ≡ r
-onto-nil (Ok xs) = refl
-onto-nil (Err fault) = refl
 
 -- a fault stays one whatever would follow
 pub fault_then : {T U : Type 0} → (r : Result T DeckFault) (next : T → Result U DeckFault) (fault : DeckFault) → IsDeckFaultOf r fault → IsDeckFaultOf (and_then r next) fault

@@ -1,5 +1,5 @@
 -- The layout of the records of a deck's file.
-use Rattle.std.specs.Prelude.{ℕ, ◌==◌, List, [], ◌∷◌, length, map, nat_lt, Bool, false, true, Option, Some, None, find, option_copied, Result, Ok, Err, if◌then◌else◌}
+use Rattle.std.specs.Prelude.{ℕ, List, [], ◌∷◌, length, map, nat_lt, Bool, false, true, Option, Some, None, find, option_copied, Result, Ok, Err, if◌then◌else◌}
 use Rattle.std.specs.List.{flat_map}
 use Rattle.rpg_records.specs.Seen.{LayoutSeen, NumberSeen, columns_seen}
 use Rattle.rpg_record_decks.specs.Cards.{cards_of}

@@ -238,11 +238,6 @@ gives front None c bytes p h = tt
 gives front (Some xs) None bytes p h = absurd p
 gives front (Some xs) (Some ys) bytes p h = (h, ap Some (sym (drop-append_seam bytes ys) ∙ ap (drop (length bytes)) (sym p)))
 
-so_far_read : (n : ℕ) (a b : Option (List ℕ)) (got : List ℕ) → SoFar n a b got → Consumes a b got
-so_far_read n None b got p = tt
-so_far_read n (Some xs) None got p = absurd p
-so_far_read n (Some xs) (Some ys) got p = p.0
-
 -- a line feed was met
 pub so_far_found : (n : ℕ) (a r c : Option (List ℕ)) (left got : List ℕ) → SoFar n a (prepend_known left r) got → list_any is_line_feed (take (n - length got) left) ≡ true
     → Consumes (prepend_known left r) c (first_line (n - length got) left) → GivesFront (first_line n) a c (got ++ first_line (n - length got) left)

@@ -17,18 +17,10 @@ few_lines n h = grind (arith, common_steps)
 many_lines : (n : ℕ) → 2000 < n → nat_lt 2000 n ≡ true
 many_lines n h = grind (arith, common_steps)
 
--- a line more
-pub after_more : (earlier more : List (List ℕ)) (line : List ℕ) → length earlier ≤ 2000
-    → unreadable_after earlier (line ∷ more) ≡ unreadable_at earlier line ++ unreadable_after (earlier ++ line ∷ []) more
-after_more earlier more line h = rw (few_lines (length earlier) h) refl
-
 -- no line more
 pub after_many : (earlier more : List (List ℕ)) → 2000 < length earlier → unreadable_after earlier more ≡ []
 after_many earlier [] h = refl
 after_many earlier (line ∷ more) h = rw (many_lines (length earlier) h) refl
-
-pub after_last : (earlier : List (List ℕ)) (line : List ℕ) → length earlier ≤ 2000 → unreadable_after earlier (line ∷ []) ≡ unreadable_at earlier line
-after_last earlier line h = rw (few_lines (length earlier) h) (append-nil (unreadable_at earlier line))
 
 -- a line without a fault, and one with a fault
 pub at_valid : (earlier : List (List ℕ)) (count latest : ℕ) (data_begun : Bool) (line : List ℕ) → AreLinesSeen earlier count latest data_begun → code_seen count latest data_begun line ≡ None → unreadable_at earlier line ≡ []

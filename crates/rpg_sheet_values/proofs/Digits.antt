@@ -1,5 +1,5 @@
 -- The number that at most ten digits write.
-use Rattle.std.proofs.Common.{◌≡◌, ℕ, ◌+◌, ◌-◌, ◌*◌, ◌^◌, ◌<◌, ◌≤◌, true, false, Bool, List, [], ◌∷◌, ◌++◌, length, get_or, drop, refl, sym, ap, ◌∙◌, arith, lit<, length-append, Some, None}
+use Rattle.std.proofs.Common.{◌≡◌, ℕ, ◌+◌, ◌-◌, ◌*◌, ◌^◌, ◌<◌, ◌≤◌, true, false, Bool, List, [], ◌∷◌, ◌++◌, length, get_or, drop, refl, sym, ap, ◌∙◌, arith, lit<, length-append, Some}
 use Rattle.std.specs.Prelude.{IsTrue, ◌&&◌}
 use Rattle.std.specs.List.{list_all}
 use Rattle.std.specs.Char.{is_ascii_digit, digit_value}
@@ -72,7 +72,3 @@ both_fit whole following all more =
 pub when_some : (b : Bool) (x y : ℕ) → when b x ≡ Some y → (b ≡ true) × (x ≡ y)
 when_some true x y e = (refl, cc)
 when_some false x y e = absurd cc
-
-pub when_none : (b : Bool) (x : ℕ) → when b x ≡ None → b ≡ false
-when_none true x e = absurd cc
-when_none false x e = refl

@@ -1,4 +1,4 @@
-use Rattle.std.proofs.Common.{ℕ, Option, ◌+◌, ◌≤◌, ◌<◌, ◌^◌, ◌∙◌, sym, subst}
+use Rattle.std.proofs.Common.{ℕ, Option, ◌+◌, ◌≤◌, ◌^◌, ◌∙◌, sym, subst}
 use Rattle.rpg_cycle.proofs.AfterSelection.{by_left}
 use Rattle.rpg_cycle.proofs.Composing.{ends, goes, memory_both, ok_of_err, passed_map, passed_memory, passed_stops, same_program}
 use Rattle.rpg_cycle.proofs.Growing.{and_grows, and_same}

@@ -1,4 +1,4 @@
-use Rattle.std.proofs.Common.{◌≡◌, ◌≤◌, ◌<◌, ◌+◌, ◌^◌, refl, sym, ap, subst}
+use Rattle.std.proofs.Common.{◌≤◌, ◌<◌, ◌+◌, ◌^◌, refl, sym, ap, subst}
 use Rattle.rpg_cycle.proofs.Composing.{memory_map}
 use Rattle.rpg_cycle.proofs.Spending.{full_reach, phases_bounded, phases_few}
 use Rattle.rpg_cycle.specs.Cycled.{DoesPhases, KeepsWell}

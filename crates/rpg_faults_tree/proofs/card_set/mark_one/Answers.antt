@@ -1,4 +1,4 @@
-use Rattle.rpg_faults_tree.proofs.Marking.{marked_none, marked_set}
+use Rattle.rpg_faults_tree.proofs.Marking.{marked_set}
 use Rattle.std.proofs.Common.{arith}
 use Rattle.rpg_faults_tree.proofs.card_set.mark_one.Goals as goal
 

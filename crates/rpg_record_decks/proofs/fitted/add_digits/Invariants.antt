@@ -1,4 +1,4 @@
-use Rattle.std.proofs.Common.{◌≡◌, ◌++◌, ◌^◌, ◌<◌, drop, map}
+use Rattle.std.proofs.Common.{◌≡◌, ◌++◌, drop, map}
 use Rattle.rpg_records.specs.Seen.{number_seen}
 use Rattle.rpg_record_decks.specs.Fitted.{digit_columns_after}
 use Rattle.rpg_record_decks.proofs.fitted.add_digits.Given as goal

@@ -1,4 +1,4 @@
-use Rattle.std.proofs.Common.{◌≡◌, ◌<◌, ◌+◌, ◌∷◌, List, ap, arith, drop, length, subst, sym, true, ◌∙◌, Result}
+use Rattle.std.proofs.Common.{◌≡◌, ◌<◌, ◌+◌, List, ap, arith, drop, length, subst, sym, true, ◌∙◌, Result}
 use Rattle.std.proofs.lemmas.Grind.{common_steps}
 use Rattle.std.proofs.lemmas.Result.{err_from_is_err_and}
 use Rattle.rpg_record_decks.proofs.TypeLemmas.{card_next}

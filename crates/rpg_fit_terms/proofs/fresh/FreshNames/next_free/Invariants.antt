@@ -1,4 +1,4 @@
-use Rattle.std.proofs.Common.{◌≡◌, ℕ, ◌<◌, ◌≤◌}
+use Rattle.std.proofs.Common.{ℕ, ◌<◌, ◌≤◌}
 use Rattle.rpg_fit_terms.specs.Fresh.{IsTaken}
 use Rattle.rpg_fit_terms.proofs.fresh.FreshNames.next_free.Given as goal
 
