@@ -44,7 +44,8 @@ fn cycle_with<S: Store + Drop>(
     }
 }
 
-/// Reads the next record of a file if it is needed; otherwise reads nothing.
+/// Reads the next record of a file if it is needed; otherwise reads nothing. Inlined: most programs have no secondary file.
+#[inline(always)]
 fn read_if_needed<R: Read>(
     records: &mut RecordReader<'_, R>,
     is_needed: bool,

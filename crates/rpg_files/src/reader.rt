@@ -142,6 +142,7 @@ impl<'a, R: Read> RecordReader<'a, R> {
     }
 
     /// Reads the next record. Any result other than a record is repeated from then on.
+    #[inline(never)]
     pub fn next(&mut self) -> Result<Next, ReadFault>
         requires { faults_of (reader_of self.old) < 2 ^ 64 - 1 }
         ensures same_reader { self.new.reader.ghost_name ≡ self.old.reader.ghost_name }
