@@ -16,7 +16,7 @@ use Rattle.rpg_causes.specs.Places.{is_outside}
 use Rattle.rpg_causes.specs.declared.joins.FirstLength.{FirstLength}
 use Rattle.rpg_causes.specs.declared.joins.FirstMatched.{FirstMatched}
 use Rattle.rpg_causes.specs.declared.joins.JoinCause.TheVariants.{LongLevel, LongMatches, MatchedTwice, OtherLength, OtherMatches}
-use Rattle.rpg_faults.specs.Places.{first_length, first_valid_matches, valid_matches, has_bad, has_other_lengths, has_other_matches, has_twice, input_columns, joined_length, joins_badly, level_length, lengths_differ, levels, matched_fields, match_lengths, matches_differ, misplaces, open_matches, open_specs, outside_line, outside_on_input, own_file, passes_length, refuses, repeats}
+use Rattle.rpg_faults_places.specs.Places.{first_length, first_valid_matches, valid_matches, has_bad, has_other_lengths, has_other_matches, has_twice, input_columns, joined_length, joins_badly, level_length, lengths_differ, levels, matched_fields, match_lengths, matches_differ, misplaces, open_matches, open_specs, outside_line, outside_on_input, own_file, passes_length, refuses, repeats}
 use Rattle.rpg_sheet_specs.specs.declared.input.InputFieldSpec.{InputFieldSpec}
 use Rattle.rpg_sheet_specs.specs.declared.input.InputSpec.{InputSpec}
 use Rattle.rpg_sheet_specs.specs.declared.input.InputSpec.TheVariants as input

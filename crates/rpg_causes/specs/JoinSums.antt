@@ -4,7 +4,7 @@ use Rattle.std.specs.List.{filter}
 use Rattle.rpg_cards.specs.Levels.{is_at, is_match_field, match_level}
 use Rattle.rpg_cards.specs.declared.spec_card.SpecCard.{SpecCard}
 use Rattle.rpg_causes.specs.Joins.{matched}
-use Rattle.rpg_faults.specs.Places.{input_columns, match_lengths, repeats}
+use Rattle.rpg_faults_places.specs.Places.{input_columns, match_lengths, repeats}
 use Rattle.rpg_sheet_specs.specs.declared.input.InputFieldSpec.{InputFieldSpec}
 
 -- the columns of a match level up to the next type

@@ -9,7 +9,7 @@ use Rattle.rpg_causes.specs.declared.joins.FirstLength.{FirstLength}
 use Rattle.rpg_causes.specs.declared.joins.FirstMatched.{FirstMatched}
 use Rattle.rpg_causes.specs.declared.joins.JoinCause.{JoinCause}
 use Rattle.rpg_causes.specs.declared.joins.JoinCause.TheVariants.{LongLevel, LongMatches, MatchedTwice, OtherLength, OtherMatches}
-use Rattle.rpg_faults.specs.Places.{valid_matches, input_columns, joined_length, level_length, levels, matched_fields}
+use Rattle.rpg_faults_places.specs.Places.{valid_matches, input_columns, joined_length, level_length, levels, matched_fields}
 use Rattle.rpg_sheet_specs.specs.declared.input.InputFieldSpec.{InputFieldSpec}
 use Rattle.rpg_sheet_specs.specs.declared.input.InputSpec.{InputSpec}
 use Rattle.rpg_sheet_specs.specs.declared.input.InputSpec.TheVariants as input

@@ -9,7 +9,7 @@ use Rattle.rpg_causes.specs.Files.{file_of_name}
 use Rattle.rpg_causes.specs.declared.files.FileOnCard.{FileOnCard}
 use Rattle.rpg_causes.specs.declared.places.PlaceCause.{PlaceCause}
 use Rattle.rpg_causes.specs.declared.places.PlaceCause.TheVariants.{NoColumn, NoEnd, NoPosition, PastLine, PastRecord, PositionPast, TurnedRound, Wider}
-use Rattle.rpg_faults.specs.Places.{outside_line, outside_on_input, own_file}
+use Rattle.rpg_faults_places.specs.Places.{outside_line, outside_on_input, own_file}
 use Rattle.rpg_faults_operands.specs.Editing.{width}
 use Rattle.rpg_sheet_specs.specs.declared.column_range.ColumnRange.{ColumnRange}
 use Rattle.rpg_sheet_specs.specs.declared.column_range.ColumnRange.TheVariants as range

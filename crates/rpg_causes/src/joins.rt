@@ -7,8 +7,8 @@ ghost use Rattle.rpg_cards.specs.Groups.{followers, input_role};
 ghost use Rattle.rpg_cards.specs.Levels.{is_at, match_level};
 ghost use Rattle.rpg_causes.specs.Joins as causes;
 ghost use Rattle.rpg_causes.specs.JoinSums as sums;
-ghost use Rattle.rpg_faults.specs.Lengths.{some_length};
-ghost use Rattle.rpg_faults.specs.Places as rules;
+ghost use Rattle.rpg_faults_places.specs.Lengths.{some_length};
+ghost use Rattle.rpg_faults_places.specs.Places as rules;
 
 use rpg_cards::SpecCard;
 use rpg_sheet_specs::{InputFieldSpec, InputSpec};
@@ -387,7 +387,7 @@ fn valid_matches(cards: &[SpecCard]) -> Option<[u32; 9]>
     valid_lengths(cards)
 }
 
-#[tactic(auto, unfolding(rpg_faults::specs::Places::levels))]
+#[tactic(auto, unfolding(rpg_faults_places::specs::Places::levels))]
 fn valid_lengths(cards: &[SpecCard]) -> Option<[u32; 9]>
     requires { length cards.now ≤ 2000 }
     ensures { result ≡ sums.valid_lengths (causes.matched cards.now) }

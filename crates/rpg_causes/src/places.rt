@@ -6,7 +6,7 @@ ghost use Rattle.rpg_cards.specs.Groups.{input_role, open_file};
 ghost use Rattle.rpg_causes.specs.Files as files;
 ghost use Rattle.rpg_causes.specs.Places as causes;
 ghost use Rattle.rpg_causes.specs.Places.{SameLength};
-ghost use Rattle.rpg_faults.specs.Places as rules;
+ghost use Rattle.rpg_faults_places.specs.Places as rules;
 ghost use Rattle.rpg_sheet_specs.specs.declared.file.FileSpec.{FileSpec};
 
 use crate::files::{FileOnCard, file_of_name, open_line_file};

@@ -21,7 +21,7 @@ use Rattle.rpg_faults_operands.specs.Indexes.{bad_index}
 use Rattle.rpg_faults_operands.specs.Kinds.{wrong_operand}
 use Rattle.rpg_faults_operands.specs.Names.{lacks_name}
 use Rattle.rpg_faults_data.specs.Data.{breaks_data}
-use Rattle.rpg_faults.specs.Places.{misplaces}
+use Rattle.rpg_faults_places.specs.Places.{misplaces}
 use Rattle.rpg_compile_program.specs.Rules.{KeepsCardRules}
 
 -- where what breaks a rule would be a fault, no card breaks it

@@ -5,7 +5,7 @@ use Rattle.rpg_cards.specs.Cards.{input_on, output_field_on}
 use Rattle.rpg_cards.specs.Files.{file_by}
 use Rattle.rpg_cards.specs.Groups.{open_file, output_role}
 use Rattle.rpg_cards.specs.declared.spec_card.SpecCard.{SpecCard}
-use Rattle.rpg_faults.specs.Places.{joins_badly, outside_line, outside_on_input, own_file}
+use Rattle.rpg_faults_places.specs.Places.{joins_badly, outside_line, outside_on_input, own_file}
 use Rattle.rpg_verify_rules.proofs.Kept.{NoneTrue}
 use Rattle.rpg_verify_rules.specs.Accepted.{IsAccepted}
 use Rattle.rpg_verify_rules.specs.Rules.{broken}

@@ -21,7 +21,7 @@ use Rattle.rpg_program.specs.declared.form.Kind.TheVariants as kind
 use Rattle.rpg_program.specs.declared.input.RecordCode as row_code
 use Rattle.rpg_faults_limits.specs.Files.{bad_file, lacks_file}
 use Rattle.rpg_faults_operands.specs.Indicators.{bad_on, bad_on_field, bad_on_input, cannot_mark_type}
-use Rattle.rpg_faults.specs.Places.{bad_codes, is_code_outside, is_past, outside_on_input, outside_record, own_file, joins_badly}
+use Rattle.rpg_faults_places.specs.Places.{bad_codes, is_code_outside, is_past, outside_on_input, outside_record, own_file, joins_badly}
 use Rattle.rpg_program.specs.Kept.{IsIndicator}
 use Rattle.rpg_verify_rules.specs.Indicators.{if_any, is_of_type}
 use Rattle.rpg_verify_rules.specs.TypeRules.{is_code_in}

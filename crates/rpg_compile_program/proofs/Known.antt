@@ -11,7 +11,7 @@ use Rattle.rpg_cards.specs.declared.spec_card.SpecCard.{SpecCard}
 use Rattle.rpg_program.specs.Forms.{has_field}
 use Rattle.rpg_faults_limits.specs.Limits.{bad_entries, bad_entries_of, passes_on_calculations, passes_on_lines, passes_on_types, passes_storage}
 use Rattle.rpg_faults_operands.specs.Names.{is_undefined}
-use Rattle.rpg_faults.specs.Places.{joins_badly, outside_line, outside_on_input, own_file}
+use Rattle.rpg_faults_places.specs.Places.{joins_badly, outside_line, outside_on_input, own_file}
 use Rattle.rpg_sheet_specs.specs.declared.input.InputSpec.{InputSpec}
 use Rattle.rpg_sheet_specs.specs.declared.input.InputSpec.TheVariants as input
 use Rattle.rpg_compile_program.proofs.Definitions.{all_defined, is_turned}

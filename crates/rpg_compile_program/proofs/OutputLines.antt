@@ -35,7 +35,7 @@ use Rattle.rpg_program.specs.declared.line.File.{File}
 use Rattle.rpg_program.specs.declared.line.File.TheVariants as put
 use Rattle.rpg_program.specs.declared.line.LineField.{LineField}
 use Rattle.rpg_edit_marks.specs.declared.code.Fill.{Fill}
-use Rattle.rpg_faults.specs.Places.{is_past, outside_line}
+use Rattle.rpg_faults_places.specs.Places.{is_past, outside_line}
 use Rattle.rpg_program.specs.Constants.{word_at}
 use Rattle.rpg_program.specs.Object.{Object, file_length}
 use Rattle.rpg_effect_renaming.proofs.Lines.{keeps_same}

@@ -16,7 +16,7 @@ use Rattle.rpg_faults_operands.specs.Indexes.{bad_index}
 use Rattle.rpg_faults_operands.specs.Kinds.{wrong_operand}
 use Rattle.rpg_faults_operands.specs.Names.{lacks_name}
 use Rattle.rpg_faults_data.specs.Data.{breaks_data}
-use Rattle.rpg_faults.specs.Places.{misplaces}
+use Rattle.rpg_faults_places.specs.Places.{misplaces}
 
 -- a program needs nothing of F11 and F15
 pub record KeepsCardRules (cards : List SpecCard) : Type 0 where

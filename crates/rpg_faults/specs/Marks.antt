@@ -1,17 +1,14 @@
 -- Which columns of a card a fault points at; none for the card as a whole.
-use Rattle.std.specs.Prelude.{◌≡◌, ℕ, ◌==◌, List, ◌∷◌, ◌++◌, Option, None, Some, if◌then◌else◌}
-use Rattle.std.specs.Option.{option_map, option_map_or, option_or}
-use Rattle.rpg_cards.specs.Cards.{extension_on, input_on, output_field_on}
-use Rattle.rpg_cards.specs.Files.{file_by}
+use Rattle.std.specs.Prelude.{List, ◌∷◌, ◌++◌, Option, Some, if◌then◌else◌}
+use Rattle.std.specs.Option.{option_map, option_or}
+use Rattle.rpg_cards.specs.Cards.{extension_on}
 use Rattle.rpg_cards.specs.declared.spec_card.SpecCard.{SpecCard}
-use Rattle.rpg_faults.specs.Lengths.{AreOpenLengths}
-use Rattle.rpg_faults.specs.Places.{is_code_outside, outside_record, own_file, passes_length}
 use Rattle.rpg_faults.specs.declared.code.FaultCode.{FaultCode}
-use Rattle.rpg_faults.specs.declared.lengths.JoinedLengths.{JoinedLengths}
 use Rattle.rpg_faults.specs.declared.code.FaultCode.TheVariants.{F1, F2, F3, F4, F5, F6, F7, F8, F9, F10, F11, F12, F13, F14, F15, F16, F17, F18}
 use Rattle.rpg_faults_flow.specs.Columns as calculations
 use Rattle.rpg_faults_flow.specs.Marks as flow
 use Rattle.rpg_faults_limits.specs.Marks as limits
+use Rattle.rpg_faults_places.specs.Marks.{place_columns}
 use Rattle.rpg_faults_operands.specs.Columns as columns
 use Rattle.rpg_faults_operands.specs.IndicatorMarks as indicators
 use Rattle.rpg_faults_operands.specs.Marks as operands
@@ -19,45 +16,6 @@ use Rattle.rpg_sheet_specs.specs.Ranges.{columns_of}
 use Rattle.rpg_sheet_specs.specs.declared.column.ColumnFault.{ColumnFault}
 use Rattle.rpg_sheet_specs.specs.declared.column_range.ColumnRange.{ColumnRange}
 use Rattle.rpg_sheet_specs.specs.declared.column_range.ColumnRange.TheVariants as range
-use Rattle.rpg_sheet_specs.specs.declared.file.FileSpec.{FileSpec}
-use Rattle.rpg_sheet_specs.specs.declared.indicator.Three.{Three}
-use Rattle.rpg_sheet_specs.specs.declared.input.InputFieldSpec.{InputFieldSpec}
-use Rattle.rpg_sheet_specs.specs.declared.input.InputSpec.{InputSpec}
-use Rattle.rpg_sheet_specs.specs.declared.input.InputSpec.TheVariants as input
-use Rattle.rpg_sheet_specs.specs.declared.input.RecordCode.{RecordCode}
-
--- ---- F16: the first code that is outside; for a field its wrong column, or its control level or match level
-
--- the columns of the first record code that is outside the record
-abbrev pub code_columns : Option FileSpec → Three (Option RecordCode) → Option ColumnRange
-code_columns file codes =
-    if is_code_outside file codes.first then Some range.FirstCode
-    else if is_code_outside file codes.second then Some range.SecondCode
-    else if is_code_outside file codes.third then Some range.ThirdCode
-    else None
-
--- the columns of an input field that break the rule
-abbrev pub field_range : Option FileSpec → List SpecCard → InputFieldSpec → ColumnRange
-field_range file before f =
-    if f.from == 0 then range.FirstColumn
-    else if outside_record file f then range.LastColumn
-    else if passes_length before f then range.InputLevel
-    else range.InputMatch
-
--- the columns of an I card that break the rule
-abbrev pub place_on_input : Option FileSpec → List SpecCard → InputSpec → Option ColumnRange
-place_on_input file before (input.Type t) = code_columns file t.codes
-place_on_input file before (input.And codes) = code_columns file codes
-place_on_input file before (input.Field f) = Some (field_range file before f)
-
--- the range for any file of that record length, and any cards before with these lengths
-abbrev pub DetectsRange : {X : Type 0} → (Option FileSpec → List SpecCard → X) → Option ℕ → JoinedLengths → X → Type 0
-DetectsRange range_of length lengths answer =
-    (file : Option FileSpec) (before : List SpecCard) → length ≡ option_map (λ f. f.record_length) file → AreOpenLengths before lengths → answer ≡ range_of file before
-
--- the columns that break the rule of places in records and lines
-abbrev pub place_columns : List SpecCard → List SpecCard → SpecCard → Option ColumnRange
-place_columns cards before c = option_map_or (λ i. place_on_input (file_by (own_file before i) cards) before i) (input_on c.spec) (option_map (λ f. range.EndPosition) (output_field_on c.spec))
 
 -- ---- F18: the entries per card, which require data
 

@@ -19,7 +19,7 @@ use Rattle.rpg_faults_operands.specs.Indexes.{bad_index}
 use Rattle.rpg_faults_operands.specs.Kinds.{wrong_operand}
 use Rattle.rpg_faults_operands.specs.Names.{lacks_name}
 use Rattle.rpg_faults_data.specs.Data.{breaks_data}
-use Rattle.rpg_faults.specs.Places.{misplaces}
+use Rattle.rpg_faults_places.specs.Places.{misplaces}
 
 -- what a card breaks, given the cards before it and those after it
 unfoldable pub rule : FaultCode → Rule

@@ -1,21 +1,19 @@
 //! The first fault.
 
-ghost use Rattle.std.specs.Prelude.{◌≡◌, ◌≤◌, [], ◌∷◌, find, length, IfOk, MatchOption};
+ghost use Rattle.std.specs.Prelude.{◌≡◌, ◌≤◌, [], ◌∷◌, ◌++◌, find, length, IfOk, MatchOption};
 ghost use Rattle.rpg_cards.specs.Cards.{Numbered};
 ghost use Rattle.rpg_faults.specs.Faults as faults;
 ghost use Rattle.rpg_faults.specs.Judged.{IsJudged};
 ghost use Rattle.rpg_faults.specs.Rules as rules;
-ghost use Rattle.rpg_faults.specs.Seen.{AreCardsSeen};
 
 use crate::breach::breaks;
 use crate::code::FaultCode;
 use crate::fault::Fault;
-use crate::seen::Seen;
+use crate::listed::ListedCards;
 use rpg_card_index::{CardIndex, IndexedCards};
 use rpg_cards::SpecCard;
 use rpg_faults_limits::lacks_input;
 use rpg_faults_operands::has_valid_operands;
-use rpg_faults_tree::AnalyzedCards;
 use std::alloc::{AllocError, Global};
 
 /// Returns the first fault by card, then by code, or None if there is no fault. Card 0 is the source as a whole. Fails only if memory runs out.
@@ -39,8 +37,8 @@ pub(crate) fn faultless_index(
 {
     let source = IndexedCards::new(alloc, cards)?;
     let fault = {
-        let analyzed = AnalyzedCards::new(alloc, &source)?;
-        least_fault(&analyzed)
+        let listed = ListedCards::new(alloc, &source)?;
+        least_fault(&listed)
     };
     match fault {
         Some(fault) => Ok(Err(fault)),
@@ -48,10 +46,10 @@ pub(crate) fn faultless_index(
     }
 }
 
-fn least_fault(source: &AnalyzedCards) -> Option<Fault>
-    ensures { result ≡ faults.least_fault source.now.cards.now }
+fn least_fault(source: &ListedCards) -> Option<Fault>
+    ensures { result ≡ faults.least_fault source.now }
 {
-    if lacks_input(source.cards) {
+    if lacks_input(source.analyzed().cards) {
         return Some(Fault {
             card: 0,
             code: FaultCode::F7,
@@ -61,20 +59,20 @@ fn least_fault(source: &AnalyzedCards) -> Option<Fault>
 }
 
 /// Returns the lowest code of the first card that breaks a rule.
-fn first_on_cards(source: &AnalyzedCards) -> Option<Fault>
-    ensures { result ≡ faults.least_fault_from [] source.now.cards.now }
+fn first_on_cards(source: &ListedCards) -> Option<Fault>
+    ensures { result ≡ faults.least_fault_from [] source.now }
 {
-    let cards = source.cards;
-    let mut seen = Seen::nothing(source);
+    let cards = source.analyzed().cards;
+    let mut before = &cards.as_slice()[..0];
     let mut rest = cards.as_slice();
     while let Some((card, after)) = rest.split_first() {
-        if let Some(code) = least_code(source, &seen, card, after) {
+        if let Some(code) = least_code(source, before, card, after) {
             return Some(Fault {
                 card: card.number,
                 code,
             });
         }
-        seen.pass(cards, card, after);
+        before = cards.up_to(before, card, after);
         rest = after;
     }
     None
@@ -82,17 +80,17 @@ fn first_on_cards(source: &AnalyzedCards) -> Option<Fault>
 
 /// Returns the lowest code whose rule a card breaks.
 fn least_code(
-    source: &AnalyzedCards,
-    seen: &Seen,
+    source: &ListedCards,
+    before: &[SpecCard],
     card: &SpecCard,
     after: &[SpecCard],
 ) -> Option<FaultCode>
-    requires { AreCardsSeen source.now.cards.now (card.now ∷ after.now) seen.now }
-    ensures { result ≡ find (λ code. rules.rule code seen.now.before.now card.now after.now) faults.codes }
+    requires { source.now ≡ before.now ++ card.now ∷ after.now }
+    ensures { result ≡ find (λ code. rules.rule code before.now card.now after.now) faults.codes }
 {
-    let is_valid = has_valid_operands(source.cards, card, after);
+    let is_valid = has_valid_operands(source.analyzed().cards, card, after);
     for code in FaultCode::all() {
-        if breaks(code, source, seen, is_valid, card, after) {
+        if breaks(code, source, is_valid, before, card, after) {
             return Some(code);
         }
     }

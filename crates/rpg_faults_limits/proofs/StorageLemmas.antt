@@ -1,5 +1,5 @@
 -- Names and constants of the first cards of a source, and of a source that is within the limits.
-use Rattle.std.proofs.Common.{◌≡◌, ℕ, ◌+◌, ◌*◌, ◌<◌, ◌≤◌, Bool, true, false, cond, ◌&&◌, ◌||◌, List, [], ◌∷◌, ◌++◌, length, take, Option, None, Some, refl, sym, ap, ◌∙◌, arith, append_assoc}
+use Rattle.std.proofs.Common.{◌≡◌, ℕ, ◌≤◌, Bool, true, false, cond, ◌&&◌, List, [], ◌∷◌, ◌++◌, length, take, None, Some, refl, sym, ap, ◌∙◌, arith, append_assoc}
 use Rattle.std.proofs.Math.Seq.{take-append_seam}
 use Rattle.std.proofs.lemmas.Bool.Decides.{nat_tests}
 use Rattle.std.specs.Prelude.{nat_le, nat_lt, sum_by}
@@ -8,7 +8,7 @@ use Rattle.rpg_card_index.specs.Totals.{constant_size, definition_bytes}
 use Rattle.rpg_cards.proofs.ItemLemmas.{constants_in-append, definitions-append}
 use Rattle.rpg_cards.specs.Constants.{constants, constants_in, is_same}
 use Rattle.rpg_cards.specs.Insertions.{insert_all}
-use Rattle.rpg_cards.specs.Names.{definitions, given_names, names, same_name}
+use Rattle.rpg_cards.specs.Names.{definitions, given_names, same_name}
 use Rattle.rpg_cards.specs.declared.spec_card.SpecCard.{SpecCard}
 use Rattle.rpg_faults_limits.proofs.ApartLemmas.{none_of_four}
 use Rattle.rpg_faults_limits.specs.Causes.{measure_of, of_count, on_storage}

@@ -1,6 +1,8 @@
 pub mod Causes
+pub mod Entries
 pub mod Files
 pub mod Limits
+pub mod Listed
 pub mod Marks
 pub mod Names
 pub mod Sheets

@@ -7,6 +7,7 @@ mod filled;
 mod items;
 mod limits;
 mod lines;
+mod listed;
 mod marks;
 mod measures;
 mod names;
@@ -16,7 +17,8 @@ mod storage;
 mod types;
 
 pub use files::{breaks_files, lacks_input, moves_disk};
-pub use limits::{limit_cause, passes_limit};
+pub use limits::limit_cause;
+pub use listed::{FileAndLimitFaults, file_and_limit_faults};
 pub use marks::{
     file_columns, limit_columns, movement_columns, redefined_columns, size_columns, stray_columns,
 };

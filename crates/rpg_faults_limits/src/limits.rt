@@ -6,24 +6,25 @@ ghost use Rattle.rpg_cards.specs.Groups.{input_role, open_group, output_role};
 ghost use Rattle.rpg_faults_limits.specs.Sheets.{AreSheets};
 ghost use Rattle.rpg_faults_limits.specs.Causes as causes;
 ghost use Rattle.rpg_faults_limits.specs.Limits as rules;
-ghost use Rattle.rpg_faults_limits.specs.State.{AreCalculations, AreItems, AreLimits, HasFewOnLine, HasFewOnType, IsOpenLine, IsOpenType};
+ghost use Rattle.rpg_faults_limits.specs.State.{AreCalculations, AreGroupCounts, AreItemsOrKept, AreLimits, HasFewOnLine, HasFewOnType, IsOpenLine, IsOpenType};
 
 use crate::calculations::Calculations;
 use crate::items::Items;
 use crate::lines::OpenLine;
 use crate::measures::{Limit, LimitCause, counted, first_past};
 use crate::sheets::Sheets;
-use crate::state::Limits;
-use crate::storage::{all_names, constants_in, keeps_storage, names_in};
+use crate::state::{GroupCounts, Limits};
+use crate::storage::{all_names, constants_in, names_in};
 use crate::types::OpenType;
 use rpg_card_index::IndexedCards;
 use rpg_cards::SpecCard;
 
 /// F6: a limit that is exceeded with the card.
-pub fn passes_limit(
+pub(crate) fn passes_limit(
     source: &IndexedCards,
     sheets: &Sheets,
-    limits: &Limits,
+    items: Option<Items>,
+    counts: &GroupCounts,
     before: &[SpecCard],
     card: &SpecCard,
     after: &[SpecCard],
@@ -31,10 +32,11 @@ pub fn passes_limit(
     requires split { source.now ≡ before.now ++ card.now ∷ after.now }
     requires few { length source.now ≤ 2000 }
     requires sheets { AreSheets source.now before.now sheets.now }
-    requires limits { AreLimits before.now (card.now ∷ after.now) limits.now }
+    requires items { AreItemsOrKept source.now before.now items }
+    requires counts { AreGroupCounts before.now (card.now ∷ after.now) counts.now }
     ensures { result ≡ rules.passes_limit source.now before.now card.now after.now }
 {
-    limit_cause(source, sheets, limits, before, card, after).is_some()
+    passed(source, sheets, items, counts, before, card, after).is_some()
 }
 
 /// F6: which limit is exceeded with the card.
@@ -53,14 +55,16 @@ pub fn limit_cause(
     ensures cause { result ≡ causes.limit_cause source.now before.now card.now after.now }
     ensures rule { is_some result ≡ rules.passes_limit source.now before.now card.now after.now }
 {
-    passed(source, sheets, limits, before, card, after)
+    let items = Some(limits.items);
+    passed(source, sheets, items, &limits.counts, before, card, after)
 }
 
 #[tactic(auto, unfolding(crate::specs::Causes::limit_cause))]
 fn passed(
     source: &IndexedCards,
     sheets: &Sheets,
-    limits: &Limits,
+    items: Option<Items>,
+    counts: &GroupCounts,
     before: &[SpecCard],
     card: &SpecCard,
     after: &[SpecCard],
@@ -68,26 +72,27 @@ fn passed(
     requires split { source.now ≡ before.now ++ card.now ∷ after.now }
     requires few { length source.now ≤ 2000 }
     requires sheets { AreSheets source.now before.now sheets.now }
-    requires limits { AreLimits before.now (card.now ∷ after.now) limits.now }
+    requires items { AreItemsOrKept source.now before.now items }
+    requires counts { AreGroupCounts before.now (card.now ∷ after.now) counts.now }
     ensures { result ≡ causes.limit_cause source.now before.now card.now after.now }
 {
     let entries = of_entries(card);
     if entries.is_some() {
         return entries;
     }
-    let types = on_types(source, sheets, limits.open_type, before, card);
+    let types = on_types(source, sheets, counts.open_type, before, card);
     if types.is_some() {
         return types;
     }
-    let lines = on_lines(source, sheets, limits.open_line, before, card);
+    let lines = on_lines(source, sheets, counts.open_line, before, card);
     if lines.is_some() {
         return lines;
     }
-    let calculations = on_calculations(limits.calculations, before, card, after);
+    let calculations = on_calculations(counts.calculations, before, card, after);
     if calculations.is_some() {
         return calculations;
     }
-    on_storage(source, limits.items, before, card, after)
+    on_storage(source, items, before, card, after)
 }
 
 /// Checks the number of entries.
@@ -195,19 +200,19 @@ fn on_calculations(
 /// Checks names and constants, and their bytes. If those of the whole source are within the limits, no card exceeds one.
 fn on_storage(
     source: &IndexedCards,
-    items: Items,
+    items: Option<Items>,
     before: &[SpecCard],
     card: &SpecCard,
     after: &[SpecCard],
 ) -> Option<LimitCause>
     requires split { source.now ≡ before.now ++ card.now ∷ after.now }
     requires few { length source.now ≤ 2000 }
-    requires items { AreItems before.now items }
+    requires items { AreItemsOrKept source.now before.now items }
     ensures { result ≡ causes.on_storage source.now before.now card.now }
 {
-    if keeps_storage(source) {
+    let Some(items) = items else {
         return None;
-    }
+    };
     let front = source.up_to(before, card, after);
     let with = items.with(before, card);
     let all = all_names(source);

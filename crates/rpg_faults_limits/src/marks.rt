@@ -1,35 +1,33 @@
 //! Which columns of a card a fault of names, limits, files or order points at.
 
 ghost use Rattle.std.specs.Prelude.{◌≡◌, ◌∷◌, ◌++◌, ◌≤◌, length};
-ghost use Rattle.rpg_cards.specs.Names.{definitions};
+ghost use Rattle.rpg_cards.specs.Names as names_of;
 ghost use Rattle.rpg_faults_limits.specs.Marks as marks;
 ghost use Rattle.rpg_faults_limits.specs.Names as names;
-ghost use Rattle.rpg_faults_limits.specs.State.{AreLimits};
 
 use crate::files::ends_apart;
 use crate::limits::has_bad_entries;
 use crate::names::{is_bad_table, is_other};
-use crate::state::Limits;
 use rpg_card_index::{FirstCards, IndexedCards};
 use rpg_cards::{Definition, FileUse, SpecCard, sized_form, use_of};
 use rpg_sheet_specs::{
     CalculationSpec, ColumnRange, ExtensionSpec, FileSpec, InputSpec, Movement, OutputSpec, Spec,
 };
 
-/// F2: the name that is defined again.
+/// F2: the name that is defined again, given how many definitions come before the card.
 pub fn redefined_columns(
     source: &IndexedCards,
-    limits: &Limits,
+    definitions: usize,
     before: &[SpecCard],
     card: &SpecCard,
     after: &[SpecCard],
 ) -> Option<ColumnRange>
     requires split { source.now ≡ before.now ++ card.now ∷ after.now }
     requires few { length source.now ≤ 2000 }
-    requires limits { AreLimits before.now (card.now ∷ after.now) limits.now }
+    requires definitions { definitions ≡ length (names_of.definitions before.now) }
     ensures { result ≡ marks.redefined_columns before.now card.now }
 {
-    if redefines_first(source, limits, before, card, after) {
+    if redefines_first(source, definitions, before, card, after) {
         name_columns(card)
     } else {
         Some(ColumnRange::AlternatingName)
@@ -39,26 +37,26 @@ pub fn redefined_columns(
 /// Whether the first name that a card defines had another form before.
 fn redefines_first(
     source: &IndexedCards,
-    limits: &Limits,
+    definitions: usize,
     before: &[SpecCard],
     card: &SpecCard,
     after: &[SpecCard],
 ) -> bool
     requires split { source.now ≡ before.now ++ card.now ∷ after.now }
     requires few { length source.now ≤ 2000 }
-    requires limits { AreLimits before.now (card.now ∷ after.now) limits.now }
+    requires definitions { definitions ≡ length (names_of.definitions before.now) }
     ensures { result ≡ marks.redefines_first before.now card.now }
 {
     match card.definitions().as_slice().first() {
         None => false,
-        Some(definition) => is_other_here(source, limits, before, card, after, definition),
+        Some(definition) => is_other_here(source, definitions, before, card, after, definition),
     }
 }
 
 /// Whether a definition's form differs from that of its name before the card.
 fn is_other_here(
     source: &IndexedCards,
-    limits: &Limits,
+    definitions: usize,
     before: &[SpecCard],
     card: &SpecCard,
     after: &[SpecCard],
@@ -66,10 +64,10 @@ fn is_other_here(
 ) -> bool
     requires split { source.now ≡ before.now ++ card.now ∷ after.now }
     requires few { length source.now ≤ 2000 }
-    requires limits { AreLimits before.now (card.now ∷ after.now) limits.now }
-    ensures { result ≡ names.redefines_as (definitions before.now) definition.now }
+    requires definitions { definitions ≡ length (names_of.definitions before.now) }
+    ensures { result ≡ names.redefines_as (names_of.definitions before.now) definition.now }
 {
-    is_other(source, limits.items.names, definition)
+    is_other(source, definitions, definition)
 }
 
 /// Returns the columns of the first name that a card defines.

@@ -3,34 +3,32 @@
 ghost use Rattle.std.specs.Prelude.{◌≡◌, ◌∷◌, ◌++◌, ◌≤◌, false, length, take};
 ghost use Rattle.std.specs.Bool.{OnTrue};
 ghost use Rattle.rpg_card_index.specs.Index.{StandAt};
+ghost use Rattle.rpg_cards.specs.Names as names_of;
 ghost use Rattle.rpg_cards.specs.Names.{definitions, definitions_on};
 ghost use Rattle.rpg_faults_limits.specs.Names as names;
-ghost use Rattle.rpg_faults_limits.specs.State.{AreLimits};
 
-use crate::state::Limits;
 use rpg_card_index::IndexedCards;
 use rpg_cards::{Defined, Definition, SpecCard, field_form, sized_form};
 use rpg_sheet_specs::{ExtensionSpec, InputSpec, Spec, TableSpec};
 use rpg_symbols::is_same_form;
 
-/// F2: a name that is defined again in another form.
+/// F2: a name that is defined again in another form, given how many definitions come before the card.
 pub fn redefines(
     source: &IndexedCards,
-    limits: &Limits,
+    definitions: usize,
     before: &[SpecCard],
     card: &SpecCard,
     after: &[SpecCard],
 ) -> bool
     requires split { source.now ≡ before.now ++ card.now ∷ after.now }
     requires few { length source.now ≤ 2000 }
-    requires limits { AreLimits before.now (card.now ∷ after.now) limits.now }
+    requires definitions { definitions ≡ length (names_of.definitions before.now) }
     ensures { result ≡ names.redefines before.now card.now }
 {
-    let place = limits.items.names;
-    if are_new(source, place, card) {
+    if are_new(source, definitions, card) {
         return false;
     }
-    are_other(source, place, card.definitions().as_slice())
+    are_other(source, definitions, card.definitions().as_slice())
 }
 
 /// Whether all definitions of a card, which follow the first `place`, are the first of their names; usually they are.

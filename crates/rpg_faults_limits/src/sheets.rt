@@ -64,6 +64,23 @@ impl Sheets {
             lines: self.lines.with_output(source, card),
         }
     }
+
+    /// Moves on to the next card. Only I and O cards change the groups.
+    #[inline(always)]
+    pub fn pass(&mut self, source: &IndexedCards, before: &[SpecCard], card: &SpecCard)
+        requires few { length before.now ≤ 2000 }
+        requires sheets { AreSheets source.now before.now self.old }
+        ensures { AreSheets source.now (before.now ++ card.now ∷ []) self.new }
+    {
+        let Some(_) = card.input() else {
+            let Some(_) = card.output() else {
+                return;
+            };
+            *self = self.with(source, before, card);
+            return;
+        };
+        *self = self.with(source, before, card);
+    }
 }
 
 impl Groups {

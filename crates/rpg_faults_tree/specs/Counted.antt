@@ -1,5 +1,5 @@
 -- How many labels and definitions the cards before a card have.
-use Rattle.std.specs.Prelude.{◌≡◌, List, ◌∷◌, ◌++◌, get_or, length, Bool, false, is_some}
+use Rattle.std.specs.Prelude.{◌≡◌, ℕ, List, ◌∷◌, ◌++◌, get_or, length, Bool, false, is_some}
 use Rattle.std.specs.Option.{option_map_or}
 use Rattle.rpg_cards.specs.Calculations.{calculations_before, card_ending}
 use Rattle.rpg_cards.specs.Statements.{statement_of}
@@ -18,6 +18,14 @@ pub record AreCounts (before rest : List SpecCard) (c : Counts) : Type 0 where
 abbrev pub AreCountsOfAll : List SpecCard → List Counts → Type 0
 AreCountsOfAll cards counts =
     (before after : List SpecCard) (c : SpecCard) → cards ≡ before ++ c ∷ after → AreCounts before (c ∷ after) (get_or counts (length before) (record { labels = 0; definitions = 0 }))
+
+-- the answer is the counts before the card at a position of a source
+abbrev pub DetectsCounts : List SpecCard → ℕ → Counts → Type 0
+DetectsCounts cards position answer = (before after : List SpecCard) (c : SpecCard) → cards ≡ before ++ c ∷ after → position ≡ length before → AreCounts before (c ∷ after) answer
+
+-- the answer is how many definitions come before it
+abbrev pub DetectsDefinitions : List SpecCard → ℕ → ℕ → Type 0
+DetectsDefinitions cards position answer = (before after : List SpecCard) (c : SpecCard) → cards ≡ before ++ c ∷ after → position ≡ length before → answer ≡ length (definitions before)
 
 -- the card defines a label or a subroutine
 abbrev pub is_label_at : SpecCard → List SpecCard → Bool

@@ -13,7 +13,7 @@ use Rattle.rpg_faults_tree.specs.Rules.{badly_filled_cards, leaving_cards, lost_
 use Rattle.rpg_faults_tree.specs.declared.card_set.CardSet.{CardSet}
 use Rattle.rpg_faults_tree.specs.declared.found.FlowFaults.{FlowFaults}
 
--- of so many cards, the set has just those at these positions
+-- of the first `count` positions, the set has just these
 abbrev pub AreMarked : ℕ → CardSet → List ℕ → Type 0
 AreMarked count set positions = (n : ℕ) → n < count → get_or set.marks.items n false ≡ list_any (nat_eq n) positions
 

@@ -1,10 +1,9 @@
 //! The cards of a source, with the faults that the rules on their tree find.
 
-ghost use Rattle.std.specs.Prelude.{◌≡◌, ◌≤◌, ◌↔◌, ◌∷◌, ◌++◌, List, length, IfOk, IfSome, IsSome};
-ghost use Rattle.rpg_cards.specs.declared.spec_card.SpecCard.{SpecCard};
+ghost use Rattle.std.specs.Prelude.{◌≡◌, ◌≤◌, ◌↔◌, length, IfOk, IfSome, IsSome};
 ghost use Rattle.rpg_faults_flow.specs.Columns.{bad_calculation_columns};
 ghost use Rattle.rpg_faults_flow.specs.Rounding.{bad_rounding};
-ghost use Rattle.rpg_faults_tree.specs.Counted.{AreCounts, AreCountsOfAll};
+ghost use Rattle.rpg_faults_tree.specs.Counted.{AreCountsOfAll, DetectsCounts, DetectsDefinitions};
 ghost use Rattle.rpg_faults_tree.specs.Marked as marked;
 ghost use Rattle.rpg_faults_tree.specs.Marked.{IsFoundIn, DetectsBreach};
 ghost use Rattle.rpg_faults_tree.specs.Props.{AreCountsOfAll-prop, IsFoundIn-prop};
@@ -18,7 +17,7 @@ use std::alloc::{AllocError, Global};
 const MOST_CARDS: usize = 2000;
 
 /// The cards of a source, which of them break F9 (of C cards), F10 and F12 to F15, an index of their labels, and for each card how many
-/// labels and names are defined before it.
+/// labels and definitions come before it.
 #[derive(Drop)]
 pub struct AnalyzedCards<'a> {
     pub cards: &'a IndexedCards<'a>,
@@ -55,9 +54,16 @@ impl<'a> AnalyzedCards<'a> {
         Ok(Some(AnalyzedCards::new(alloc, cards)?))
     }
 
-    /// Returns how many labels and names are defined before the card at a position.
+    /// Returns how many definitions come before the card at a position.
+    pub fn definitions_before(&self, position: usize) -> usize
+        ensures { DetectsDefinitions self.now.cards.now position result }
+    {
+        usize::from(self.counts_before(position).definitions)
+    }
+
+    /// Returns how many labels and definitions come before the card at a position.
     pub(crate) fn counts_before(&self, position: usize) -> Counts
-        ensures { (before after : List SpecCard) (c : SpecCard) → self.now.cards.now ≡ before ++ c ∷ after → position ≡ length before → AreCounts before (c ∷ after) result }
+        ensures { DetectsCounts self.now.cards.now position result }
     {
         match self.counts.get(position) {
             None => Counts::NONE,

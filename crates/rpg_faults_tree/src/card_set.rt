@@ -13,7 +13,7 @@ pub struct CardSet {
 }
 
 impl CardSet {
-    /// Returns the cards at these positions, of so many cards.
+    /// Returns the cards at these positions, among the first `count`.
     pub fn of(alloc: Global, positions: &[usize], count: usize) -> Result<Self, AllocError>
         ensures { IfOk result (λ set. AreMarked count set positions.now) }
     {

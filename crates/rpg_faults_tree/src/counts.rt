@@ -1,4 +1,4 @@
-//! How many labels and names are defined before each card.
+//! How many labels and definitions come before each card.
 
 ghost use Rattle.std.specs.Prelude.{◌≡◌, ◌≤◌, [], ◌∷◌, ◌++◌, length, IfOk};
 ghost use Rattle.rpg_faults_tree.specs.Counted as counted;
@@ -7,7 +7,7 @@ ghost use Rattle.rpg_faults_tree.specs.Counted.{AreCounts, AreCountsOfAll};
 use rpg_cards::{SpecCard, defined_name, last_card};
 use std::alloc::{AllocError, Global};
 
-/// How many are defined before a card.
+/// How many come before a card.
 #[derive(Clone, Copy)]
 pub struct Counts {
     /// Labels and names of subroutines.

@@ -1,6 +1,6 @@
 use Rattle.std.proofs.Common.{◌≡◌, ◌+◌, ◌*◌, ◌≤◌, drop}
 use Rattle.rpg_cards.specs.Groups.{followers, input_role}
-use Rattle.rpg_faults.specs.Places.{joined_length}
+use Rattle.rpg_faults_places.specs.Places.{joined_length}
 use Rattle.rpg_causes.proofs.joins.joined_length.Given as goal
 
 abbrev pub invariant-loop-card : goal.invariant-loop-card

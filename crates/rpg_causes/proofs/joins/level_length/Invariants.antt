@@ -1,7 +1,7 @@
 use Rattle.std.proofs.Common.{◌≡◌, ◌*◌, ◌≤◌, drop}
 use Rattle.rpg_cards.specs.Groups.{followers, input_role}
-use Rattle.rpg_faults.specs.Lengths.{length_after}
-use Rattle.rpg_faults.specs.Places.{level_fields, level_length}
+use Rattle.rpg_faults_places.specs.Lengths.{length_after}
+use Rattle.rpg_faults_places.specs.Places.{level_fields, level_length}
 use Rattle.rpg_causes.proofs.joins.level_length.Given as goal
 
 abbrev pub invariant-loop-card : goal.invariant-loop-card

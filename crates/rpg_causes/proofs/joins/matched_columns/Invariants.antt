@@ -1,7 +1,7 @@
 use Rattle.std.proofs.Common.{◌≡◌, ◌+◌, ◌*◌, ◌≤◌, drop}
 use Rattle.std.specs.List.{sum_by}
 use Rattle.rpg_causes.specs.Joins.{matched}
-use Rattle.rpg_faults.specs.Places.{input_columns}
+use Rattle.rpg_faults_places.specs.Places.{input_columns}
 use Rattle.rpg_causes.proofs.joins.matched_columns.Given as goal
 
 abbrev pub invariant-loop-card : goal.invariant-loop-card

@@ -1,6 +1,6 @@
 use Rattle.std.proofs.Common.{ap}
 use Rattle.rpg_causes.specs.Joins.{first_cause_in_list, of_level}
-use Rattle.rpg_faults.proofs.LevelLemmas.{levels-is}
+use Rattle.rpg_faults_places.proofs.LevelLemmas.{levels-is}
 use Rattle.rpg_causes.proofs.joins.other_length.Goals as goal
 
 pub loop-level-init : goal.loop-level-init

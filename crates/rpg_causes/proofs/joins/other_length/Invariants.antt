@@ -1,7 +1,7 @@
 use Rattle.std.proofs.Common.{◌≡◌, ◌-◌}
 use Rattle.std.specs.List.{range_with_len}
 use Rattle.rpg_causes.specs.Joins.{first_cause_in_list, of_level}
-use Rattle.rpg_faults.specs.Places.{levels}
+use Rattle.rpg_faults_places.specs.Places.{levels}
 use Rattle.rpg_causes.proofs.joins.other_length.Given as goal
 
 abbrev pub invariant-loop-level : goal.invariant-loop-level

@@ -8,6 +8,6 @@ pub returns : goal.returns
 returns c =
     let cards = c.args.cards.now in
     let source = c.in_ok-source-2.source in
-    IfOk-weaker c.faults_in.result (λ faults. faults.items ≡ reported_faults source.cards.now) (λ faults. AreFaultsOf cards faults.items)
+    IfOk-weaker c.faults_in.result (λ faults. faults.items ≡ reported_faults source) (λ faults. AreFaultsOf cards faults.items)
     (λ faults are. subst (AreFaultsOf cards) (sym (are ∙ ap reported_faults (c.in_ok-source-2.ensures ∙ c.in_ok-source.ensures))) (reported cards c.requires.numbered))
     c.faults_in.ensures

@@ -6,5 +6,5 @@ use Rattle.rpg_faults.proofs.every.put_faults_on.Given as goal
 
 abbrev pub invariant-loop-code : goal.invariant-loop-code
 invariant-loop-code l =
-    l.faults.items ++ map (reported_by l.seen.before.now l.card l.after) (filter (λ code. rule code l.seen.before.now l.card l.after) (drop l.code-index l.code-items))
-    ≡ l.initial.faults.items ++ reported_on l.seen.before.now l.card l.after
+    l.faults.items ++ map (reported_by l.before l.card l.after) (filter (λ code. rule code l.before l.card l.after) (drop l.code-index l.code-items))
+    ≡ l.initial.faults.items ++ reported_on l.before l.card l.after

@@ -1,12 +1,11 @@
-use Rattle.std.proofs.Common.{◌≡◌, [], length}
+use Rattle.std.proofs.Common.{◌≡◌, [], ◌++◌, length}
 use Rattle.rpg_faults.specs.Faults.{least_fault_from}
-use Rattle.rpg_faults.specs.Seen.{AreCardsSeen}
 use Rattle.rpg_faults.proofs.least.first_on_cards.Given as goal
 
 abbrev pub invariant-loop-card : goal.invariant-loop-card
 invariant-loop-card l = record {
-  seen : AreCardsSeen l.source.cards.now l.rest l.seen;
-  so_far : least_fault_from l.seen.before.now l.rest ≡ least_fault_from [] l.source.cards.now;
+  split : l.source ≡ l.before ++ l.rest;
+  so_far : least_fault_from l.before l.rest ≡ least_fault_from [] l.source;
 }
 
 abbrev pub decreases-loop-card : goal.decreases-loop-card

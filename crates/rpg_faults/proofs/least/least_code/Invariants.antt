@@ -5,4 +5,4 @@ use Rattle.rpg_faults.specs.Rules.{rule}
 use Rattle.rpg_faults.proofs.least.least_code.Given as goal
 
 abbrev pub invariant-loop-code : goal.invariant-loop-code
-invariant-loop-code l = find (λ code. rule code l.seen.before.now l.card l.after) (drop l.code-index l.code-items) ≡ find (λ code. rule code l.seen.before.now l.card l.after) codes
+invariant-loop-code l = find (λ code. rule code l.before l.card l.after) (drop l.code-index l.code-items) ≡ find (λ code. rule code l.before l.card l.after) codes

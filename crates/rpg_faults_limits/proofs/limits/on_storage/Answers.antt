@@ -1,14 +1,15 @@
-use Rattle.std.proofs.Common.{◌≡◌, ◌+◌, List, [], ◌∷◌, length, ap, sym, ◌∙◌}
+use Rattle.std.proofs.Common.{◌+◌, List, [], ◌∷◌, length, ap, subst, sym, ◌∙◌}
 use Rattle.rpg_cards.specs.Constants.{constants}
 use Rattle.rpg_cards.specs.declared.spec_card.SpecCard.{SpecCard}
 use Rattle.rpg_faults_limits.proofs.StorageLemmas.{kept_storage, measure_is, with_first}
 use Rattle.rpg_faults_limits.specs.Causes.{first_past, measure_of}
 use Rattle.rpg_faults_limits.specs.Limits.{bytes_up_to, constant_bytes, fields_up_to, name_bytes, name_count}
+use Rattle.rpg_faults_limits.specs.State.{AreItemsOrKept}
 use Rattle.rpg_faults_limits.specs.declared.measures.Limit.TheVariants as limit
 use Rattle.rpg_faults_limits.proofs.limits.on_storage.Goals as goal
 
-pub returns-then-keeps_storage : goal.returns-then-keeps_storage
-returns-then-keeps_storage c = sym (kept_storage c.args.source.now c.args.before.now c.args.card.now c.args.after.now c.requires.split c.if-keeps_storage.ensures)
+pub returns-in_default : goal.returns-in_default
+returns-in_default c = sym (kept_storage c.args.source.now c.args.before.now c.args.card.now c.args.after.now c.requires.split (subst (AreItemsOrKept c.args.source.now c.args.before.now) c.in_default.is c.requires.items))
 
 pub names_in-names_with-requires-clause-front : goal.names_in-names_with-requires-clause-front
 names_in-names_with-requires-clause-front c = with_first c.args.source.now c.args.before.now c.args.card.now c.args.after.now c.up_to-front.result.now c.requires.split c.up_to-front.ensures

@@ -1,4 +1,4 @@
-use Rattle.std.proofs.Common.{ap, arith, length, [], ◌∙◌}
+use Rattle.std.proofs.Common.{ap, arith, length, ◌∙◌}
 use Rattle.std.specs.Prelude.{sum_by}
 use Rattle.rpg_card_index.specs.Totals.{definition_bytes}
 use Rattle.rpg_cards.proofs.ItemLemmas.{definitions-append, few_definitions}

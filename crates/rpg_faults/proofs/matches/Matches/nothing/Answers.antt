@@ -1,5 +1,0 @@
-use Rattle.std.proofs.Common.{refl}
-use Rattle.rpg_faults.proofs.matches.Matches.nothing.Goals as goal
-
-pub returns : goal.returns
-returns c = λ cards. record { first = refl; open_type = refl }

@@ -1,0 +1,5 @@
+pub mod JoinedLemmas
+pub mod LevelLemmas
+pub mod MatchLemmas
+pub mod OpenTypes
+pub mod TypeLemmas
