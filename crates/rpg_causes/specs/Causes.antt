@@ -15,7 +15,6 @@ use Rattle.rpg_causes_flow.specs.Columns.{card_column_cause}
 use Rattle.rpg_causes_flow.specs.Labels.{nowhere_cause, card_target, twice}
 use Rattle.rpg_causes_flow.specs.Order.{order_cause}
 use Rattle.rpg_causes_flow.specs.Rounding.{rounding_cause}
-use Rattle.rpg_causes_flow.specs.Sections.{apart}
 use Rattle.rpg_causes_flow.specs.Strays.{stray_cause}
 use Rattle.rpg_causes_flow.specs.declared.labels.Target.{Target}
 use Rattle.rpg_causes_operands.specs.Fields.{field_cause}
@@ -25,7 +24,7 @@ use Rattle.rpg_causes_operands.specs.Names.{redefined, undefined_name}
 use Rattle.rpg_causes_operands.specs.Operands.{operand_cause}
 use Rattle.rpg_causes_operands.specs.Sizes.{size_cause}
 use Rattle.rpg_faults.specs.Rules.{rule}
-use Rattle.rpg_faults_flow.specs.Flow.{calls_itself}
+use Rattle.rpg_faults_flow.specs.Flow.{calls_itself, leaves_its_section}
 use Rattle.rpg_faults_limits.specs.Causes.{limit_cause}
 use Rattle.rpg_faults.specs.declared.code.FaultCode.{FaultCode}
 use Rattle.rpg_faults.specs.declared.code.FaultCode.TheVariants.{F1, F2, F3, F4, F5, F6, F7, F8, F9, F10, F11, F12, F13, F14, F15, F16, F17, F18}
@@ -40,6 +39,10 @@ missing_cause before c after =
 -- F12: of a calculation card, or of an I or O card
 abbrev pub misordered : List SpecCard → SpecCard → List SpecCard → Option Cause
 misordered before c after = option_or (option_map cause.Order (order_cause before c after)) (option_map cause.Stray (stray_cause before c))
+
+-- F13: the label that the calculation goes to, if that is in another section
+abbrev pub apart : List SpecCard → SpecCard → List SpecCard → Option Target
+apart before c after = if leaves_its_section (before ++ c ∷ after) before c after then card_target (before ++ c ∷ after) c after else None
 
 -- F14: the subroutine that the calculation calls, if that one reaches the one it is in
 abbrev pub recursion : List SpecCard → SpecCard → List SpecCard → Option Target
@@ -65,7 +68,7 @@ cause_of F9 before c after = missing_cause before c after
 cause_of F10 before c after = option_map cause.Nowhere (nowhere_cause (before ++ c ∷ after) c after)
 cause_of F11 before c after = option_map cause.Twice (twice before c after)
 cause_of F12 before c after = misordered before c after
-cause_of F13 before c after = option_map cause.Apart (apart (before ++ c ∷ after) before c after)
+cause_of F13 before c after = option_map cause.Apart (apart before c after)
 cause_of F14 before c after = option_map cause.Recursion (recursion before c after)
 cause_of F15 before c after = option_map cause.Rounding (rounding_cause before c after)
 cause_of F16 before c after = misplaced_cause before c after

@@ -19,8 +19,8 @@ use rpg_card_index::IndexedCards;
 use rpg_cards::SpecCard;
 use rpg_causes_flow::{
     ColumnCause, NowhereCause, OrderCause, RoundingCause, StrayCause, Target, TwiceCause,
-    apart_cause, nowhere_cause, on_calculation, order_cause, rounding_cause, stray_cause,
-    target_on, twice_cause,
+    nowhere_cause, on_calculation, order_cause, rounding_cause, stray_cause, target_on,
+    twice_cause,
 };
 use rpg_causes_operands::{
     FieldCause, IndexCause, IndicatorCause, OperandCause, Redefined, SizeCause, field_cause,
@@ -125,7 +125,10 @@ fn cause_of(
         FaultCode::F10 => Some(Cause::Nowhere(nowhere_cause(cards, before, card, after)?)),
         FaultCode::F11 => Some(Cause::Twice(twice_cause(cards, before, card, after)?)),
         FaultCode::F12 => misordered(source, before, card, after),
-        FaultCode::F13 => Some(Cause::Apart(apart_cause(cards, before, card, after)?)),
+        FaultCode::F13 => {
+            let cause = apart_cause(source, before, card, after);
+            Some(Cause::Apart(cause?))
+        }
         FaultCode::F14 => {
             let cause = recursion_cause(source, before, card, after);
             Some(Cause::Recursion(cause?))
@@ -166,6 +169,36 @@ fn wrong_file(
 {
     let sheets = sheets_before(source, before, card, after);
     file_cause(source.cards, &sheets, before, card)
+}
+
+/// F13: the label that the calculation goes to, if that is in another section.
+fn apart_cause(
+    source: &AnalyzedCards,
+    before: &[SpecCard],
+    card: &SpecCard,
+    after: &[SpecCard],
+) -> Option<Target>
+    requires { source.now.cards.now ≡ before.now ++ card.now ∷ after.now }
+    ensures cause { result ≡ causes.apart before.now card.now after.now }
+    ensures rule { is_some result ≡ flow_rules.leaves_its_section (before.now ++ card.now ∷ after.now) before.now card.now after.now }
+{
+    apart(source, before, card, after)
+}
+
+fn apart(
+    source: &AnalyzedCards,
+    before: &[SpecCard],
+    card: &SpecCard,
+    after: &[SpecCard],
+) -> Option<Target>
+    requires { source.now.cards.now ≡ before.now ++ card.now ∷ after.now }
+    ensures { result ≡ causes.apart before.now card.now after.now }
+{
+    if source.leaves_its_section(before.len()) {
+        target_on(source.cards, card, after)
+    } else {
+        None
+    }
 }
 
 /// F14: the subroutine that the calculation calls, if its calls lead back.

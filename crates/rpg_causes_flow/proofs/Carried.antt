@@ -11,7 +11,7 @@ use Rattle.rpg_cards.specs.Sections.{is_subroutine}
 use Rattle.rpg_cards.specs.declared.spec_card.SpecCard.{SpecCard}
 use Rattle.rpg_faults_flow.proofs.Ending.{asked, group_at-is}
 use Rattle.rpg_faults_flow.proofs.Facts.{last_with}
-use Rattle.rpg_faults_flow.specs.ByCard.{bracket_at, bracket_in, bracket_of, calculation_lacks_label, calculation_level, level_of_group, level_with}
+use Rattle.rpg_causes_flow.specs.ByCard.{bracket_at, bracket_in, bracket_of, calculation_lacks_label, calculation_level, level_of_group, level_with}
 use Rattle.rpg_faults_flow.specs.Flow.{lacks_target, is_given_as, lacks_label}
 use Rattle.rpg_faults_flow.specs.Order.{is_bracket, is_closed}
 use Rattle.rpg_sheet_specs.specs.declared.calculation.CalculationSpec.{CalculationSpec}

@@ -21,7 +21,7 @@ use Rattle.rpg_causes_flow.specs.declared.labels.NowhereCause.TheVariants.{Absen
 use Rattle.rpg_causes_flow.specs.declared.labels.TwiceCause.TheVariants.{EveryProgram, Field}
 use Rattle.rpg_faults_flow.proofs.Ending.{asked, group_at-is}
 use Rattle.rpg_faults_flow.proofs.Facts.{last_with}
-use Rattle.rpg_faults_flow.specs.ByCard.{calculation_lacks_label}
+use Rattle.rpg_causes_flow.specs.ByCard.{calculation_lacks_label}
 use Rattle.rpg_faults_flow.specs.Flow.{alike, defines_again, lacks_target, is_defined, is_given_as}
 use Rattle.rpg_sheet_specs.specs.declared.calculation.CalculationSpec.{CalculationSpec}
 

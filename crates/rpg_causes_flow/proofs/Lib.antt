@@ -3,6 +3,5 @@ pub mod Groups
 pub mod LabelLemmas
 pub mod Options
 pub mod OrderLemmas
-pub mod SectionLemmas
 pub mod StrayLemmas
 pub mod Tests

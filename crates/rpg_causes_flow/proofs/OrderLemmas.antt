@@ -1,27 +1,27 @@
 -- F12 of calculation cards: there is a cause exactly if the rule is broken.
-use Rattle.std.proofs.Common.{◌≡◌, ℕ, suc, ◌+◌, Bool, true, false, not, cond, ◌&&◌, ◌||◌, List, [], ◌∷◌, ◌++◌, Option, None, Some, refl, sym, ap, ◌∙◌, arith}
+use Rattle.std.proofs.Common.{◌≡◌, ℕ, ◌+◌, Bool, true, false, not, cond, ◌&&◌, ◌||◌, List, [], ◌∷◌, ◌++◌, Option, None, Some, refl, sym, ap, ◌∙◌}
 use Rattle.std.specs.List.{cons_option, last_or, list_any}
 use Rattle.std.specs.Option.{option_and_then, option_map, option_map_or, option_or, option_to_list}
 use Rattle.std.specs.Prelude.{is_some, nat_lt}
-use Rattle.rpg_cards.specs.Calculations.{CalculationGroup, alone, calculation_ending, calculation_of, calculations_before, calculations_from, card_ending, completed, group_at, group_end, group_with, joined_group, open_calculation_group, open_with}
+use Rattle.rpg_cards.specs.Calculations.{CalculationGroup, alone, calculation_of, calculations_before, calculations_from, card_ending, completed, group_at, group_end, group_with, joined_group, open_calculation_group, open_with}
 use Rattle.rpg_cards.specs.Cards.{calculation_on, calculation_specs_in}
 use Rattle.rpg_cards.specs.Statements.{Acts, Begins, Calculation, Statement, Ends, Executes, GoesTo, Marks, Nothing, WritesExceptions, statement_of}
 use Rattle.rpg_cards.specs.Groups.{joins}
 use Rattle.rpg_cards.specs.Keys.{Key}
-use Rattle.rpg_cards.specs.Labels.{begins_subroutine, begun_count, brackets, ends, is_begsr, is_endsr, is_inside_subroutine}
+use Rattle.rpg_cards.specs.Labels.{begins_subroutine, brackets, ends, is_begsr, is_endsr, is_inside_subroutine}
 use Rattle.rpg_cards.specs.Sections.{is_subroutine}
 use Rattle.rpg_cards.specs.declared.spec_card.SpecCard.{SpecCard}
 use Rattle.rpg_causes_flow.proofs.Options.{or_none, some_if, some_or, unless_some}
-use Rattle.rpg_causes_flow.specs.Order.{begun_name, bracket_on, bracket_card, closes, first_later, if_later, if_outside, last_bracket, next_bracket, of_end, of_group, opens, order_cause}
+use Rattle.rpg_causes_flow.specs.Order.{begun_name, bracket_card, closes, first_later, if_later, if_outside, last_bracket, next_bracket, of_end, of_group, opens, order_cause}
 use Rattle.rpg_causes_flow.specs.declared.brackets.Bracket.{Bracket}
 use Rattle.rpg_causes_flow.specs.declared.order.OrderCause.{OrderCause}
 use Rattle.rpg_causes_flow.specs.declared.order.OrderCause.TheVariants.{Early, NoBegsr, NoEndsr, Outside, OutsideSection, Unjoined}
 use Rattle.rpg_faults_flow.proofs.Ending.{group_at-is}
 use Rattle.rpg_causes_flow.proofs.Carried.{bracket_at-is, closed_by, closed_step, level_in-is, level_with-is}
 use Rattle.rpg_faults_flow.proofs.Facts.{last_with}
-use Rattle.rpg_faults_flow.specs.ByCard.{bracket_at, bracket_of, calculation_level, level_with}
+use Rattle.rpg_causes_flow.specs.ByCard.{bracket_at, bracket_of, calculation_level, level_with}
 use Rattle.rpg_faults_flow.specs.Order.{breaks_calculation, breaks_group, breaks_order, is_bracket, is_closed, is_early, is_outside_subroutine, section_rank}
-use Rattle.rpg_faults_flow.specs.ByCard.{level_of_group}
+use Rattle.rpg_causes_flow.specs.ByCard.{level_of_group}
 use Rattle.rpg_sheet_specs.specs.declared.calculation.CalculationSpec.{CalculationSpec}
 use Rattle.rpg_sheet_specs.specs.declared.calculation.ControlLevel.{ControlLevel}
 
@@ -100,59 +100,6 @@ closed_is o (c ∷ cs) =
         → closed_by x (is_closed (brackets (calculations_from (open_with o c.spec) cs []))) ≡ closes (option_or (option_map (mark c) x) (next_bracket (level_with (level_of_group o) c) cs))
     by None e = e
     by (Some b) e = refl
-
--- ---- how many have begun
-
-abbrev pub one_if : Bool → ℕ
-one_if b = cond b 1 0
-
-begun_cases : (n : ℕ) (s b e : Bool) → (b && e) ≡ false
-    → cond (s && b) (suc n) n ≡ one_if (opens (option_map (mark_at 0) (cond ((s && b) || (s && e)) (Some (s && e)) None))) + n
-begun_cases n false b e never = omega arith
-begun_cases n true true true never = absurd cc
-begun_cases n true true false never = omega arith
-begun_cases n true false true never = omega arith
-begun_cases n true false false never = omega arith
-
--- the card doesn't matter
-any_card : (c : SpecCard) (x : Option Bool) → opens (option_map (mark_at 0) x) ≡ opens (option_map (mark c) x)
-any_card c None = refl
-any_card c (Some b) = refl
-
-pub begun_step : (o : Option CalculationGroup) (c : SpecCard) (cs after : List SpecCard)
-    → begun_count (calculations_from o (c ∷ cs) after) ≡ one_if (opens (bracket_on (level_of_group o) c (cs ++ after))) + begun_count (calculations_from (open_with o c.spec) cs after)
-begun_step o c cs after =
-    by (option_map calculation_of (group_at o c (cs ++ after)))
-    ∙ ap (λ x. one_if (opens (option_map (mark c) x)) + begun_count rest) (bracket_at-is o c (cs ++ after))
-  where
-    rest : List (Calculation Key)
-    rest = calculations_from (open_with o c.spec) cs after
-
-    nothing : (n : ℕ) → n ≡ 0 + n
-    nothing n = omega arith
-
-    by : (x : Option (Calculation Key)) → begun_count (option_to_list x ++ rest) ≡ one_if (opens (option_map (mark c) (option_and_then bracket_of x))) + begun_count rest
-    by None = nothing (begun_count rest)
-    by (Some g) =
-        begun_cases (begun_count rest) (is_subroutine g.control) (is_begsr g.statement) (is_endsr g.statement) (never_both g.statement)
-        ∙ ap (λ b. one_if b + begun_count rest) (any_card c (bracket_of g))
-
-pub begins_is : (before : List SpecCard) (c : SpecCard) (after : List SpecCard)
-    → opens (bracket_on (level_of_group (open_calculation_group before)) c after) ≡ option_map_or begins_subroutine (calculation_ending before c after) false
-begins_is before c after =
-    ap (λ x. opens (option_map (mark c) x)) (sym (bracket_at-is (open_calculation_group before) c after))
-    ∙ by (calculation_ending before c after)
-  where
-    one : (s b e : Bool) → (b && e) ≡ false → opens (option_map (mark c) (cond ((s && b) || (s && e)) (Some (s && e)) None)) ≡ (s && b)
-    one false b e never = refl
-    one true true true never = absurd cc
-    one true true false never = refl
-    one true false true never = refl
-    one true false false never = refl
-
-    by : (x : Option (Calculation Key)) → opens (option_map (mark c) (option_and_then bracket_of x)) ≡ option_map_or begins_subroutine x false
-    by None = refl
-    by (Some g) = one (is_subroutine g.control) (is_begsr g.statement) (is_endsr g.statement) (never_both g.statement)
 
 -- ---- on the first card of a group
 

@@ -12,9 +12,9 @@ use Rattle.rpg_cards.specs.declared.spec_card.SpecCard.{SpecCard}
 use Rattle.rpg_causes_flow.specs.declared.brackets.Bracket.{Bracket}
 use Rattle.rpg_causes_flow.specs.declared.order.OrderCause.{OrderCause}
 use Rattle.rpg_causes_flow.specs.declared.order.OrderCause.TheVariants.{Early, NoBegsr, NoEndsr, Outside, OutsideSection, Unjoined}
-use Rattle.rpg_faults_flow.specs.ByCard.{bracket_at, calculation_level, level_with}
+use Rattle.rpg_causes_flow.specs.ByCard.{bracket_at, calculation_level, level_with}
 use Rattle.rpg_faults_flow.specs.Order.{is_bracket, section_rank}
-use Rattle.rpg_faults_flow.specs.ByCard.{level_of_group}
+use Rattle.rpg_causes_flow.specs.ByCard.{level_of_group}
 use Rattle.rpg_sheet_specs.specs.declared.calculation.CalculationSpec.{CalculationSpec}
 use Rattle.rpg_sheet_specs.specs.declared.calculation.ControlLevel.{ControlLevel}
 

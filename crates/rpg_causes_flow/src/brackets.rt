@@ -1,15 +1,13 @@
 //! The BEGSR and ENDSR of SR groups, by card.
 
-ghost use Rattle.std.specs.Prelude.{◌≡◌, ◌∷◌, ◌++◌, ◌≤◌, List, None, Some, false, length, if◌then◌else◌};
-ghost use Rattle.std.specs.Option.{option_map_or};
-ghost use Rattle.rpg_cards.specs.Calculations.{calculation_ending, calculations_before, open_calculation_group};
+ghost use Rattle.std.specs.Prelude.{◌≡◌, ◌∷◌, ◌++◌, List, None, Some};
+ghost use Rattle.rpg_cards.specs.Calculations.{open_calculation_group};
 ghost use Rattle.rpg_cards.specs.Statements as statements;
-ghost use Rattle.rpg_cards.specs.Labels.{begins_subroutine, begun_count};
 ghost use Rattle.rpg_cards.specs.declared.spec_card.SpecCard.{SpecCard};
 ghost use Rattle.rpg_causes_flow.specs.Order as causes;
-ghost use Rattle.rpg_faults_flow.specs.ByCard as by_card;
+ghost use Rattle.rpg_causes_flow.specs.ByCard as by_card;
 ghost use Rattle.rpg_faults_flow.specs.Order as rules;
-ghost use Rattle.rpg_faults_flow.specs.ByCard.{level_of_group};
+ghost use Rattle.rpg_causes_flow.specs.ByCard.{level_of_group};
 
 use rpg_cards::{SpecCard, begins_subroutine, ends_subroutine, is_subroutine, joins, last_card};
 use rpg_sheet_specs::{CalculationSpec, ControlLevel};
@@ -123,41 +121,6 @@ pub(crate) fn next_bracket(level: &ControlLevel, after: &[SpecCard]) -> Option<B
         rest = following;
     }
     None
-}
-
-// ---- subroutines
-
-/// Counts the BEGSRs that end on the `front` cards.
-pub fn count_begun(front: &[SpecCard], cards: &[SpecCard]) -> u16
-    requires { length front.now ≤ 2000 }
-    ensures { (after : List SpecCard) → cards.now ≡ front.now ++ after → result ≡ begun_count (calculations_before front.now after) }
-{
-    let mut count = 0;
-    let mut group = None;
-    let mut front = front;
-    let mut cards = cards;
-    while let Some((card, left)) = front.split_first() {
-        let following = following_first(cards);
-        count += one_if(opens(bracket_on(&group, card, following)));
-        group = level_with(&group, card);
-        front = left;
-        cards = following;
-    }
-    count
-}
-
-fn one_if(is_there: bool) -> u16
-    ensures { result ≡ (if is_there then 1 else 0) }
-{
-    u16::from(is_there)
-}
-
-/// Whether the calculation that ends on a card is a BEGSR of SR cards.
-pub fn begins_on(before: &[SpecCard], card: &SpecCard, after: &[SpecCard]) -> bool
-    ensures { result ≡ option_map_or begins_subroutine (calculation_ending before.now card.now after.now) false }
-{
-    let group = open_level(before);
-    opens(bracket_on(&group, card, after))
 }
 
 /// Whether a subroutine is open after one.

@@ -6,13 +6,10 @@ mod columns;
 mod labels;
 mod order;
 mod rounding;
-mod sections;
 mod strays;
 
-pub use brackets::{begins_on, count_begun};
 pub use columns::{ColumnCause, on_calculation};
 pub use labels::{Giver, NowhereCause, Target, TwiceCause, nowhere_cause, target_on, twice_cause};
 pub use order::{OrderCause, order_cause};
 pub use rounding::{RoundingCause, rounding_cause};
-pub use sections::apart_cause;
 pub use strays::{StrayCause, stray_cause};

@@ -1,5 +1,5 @@
 -- F9 of calculation cards: columns that are missing or not allowed (except the sequence of what LOKUP searches, which needs forms).
-use Rattle.std.specs.Prelude.{ℕ, ◌==◌, nat_lt, List, Bool, true, false, not, [], ◌∷◌, ◌&&◌, ◌||◌, Option, is_some, is_none}
+use Rattle.std.specs.Prelude.{ℕ, ◌==◌, nat_lt, List, Bool, true, false, not, ◌&&◌, ◌||◌, Option, is_some, is_none}
 use Rattle.std.specs.Option.{option_map, option_map_or}
 use Rattle.rpg_cards.specs.Calculations.{CalculationGroup, depends, continues, group_end, open_calculation_group}
 use Rattle.rpg_cards.specs.Keys.{plain_name}

@@ -1,4 +1,3 @@
-pub mod ByCard
 pub mod Columns
 pub mod Faultless
 pub mod Flow

@@ -1,6 +1,6 @@
 use Rattle.std.proofs.Common.{◌∙◌, ap}
 use Rattle.std.specs.Prelude.{is_some}
-use Rattle.rpg_causes.proofs.CallRule.{recursion_rule}
+use Rattle.rpg_causes.proofs.TargetRules.{recursion_rule}
 use Rattle.rpg_causes.proofs.cause.recursion_cause.Goals as goal
 
 pub returns-clause-rule : goal.returns-clause-rule

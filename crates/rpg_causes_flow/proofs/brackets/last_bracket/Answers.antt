@@ -4,7 +4,7 @@ use Rattle.rpg_cards.specs.declared.spec_card.SpecCard.{SpecCard}
 use Rattle.rpg_causes_flow.proofs.Options.{or_assoc}
 use Rattle.rpg_causes_flow.specs.Order.{bracket_on, last_bracket}
 use Rattle.rpg_causes_flow.specs.declared.brackets.Bracket.{Bracket}
-use Rattle.rpg_faults_flow.specs.ByCard.{level_with}
+use Rattle.rpg_causes_flow.specs.ByCard.{level_with}
 use Rattle.rpg_causes_flow.proofs.brackets.last_bracket.Goals as goal
 
 pub loop-card-preserved : goal.loop-card-preserved

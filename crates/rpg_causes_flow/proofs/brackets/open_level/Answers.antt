@@ -3,8 +3,8 @@ use Rattle.rpg_cards.specs.Calculations.{open_calculation_group}
 use Rattle.rpg_causes_flow.proofs.Groups.{taken}
 use Rattle.rpg_causes_flow.proofs.Carried.{level_with-is}
 use Rattle.rpg_faults_flow.proofs.Walk.{open_after-push}
-use Rattle.rpg_faults_flow.specs.ByCard.{level_with}
-use Rattle.rpg_faults_flow.specs.ByCard.{level_of_group}
+use Rattle.rpg_causes_flow.specs.ByCard.{level_with}
+use Rattle.rpg_causes_flow.specs.ByCard.{level_of_group}
 use Rattle.rpg_causes_flow.proofs.brackets.open_level.Goals as goal
 
 pub loop-card-preserved : goal.loop-card-preserved

@@ -1,4 +1,4 @@
--- The rules for a card, given the group of the previous card.
+-- Groups, BEGSR and ENDSR of a card, given the group that the card right before it belongs to.
 use Rattle.std.specs.Prelude.{List, Bool, false, not, ◌&&◌, ◌||◌, Option, None, Some, if◌then◌else◌}
 use Rattle.std.specs.Option.{option_and_then, option_map, option_map_or}
 use Rattle.rpg_cards.specs.Calculations.{CalculationGroup, calculations, card_ending}
