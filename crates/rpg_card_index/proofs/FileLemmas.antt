@@ -11,7 +11,7 @@ use Rattle.rpg_cards.proofs.ItemLemmas.{take_one}
 use Rattle.rpg_cards.specs.Cards.{file_on}
 use Rattle.rpg_cards.specs.Files.{files}
 use Rattle.rpg_cards.specs.First.{first_at}
-use Rattle.rpg_card_index.specs.Index.{file_at, first_file, first_with, has_file, is_for, is_named, place_before, place_of_card, AreFirstFiles, NotesFile}
+use Rattle.rpg_card_index.specs.Index.{file_of_card_at, first_file, first_with, has_such_file, is_for, is_file_named, place_before, place_of_card, AreFirstFiles, NotesFile}
 use Rattle.rpg_card_index.specs.declared.first_files.FirstFiles.{FirstFiles}
 use Rattle.rpg_cards.specs.declared.spec_card.SpecCard.{SpecCard}
 use Rattle.rpg_sheet_specs.specs.declared.file.FileSpec.{FileSpec}
@@ -31,23 +31,23 @@ after_front (suc i) [] y ys e = absurd cc
 after_front (suc i) (x ∷ xs) y ys e = after_front i xs y ys e
 
 module _ (test : FileSpec → Bool) where
-  found_in : (all : List SpecCard) (i : ℕ) (cs rest : List SpecCard) → drop i all ≡ cs ++ rest → file_at all (first_at (has_file test) place_of_card i cs) ≡ find test (files cs)
+  found_in : (all : List SpecCard) (i : ℕ) (cs rest : List SpecCard) → drop i all ≡ cs ++ rest → file_of_card_at all (first_at (has_such_file test) place_of_card i cs) ≡ find test (files cs)
   found_in all i [] rest e = refl
   found_in all i (c ∷ cs) rest e = by_file (file_on c.spec) refl (found_in all (i + 1) cs rest (ap (λ k. drop k all) next ∙ after_front i all c (cs ++ rest) e))
     where
       next : i + 1 ≡ suc i
       next = omega arith
 
-      here : file_at all (Some i) ≡ file_on c.spec
+      here : file_of_card_at all (Some i) ≡ file_on c.spec
       here = ap (option_and_then (λ (d : SpecCard). file_on d.spec)) (at_front i all c (cs ++ rest) e)
 
-      by_test : (f : FileSpec) (b : Bool) → file_on c.spec ≡ Some f → file_at all (first_at (has_file test) place_of_card (i + 1) cs) ≡ find test (files cs)
-          → file_at all (cond b (Some i) (first_at (has_file test) place_of_card (i + 1) cs)) ≡ cond b (Some f) (find test (files cs))
+      by_test : (f : FileSpec) (b : Bool) → file_on c.spec ≡ Some f → file_of_card_at all (first_at (has_such_file test) place_of_card (i + 1) cs) ≡ find test (files cs)
+          → file_of_card_at all (cond b (Some i) (first_at (has_such_file test) place_of_card (i + 1) cs)) ≡ cond b (Some f) (find test (files cs))
       by_test f true is more = here ∙ is
       by_test f false is more = more
 
-      by_file : (o : Option FileSpec) → file_on c.spec ≡ o → file_at all (first_at (has_file test) place_of_card (i + 1) cs) ≡ find test (files cs)
-          → file_at all (cond (option_map_or test o false) (Some i) (first_at (has_file test) place_of_card (i + 1) cs)) ≡ find test (cons_option o (files cs))
+      by_file : (o : Option FileSpec) → file_on c.spec ≡ o → file_of_card_at all (first_at (has_such_file test) place_of_card (i + 1) cs) ≡ find test (files cs)
+          → file_of_card_at all (cond (option_map_or test o false) (Some i) (first_at (has_such_file test) place_of_card (i + 1) cs)) ≡ find test (cons_option o (files cs))
       by_file None is more = more
       by_file (Some f) is more = by_test f (test f) is more
 
@@ -56,10 +56,10 @@ module _ (test : FileSpec → Bool) where
   before_place n (Some i) = refl
 
   -- what is found among the first n cards
-  pub found_before : (cards : List SpecCard) (n : ℕ) (place : Option ℕ) → place ≡ first_file test cards → file_at cards (place_before n place) ≡ find test (files (take n cards))
+  pub found_before : (cards : List SpecCard) (n : ℕ) (place : Option ℕ) → place ≡ first_file test cards → file_of_card_at cards (place_before n place) ≡ find test (files (take n cards))
   found_before cards n place first =
-      ap (λ o. file_at cards (place_before n o)) first ∙ ap (file_at cards) (before_place n (first_file test cards))
-      ∙ ap (file_at cards) (sym (first_before (has_file test) place_of_card (λ (p : ℕ). p) (λ i c. refl) n cards))
+      ap (λ o. file_of_card_at cards (place_before n o)) first ∙ ap (file_of_card_at cards) (before_place n (first_file test cards))
+      ∙ ap (file_of_card_at cards) (sym (first_before (has_such_file test) place_of_card (λ (p : ℕ). p) (λ i c. refl) n cards))
       ∙ found_in cards 0 (take n cards) (drop n cards) (sym (take-append-drop n cards))
 
 -- ---- one more card
@@ -72,8 +72,8 @@ files_more cards i place c old new lt is at are notes =
     let here : place ≡ length front = let long = length-take-le i cards (omega arith) in omega arith in
     subst (AreFirstFiles new) (sym (take_one cards i c lt is)) (record {
       named = λ name.
-          first_more (has_file (is_named name)) place_of_card _ _ front (c ∷ []) (are.named name)
-          (notes.named name ∙ ap (λ k. option_or (lookup (pointwise nat_eq name) old.names.entries) (cond (has_file (is_named name) c) (Some k) None)) here);
+          first_more (has_such_file (is_file_named name)) place_of_card _ _ front (c ∷ []) (are.named name)
+          (notes.named name ∙ ap (λ k. option_or (lookup (pointwise nat_eq name) old.names.entries) (cond (has_such_file (is_file_named name) c) (Some k) None)) here);
       used = λ u.
-          first_more (has_file (is_for u)) place_of_card _ _ front (c ∷ []) (are.used u) (notes.used u ∙ ap (λ k. option_or (first_with old.uses u) (cond (has_file (is_for u) c) (Some k) None)) here);
+          first_more (has_such_file (is_for u)) place_of_card _ _ front (c ∷ []) (are.used u) (notes.used u ∙ ap (λ k. option_or (first_with old.uses u) (cond (has_such_file (is_for u) c) (Some k) None)) here);
     })

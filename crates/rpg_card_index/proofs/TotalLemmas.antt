@@ -15,7 +15,7 @@ use Rattle.rpg_cards.proofs.InsertLemmas.{with_one}
 use Rattle.rpg_cards.specs.Insertions.{insert_all, insert_key}
 use Rattle.rpg_cards.specs.Names.{same_name}
 use Rattle.rpg_cards.specs.declared.names.Definition.{Definition}
-use Rattle.rpg_symbols.specs.Totals.{Running, counts_at, first_totals, with_item}
+use Rattle.rpg_symbols.specs.Totals.{TotalsByItem, is_counted_at, first_totals, with_item}
 use Rattle.rpg_symbols.specs.declared.totals.Totals.{Totals}
 
 pub same_name_equiv : IsEquivalence same_name
@@ -81,7 +81,7 @@ item_more : (t : Totals) (b : Bool) (n : ℕ) → n ≤ 4294967295 → ((with_it
 item_more t true n small = (omega arith, omega arith)
 item_more t false n small = (omega arith, omega arith)
 
-module _ {X : Type 0} (totals : List X → Totals) (items : List X) (x : X) (old new : Running) (was : AreRunning X totals items old) (before : new.before ≡ old.before ++ old.all ∷ [])
+module _ {X : Type 0} (totals : List X → Totals) (items : List X) (x : X) (old new : TotalsByItem) (was : AreRunning X totals items old) (before : new.before ≡ old.before ++ old.all ∷ [])
     (all : new.all ≡ totals (items ++ x ∷ [])) where
   longer : length new.before ≡ length items + 1
   longer = ap length before ∙ length_push old.before old.all ∙ ap (λ n. n + 1) was.count
@@ -138,7 +138,7 @@ module _ {X : Type 0} (totals : List X → Totals) (items : List X) (x : X) (old
 -- ---- whether an item counts
 
 -- an item counts if the totals with it have more
-pub counts_more : {X : Type 0} (totals : List X → Totals) (items : List X) (r : Running) → AreRunning X totals items r → (n : ℕ)
-    → counts_at r n ≡ nat_lt (totals (take n items)).number (totals (take (n + 1) items)).number
+pub counts_more : {X : Type 0} (totals : List X → Totals) (items : List X) (r : TotalsByItem) → AreRunning X totals items r → (n : ℕ)
+    → is_counted_at r n ≡ nat_lt (totals (take n items)).number (totals (take (n + 1) items)).number
 counts_more totals items r is n =
     ap (λ (t : Totals). nat_lt t.number (first_totals r (n + 1)).number) (is.each n) ∙ ap (λ (t : Totals). nat_lt (totals (take n items)).number t.number) (is.each (n + 1))

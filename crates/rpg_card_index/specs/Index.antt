@@ -40,14 +40,14 @@ defined_first None = Missing
 defined_first (Some d) = defined_as d.form
 
 -- the definition has a form
-abbrev pub has_form : Definition → Bool
-has_form d = is_some d.form
+abbrev pub has_some_form : Definition → Bool
+has_some_form d = is_some d.form
 
 -- each name with its first definition, the totals of the names, and whether each definition has a form
 pub record IsNameIndex (items : List Definition) (index : NameIndex) : Type 0 where
   pub defined : (name : List ℕ) → lookup (pointwise nat_eq name) index.first.entries ≡ first_at (is_of name) placed_definition 0 items
   pub running : AreRunning Definition name_totals items index.totals
-  pub formed : index.all_have_forms ≡ list_all has_form items
+  pub formed : index.all_have_forms ≡ list_all has_some_form items
 
 -- each constant with its first place, and the totals of the constants
 pub record IsConstantIndex (items : List Constant) (index : ConstantIndex) : Type 0 where
@@ -65,16 +65,16 @@ KnowsAtMost {X} n Is index = (items : List X) × (Is items index × (length item
 -- ---- files
 
 -- the file has that name
-abbrev pub is_named : List ℕ → FileSpec → Bool
-is_named name f = pointwise nat_eq name f.name
+abbrev pub is_file_named : List ℕ → FileSpec → Bool
+is_file_named name f = pointwise nat_eq name f.name
 
 -- the file has that use
 abbrev pub is_for : FileUse → FileSpec → Bool
 is_for u f = same_use u (file_use f)
 
 -- an F card whose file passes a test
-abbrev pub has_file : (FileSpec → Bool) → SpecCard → Bool
-has_file test c = option_map_or test (file_on c.spec) false
+abbrev pub has_such_file : (FileSpec → Bool) → SpecCard → Bool
+has_such_file test c = option_map_or test (file_on c.spec) false
 
 -- the place of a card
 abbrev pub place_of_card : ℕ → SpecCard → ℕ
@@ -82,7 +82,7 @@ place_of_card i c = i
 
 -- the place of the first F card whose file passes a test
 abbrev pub first_file : (FileSpec → Bool) → List SpecCard → Option ℕ
-first_file test cards = first_at (has_file test) place_of_card 0 cards
+first_file test cards = first_at (has_such_file test) place_of_card 0 cards
 
 -- a place among the first n
 abbrev pub place_before : ℕ → Option ℕ → Option ℕ
@@ -90,8 +90,8 @@ place_before n None = None
 place_before n (Some i) = if nat_lt i n then Some i else None
 
 -- the file on the card at a place
-abbrev pub file_at : List SpecCard → Option ℕ → Option FileSpec
-file_at cards place = option_and_then (λ c. file_on c.spec) (option_and_then (slice_get cards) place)
+abbrev pub file_of_card_at : List SpecCard → Option ℕ → Option FileSpec
+file_of_card_at cards place = option_and_then (λ c. file_on c.spec) (option_and_then (slice_get cards) place)
 
 -- the place of the first F card with a use
 abbrev pub first_with : FirstUses → FileUse → Option ℕ
@@ -109,12 +109,12 @@ with_use Disk i s = record { primary = s.primary; secondary = s.secondary; print
 
 -- the card's file, if it has one, is noted under its name and its use, unless they are known
 pub record NotesFile (place : ℕ) (c : SpecCard) (old new : FirstFiles) : Type 0 where
-  pub named : (name : List ℕ) → lookup (pointwise nat_eq name) new.names.entries ≡ option_or (lookup (pointwise nat_eq name) old.names.entries) (if has_file (is_named name) c then Some place else None)
-  pub used : (u : FileUse) → first_with new.uses u ≡ option_or (first_with old.uses u) (if has_file (is_for u) c then Some place else None)
+  pub named : (name : List ℕ) → lookup (pointwise nat_eq name) new.names.entries ≡ option_or (lookup (pointwise nat_eq name) old.names.entries) (if has_such_file (is_file_named name) c then Some place else None)
+  pub used : (u : FileUse) → first_with new.uses u ≡ option_or (first_with old.uses u) (if has_such_file (is_for u) c then Some place else None)
 
 -- each name and each use with the place of its first F card
 pub record AreFirstFiles (files : FirstFiles) (cards : List SpecCard) : Type 0 where
-  pub named : (name : List ℕ) → lookup (pointwise nat_eq name) files.names.entries ≡ first_file (is_named name) cards
+  pub named : (name : List ℕ) → lookup (pointwise nat_eq name) files.names.entries ≡ first_file (is_file_named name) cards
   pub used : (u : FileUse) → first_with files.uses u ≡ first_file (is_for u) cards
 
 -- ---- items at their places

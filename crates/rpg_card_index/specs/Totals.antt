@@ -7,7 +7,7 @@ use Rattle.rpg_cards.specs.Names.{given_names, same_name}
 use Rattle.rpg_cards.specs.declared.constants.Constant.{Constant}
 use Rattle.rpg_cards.specs.declared.names.Definition.{Definition}
 use Rattle.rpg_program.specs.Forms.{size_of}
-use Rattle.rpg_symbols.specs.Totals.{Running, first_totals}
+use Rattle.rpg_symbols.specs.Totals.{TotalsByItem, first_totals}
 use Rattle.rpg_symbols.specs.declared.totals.Totals.{Totals}
 
 -- the bytes that a defined name takes; 0 without a form
@@ -31,7 +31,7 @@ abbrev pub constant_totals : List Constant → Totals
 constant_totals xs = totals_of is_same constant_size [] xs
 
 -- the totals of the first n of the items for each n, and of all
-pub record AreRunning (X : Type 0) (totals : List X → Totals) (items : List X) (r : Running) : Type 0 where
+pub record AreRunning (X : Type 0) (totals : List X → Totals) (items : List X) (r : TotalsByItem) : Type 0 where
   pub count : length r.before ≡ length items
   pub each : (n : ℕ) → first_totals r n ≡ totals (take n items)
   pub all : r.all ≡ totals items

@@ -5,7 +5,7 @@ ghost use Rattle.std.specs.Map.{lookup};
 ghost use Rattle.std.specs.Option.{option_to_list};
 ghost use Rattle.rpg_cards.specs.Constants.{constants_on, factor_constants, is_same};
 ghost use Rattle.rpg_card_index.specs.Index.{IsConstantIndex, KnowsAtMost, Notes};
-ghost use Rattle.rpg_symbols.specs.Totals.{counts_at, first_totals};
+ghost use Rattle.rpg_symbols.specs.Totals.{is_counted_at, first_totals};
 
 use crate::first_files::note;
 use rpg_cards::{Constant, SpecCard, constant_in, text_constant};
@@ -104,7 +104,7 @@ impl ConstantIndex {
 
     /// Whether the constant at a place is the first of its kind.
     pub(crate) fn counts(&self, place: usize) -> bool
-        ensures { result ≡ counts_at self.now.totals place }
+        ensures { result ≡ is_counted_at self.now.totals place }
     {
         self.totals.counts(place)
     }

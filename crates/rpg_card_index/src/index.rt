@@ -6,7 +6,7 @@ ghost use Rattle.rpg_cards.specs.Constants as constants;
 ghost use Rattle.rpg_cards.specs.Constants.{constants_in, is_same};
 ghost use Rattle.rpg_cards.specs.Files as files;
 ghost use Rattle.rpg_cards.specs.First.{first_at};
-ghost use Rattle.rpg_card_index.specs.Index.{defined_first, file_at, has_form, place_before, placed_definition, IsIndexOf, IsNewAt};
+ghost use Rattle.rpg_card_index.specs.Index.{defined_first, file_of_card_at, has_some_form, place_before, placed_definition, IsIndexOf, IsNewAt};
 ghost use Rattle.rpg_cards.specs.Levels as levels;
 ghost use Rattle.rpg_cards.specs.Names as names;
 ghost use Rattle.rpg_cards.specs.Names.{is_of};
@@ -117,7 +117,7 @@ impl<'a> IndexedCards<'a> {
 
     /// Whether each definition has a form.
     pub fn all_have_forms(&self) -> bool
-        ensures { result ≡ list_all has_form (names.definitions self.now) }
+        ensures { result ≡ list_all has_some_form (names.definitions self.now) }
     {
         self.index.names.all_have_forms()
     }
@@ -287,7 +287,7 @@ impl<'a> IndexedCards<'a> {
 
     /// Returns the file on the card at a place, if that is among the first `count` cards.
     fn file_at(&self, place: Option<usize>, count: usize) -> Option<&'a FileSpec>
-        ensures { option_copied result ≡ file_at self.now (place_before count place) }
+        ensures { option_copied result ≡ file_of_card_at self.now (place_before count place) }
     {
         match place {
             Some(place) if place < count => self.cards.get(place)?.file(),

@@ -8,7 +8,7 @@ ghost use Rattle.rpg_card_index.specs.Index.{IsNameIndex, KnowsAtMost, Notes};
 ghost use Rattle.rpg_cards.specs.Names as names;
 ghost use Rattle.rpg_cards.specs.Names.{definitions_on};
 ghost use Rattle.rpg_program.specs.Forms.{size_of};
-ghost use Rattle.rpg_symbols.specs.Totals.{counts_at, first_totals};
+ghost use Rattle.rpg_symbols.specs.Totals.{is_counted_at, first_totals};
 
 use crate::first_files::note;
 use rpg_cards::{
@@ -128,7 +128,7 @@ impl NameIndex {
 
     /// Whether the definition at a place is the first of its name, and the name isn't UDATE or PAGE.
     pub(crate) fn counts(&self, place: usize) -> bool
-        ensures { result ≡ counts_at self.now.totals place }
+        ensures { result ≡ is_counted_at self.now.totals place }
     {
         self.totals.counts(place)
     }

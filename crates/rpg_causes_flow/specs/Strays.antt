@@ -13,18 +13,18 @@ use Rattle.rpg_sheet_specs.specs.declared.output.OutputSpec.{OutputSpec}
 use Rattle.rpg_sheet_specs.specs.declared.output.OutputSpec.TheVariants as output
 
 -- the number of the card right before, if there is one
-abbrev pub number_before : List SpecCard → Option ℕ
-number_before before = option_map (λ (c : SpecCard). c.number) (card_right_before before)
+abbrev pub card_number_before : List SpecCard → Option ℕ
+card_number_before before = option_map (λ (c : SpecCard). c.number) (card_right_before before)
 
 -- an AND card that continues no type, or a field if none is open
 abbrev pub input_stray_cause : Bool → List SpecCard → InputSpec → Option StrayCause
 input_stray_cause is_open before (input.Type t) = None
-input_stray_cause is_open before (input.And codes) = if follows_codes before then None else Some (OtherThanType (number_before before))
+input_stray_cause is_open before (input.And codes) = if follows_codes before then None else Some (OtherThanType (card_number_before before))
 input_stray_cause is_open before (input.Field f) = if is_open then None else Some NoType
 
 -- an AND or OR card that continues no line
 abbrev pub unless_after_conditions : List SpecCard → Option StrayCause
-unless_after_conditions before = if follows_conditions before then None else Some (OtherThanLine (number_before before))
+unless_after_conditions before = if follows_conditions before then None else Some (OtherThanLine (card_number_before before))
 
 -- such a card, or a field if no line is open
 abbrev pub output_stray_cause : Bool → List SpecCard → OutputSpec → Option StrayCause

@@ -81,7 +81,7 @@ fn on_output(is_open: bool, before: &[SpecCard], output: &OutputSpec) -> Option<
 }
 
 fn number_before(before: &[SpecCard]) -> Option<u16>
-    ensures { result ≡ causes.number_before before.now }
+    ensures { result ≡ causes.card_number_before before.now }
 {
     Some(before.last()?.number)
 }

@@ -20,9 +20,9 @@ ReportsFault Came (answers.File argument fault) = (report : Report) × Came (Ok 
 ReportsFault Came e = ⊥
 
 -- the answer is the run's own: its report, or its fault
-abbrev pub ReportsRun : (Result Report RunFault → Type 0) → Result Report Answer → Type 0
-ReportsRun Came (Ok report) = Came (Ok report)
-ReportsRun Came (Err e) = ReportsFault Came e
+abbrev pub AnswersRun : (Result Report RunFault → Type 0) → Result Report Answer → Type 0
+AnswersRun Came (Ok report) = Came (Ok report)
+AnswersRun Came (Err e) = ReportsFault Came e
 
 -- the flush of a writer failed, and no other call of it
 abbrev pub FlushFaults : FileArgument → Counts → Counts → Type 0

@@ -2,7 +2,7 @@
 
 ghost use Rattle.std.specs.Prelude.{◌-◌, ◌^◌, ◌<◌};
 ghost use Rattle.rpg_cli_run.specs.Flushing.{Flushes};
-ghost use Rattle.rpg_cli_run.specs.Running.{AnswersWhoseFault, ReportsRun};
+ghost use Rattle.rpg_cli_run.specs.Running.{AnswersWhoseFault, AnswersRun};
 ghost use Rattle.rpg_engine.specs.Devices.{CanCountFaults};
 ghost use Rattle.rpg_engine.specs.Running.{RunsProgram};
 ghost use Rattle.rpg_files.specs.Counting.{faults_of};
@@ -51,7 +51,7 @@ pub(crate) fn run_over<I: Read, S: Read, P: Write, D: Write, W: Watcher>(
     watcher: &mut W,
 ) -> Result<Report, Answer>
     requires { CanCountFaults readers.old writers.old }
-    ensures runs { ReportsRun (RunsProgram I.remaining S.remaining P.contents D.contents program.now date.now readers writers) result }
+    ensures runs { AnswersRun (RunsProgram I.remaining S.remaining P.contents D.contents program.now date.now readers writers) result }
     ensures faults { AnswersWhoseFault I.remaining S.remaining readers writers result }
 {
     let ran = watch_program(alloc, program, date, readers, writers, watcher);
@@ -73,8 +73,8 @@ pub(crate) fn run_source_over<I: Read, S: Read, P: Write, D: Write, W: Watcher>(
     watcher: &mut W,
 ) -> Result<Report, Answer>
     requires { CanCountFaults readers.old writers.old }
-    ensures runs { ReportsRun (RunsSource I.remaining S.remaining P.contents D.contents source.now date.now readers writers) result }
-    ensures program { ReportsRun (RunsProgram I.remaining S.remaining P.contents D.contents source.now.program date.now readers writers) result }
+    ensures runs { AnswersRun (RunsSource I.remaining S.remaining P.contents D.contents source.now date.now readers writers) result }
+    ensures program { AnswersRun (RunsProgram I.remaining S.remaining P.contents D.contents source.now.program date.now readers writers) result }
     ensures faults { AnswersWhoseFault I.remaining S.remaining readers writers result }
 {
     let ran = run_source(alloc, source, date, readers, writers, watcher);

@@ -66,8 +66,8 @@ abbrev pub condition_tests : ℕ → Spec → Bool
 condition_tests n s = option_map_or (any_tests n) (conditions_on_card s) false
 
 -- the control level or a condition of the card is on that indicator
-abbrev pub tests : ℕ → SpecCard → Bool
-tests n c = level_tests n c.spec || condition_tests n c.spec
+abbrev pub tests_indicator : ℕ → SpecCard → Bool
+tests_indicator n c = level_tests n c.spec || condition_tests n c.spec
 
 -- the place of the first of three that satisfies the test, each of this many columns
 abbrev pub place_of : {X : Type 0} → (X → Bool) → ℕ → Three X → ℕ
@@ -163,7 +163,7 @@ never_on_at n c = record { card = c.number; columns = tested_columns n c; kind =
 
 -- tested but never turned on: at the first card that tests it
 abbrev pub never_on : ℕ → List SpecCard → Option Warning
-never_on n cards = if is_of_cards n && not (list_any (turns_on n) cards) then option_map (never_on_at n) (find (tests n) cards) else None
+never_on n cards = if is_of_cards n && not (list_any (turns_on n) cards) then option_map (never_on_at n) (find (tests_indicator n) cards) else None
 
 -- W2 at a card
 abbrev pub never_tested_at : ℕ → SpecCard → Warning
@@ -171,7 +171,7 @@ never_tested_at n c = record { card = c.number; columns = shown_columns n c; kin
 
 -- turned on to be tested, but never tested: at the first card that turns it on
 abbrev pub never_tested : ℕ → List SpecCard → Option Warning
-never_tested n cards = if nat_le n 99 && not (is_some (find (tests n) cards)) then option_map (never_tested_at n) (find (shows n) cards) else None
+never_tested n cards = if nat_le n 99 && not (is_some (find (tests_indicator n) cards)) then option_map (never_tested_at n) (find (shows n) cards) else None
 
 -- ---- levels
 
@@ -204,7 +204,7 @@ no_level_at n c = record { card = c.number; columns = tested_columns n c; kind =
 
 -- a level that is tested, that no card turns on, and that no field has: at the first card that tests it
 abbrev pub no_level : ℕ → List SpecCard → Option Warning
-no_level n cards = if is_level n && not (list_any (turns_on n) cards) && not (list_any (card_has_level n) cards) then option_map (no_level_at n) (find (tests n) cards) else None
+no_level n cards = if is_level n && not (list_any (turns_on n) cards) && not (list_any (card_has_level n) cards) then option_map (no_level_at n) (find (tests_indicator n) cards) else None
 
 -- one warning, or none
 abbrev pub listed : Option Warning → List Warning

@@ -91,7 +91,7 @@ fn put_of(
     is_tested: bool,
     is_shown: bool,
 ) -> Result<(), AllocError>
-    requires tested { is_tested ≡ list_any (indicators.tests indicator) cards.now }
+    requires tested { is_tested ≡ list_any (indicators.tests_indicator indicator) cards.now }
     requires shown { is_shown ≡ list_any (indicators.shows indicator) cards.now }
     ensures { OnOk result (warnings.new.items ≡ warnings.old.items ++ indicators.indicator_warnings indicator cards.now) }
 {

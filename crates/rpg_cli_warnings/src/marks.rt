@@ -44,7 +44,7 @@ fn note_conditions(marks: &mut [bool; 256], card: &SpecCard)
 
 /// Marks the indicators that a card tests.
 fn note_tested(marks: &mut [bool; 256], card: &SpecCard)
-    ensures { (n : ℕ) → is_marked n marks.new ≡ (is_marked n marks.old || indicators.tests n card.now) }
+    ensures { (n : ℕ) → is_marked n marks.new ≡ (is_marked n marks.old || indicators.tests_indicator n card.now) }
 {
     note_level(marks, card);
     note_conditions(marks, card);
@@ -52,7 +52,7 @@ fn note_tested(marks: &mut [bool; 256], card: &SpecCard)
 
 /// Marks each indicator that one of the cards tests.
 pub(crate) fn tested_by(cards: &[SpecCard]) -> [bool; 256]
-    ensures { (n : ℕ) → is_marked n result ≡ list_any (indicators.tests n) cards.now }
+    ensures { (n : ℕ) → is_marked n result ≡ list_any (indicators.tests_indicator n) cards.now }
 {
     let mut marks = [false; 256];
     for card in cards {

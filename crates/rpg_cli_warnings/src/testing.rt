@@ -88,7 +88,7 @@ fn condition_tests(card: &SpecCard, indicator: u8) -> bool
 
 /// Whether a card tests an indicator: by its control level or a condition.
 fn tests(card: &SpecCard, indicator: u8) -> bool
-    ensures { result ≡ indicators.tests indicator card.now }
+    ensures { result ≡ indicators.tests_indicator indicator card.now }
 {
     level_tests(card, indicator) || condition_tests(card, indicator)
 }
@@ -123,7 +123,7 @@ pub(crate) fn tested_columns(card: &SpecCard, indicator: u8) -> ColumnFault
 
 /// Returns the first card that tests an indicator.
 pub(crate) fn first_testing(cards: &[SpecCard], indicator: u8) -> Option<&SpecCard>
-    ensures { option_copied result ≡ find (indicators.tests indicator) cards.now }
+    ensures { option_copied result ≡ find (indicators.tests_indicator indicator) cards.now }
 {
     for card in cards {
         if tests(card, indicator) {

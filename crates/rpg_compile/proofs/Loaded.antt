@@ -25,7 +25,7 @@ use Rattle.rpg_sheet_specs.specs.declared.extension.ExtensionSpec.{ExtensionSpec
 use Rattle.rpg_sheet_specs.specs.declared.extension.TableSpec.{TableSpec}
 use Rattle.rpg_sheet_specs.specs.declared.spec.Spec.{Spec}
 use Rattle.rpg_sheet_specs.specs.declared.spec.Spec.TheVariants as spec
-use Rattle.rpg_compile_program.specs.Defined.{HasForm, IsForm}
+use Rattle.rpg_compile_program.specs.Defined.{DefinesForm, IsForm}
 use Rattle.rpg_compile_program.proofs.Lists.{Seen, or_first}
 use Rattle.rpg_compile_program.proofs.Redefined.{HasName}
 use Rattle.rpg_compile_program.specs.Data.{Loaded, all_loaded, decks, entry_value, extensions, loaded, tables_loaded, with_deck}
@@ -128,16 +128,16 @@ each_front : {X : Type 0} (P : X → Type 0) (xs ys : List X) → Each P (xs ++ 
 each_front P [] ys h = tt
 each_front P (x ∷ xs) ys h = (h.0, each_front P xs ys h.1)
 
-of_tables : (cards : List SpecCard) (e : ExtensionSpec) (ts : List TableSpec) → Each (HasName cards) (map (definition_in e) ts) → Each HasForm (map (definition_in e) ts) → Each (IsOfName cards e) ts
+of_tables : (cards : List SpecCard) (e : ExtensionSpec) (ts : List TableSpec) → Each (HasName cards) (map (definition_in e) ts) → Each DefinesForm (map (definition_in e) ts) → Each (IsOfName cards e) ts
 of_tables cards e [] named formed = tt
 of_tables cards e (t ∷ ts) named formed = (record { name = named.0; form = formed.0 }, of_tables cards e ts named.1 formed.1)
 
-tables_named : (cards : List SpecCard) (s : Spec) (e : ExtensionSpec) → extension_on s ≡ Some e → Each (HasName cards) (definitions_on s) → Each HasForm (definitions_on s) → Each (IsOfName cards e) (tables_on e)
+tables_named : (cards : List SpecCard) (s : Spec) (e : ExtensionSpec) → extension_on s ≡ Some e → Each (HasName cards) (definitions_on s) → Each DefinesForm (definitions_on s) → Each (IsOfName cards e) (tables_on e)
 tables_named cards (spec.Header x) e is named formed = absurd cc
 tables_named cards (spec.File x) e is named formed = absurd cc
 tables_named cards (spec.Extension x) e is named formed =
     let same : x ≡ e = cc in
-    subst (λ (y : ExtensionSpec). Each (IsOfName cards y) (tables_on y)) same (of_tables cards x (tables_on x) (front (HasName cards) named) (front HasForm formed))
+    subst (λ (y : ExtensionSpec). Each (IsOfName cards y) (tables_on y)) same (of_tables cards x (tables_on x) (front (HasName cards) named) (front DefinesForm formed))
   where
     front : (P : Definition → Type 0) → Each P (definitions_on (spec.Extension x)) → Each P (map (definition_in x) (tables_on x))
     front P h = let ds = map (definition_in x) (tables_on x) in each_front P ds [] (each_front P (ds ++ []) [] (each_front P ((ds ++ []) ++ []) [] h))
@@ -177,7 +177,7 @@ and_second false b t e = absurd cc
 module _ (cards : List SpecCard) (spelled : FitsText) (ranges : AreCards cards)
     (kept : Seen cards (λ before c after. breaks_data cards before c ≡ false))
     (named : Seen cards (λ before c after. Each (HasName cards) (definitions_on c.spec)))
-    (formed : Seen cards (λ before c after. Each HasForm (definitions_on c.spec))) where
+    (formed : Seen cards (λ before c after. Each DefinesForm (definitions_on c.spec))) where
   -- the deck that a card takes
   record TakesDeck (n : ℕ) (e : ExtensionSpec) (per_card : ℕ) : Type 0 where
     texts : List (List ℕ)

@@ -25,7 +25,7 @@ use Rattle.rpg_compile_fields.specs.Constants.{different}
 use Rattle.rpg_compile_fields.specs.Names.{names_up_to}
 use Rattle.rpg_compile_program.proofs.Each.{each_at, each_front}
 use Rattle.rpg_compile_program.proofs.Fields.{names_are, names_with}
-use Rattle.rpg_compile_program.specs.Defined.{AreDefined, HasForm, IsForm}
+use Rattle.rpg_compile_program.specs.Defined.{AreDefined, DefinesForm, IsForm}
 use Rattle.rpg_compile_program.specs.Table.{defined_fields, with_definition, with_definitions, with_form}
 use Rattle.rpg_program.specs.declared.form.FieldForm.{FieldForm}
 use Rattle.rpg_symbols.specs.Fields.{NamedForms, defined_form, given}
@@ -58,19 +58,19 @@ next_known all i x new at is known = next_is all i x new at is ∙ ap (λ b. con
 -- ---- the fields of names, with one more definition
 
 -- a definition at a place has a form
-pub form_at : (cards : List SpecCard) (i : ℕ) (d : Definition) → AreDefined cards → slice_get (definitions cards) i ≡ Some d → HasForm d
+pub form_at : (cards : List SpecCard) (i : ℕ) (d : Definition) → AreDefined cards → slice_get (definitions cards) i ≡ Some d → DefinesForm d
 form_at cards i d defined at =
     let ds = definitions cards in
     let split : ds ≡ take i ds ++ d ∷ drop (i + 1) ds =
     sym (take-append-drop (i + 1) ds) ∙ ap (λ (l : List Definition). l ++ drop (i + 1) ds) (more_taken ds i d at) ∙ append_assoc (take i ds) (d ∷ []) (drop (i + 1) ds) in
-    each_at HasForm (take i ds) d (drop (i + 1) ds) (subst (Each HasForm) split defined)
+    each_at DefinesForm (take i ds) d (drop (i + 1) ds) (subst (Each DefinesForm) split defined)
 
 -- a name is known if one of the definitions is of it
 known_in : (cards : List SpecCard) (i : ℕ) (name : List ℕ) → AreDefined cards → is_some (defined_form (names_up_to cards i) name) ≡ (list_any (is_of name) given_names || list_any (is_of name) (take i (definitions cards)))
 known_in cards i name defined =
     let ds = definitions cards in
     let sought : Definition = record { name = name; form = None } in
-    let front : Each HasForm (take i ds) = each_front HasForm (take i ds) (drop i ds) (subst (Each HasForm) (sym (take-append-drop i ds)) defined) in
+    let front : Each DefinesForm (take i ds) = each_front DefinesForm (take i ds) (drop i ds) (subst (Each DefinesForm) (sym (take-append-drop i ds)) defined) in
     sym (known_fields (names_up_to cards i) name) ∙ sym (ap (list_any (is_of name)) (names_with given (take i ds) front)) ∙ among same_name same_name_equiv sought given_names (take i ds)
 
 next_fields : (cards : List SpecCard) (i : ℕ) (d : Definition) (form : FieldForm) (new : Bool) → AreDefined cards → slice_get (definitions cards) i ≡ Some d → d.form ≡ Some form

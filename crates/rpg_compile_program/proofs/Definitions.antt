@@ -22,7 +22,7 @@ use Rattle.rpg_sheet_specs.specs.declared.extension.ExtensionSpec.{ExtensionSpec
 use Rattle.rpg_sheet_specs.specs.declared.extension.TableSpec.{TableSpec}
 use Rattle.rpg_sheet_specs.specs.declared.input.InputFieldSpec.{InputFieldSpec}
 use Rattle.rpg_text.specs.Texts.{is_between}
-use Rattle.rpg_compile_program.specs.Defined.{AreDefined, HasForm, IsForm}
+use Rattle.rpg_compile_program.specs.Defined.{AreDefined, DefinesForm, IsForm}
 
 -- what has a size as a field has one in any class
 sized_there : (made : Kind → ℕ → ℕ → FieldForm) (len : ℕ) (decimals : Option ℕ) → is_none (sized_form len decimals) ≡ false → IsForm (sized made len decimals)
@@ -41,7 +41,7 @@ when : (b : Bool) (o : Option FieldForm) → b ≡ true → IsForm o → IsForm 
 when true o e h = h
 when false o e h = cc
 
-tables_there : (e : ExtensionSpec) (ts : List TableSpec) → bad_entries_of e ≡ false → list_any bad_size_of_table ts ≡ false → Each HasForm (map (definition_in e) ts)
+tables_there : (e : ExtensionSpec) (ts : List TableSpec) → bad_entries_of e ≡ false → list_any bad_size_of_table ts ≡ false → Each DefinesForm (map (definition_in e) ts)
 tables_there e [] few size = tt
 tables_there e (t ∷ ts) few size = (
   when (is_between 1 9999 e.entries) _ (not-false _ few) (sized_there (form_with (table_class t.name) t.ascending e.entries) t.length t.decimals (or_first (bad_size_of_table t) _ size)),
@@ -49,15 +49,15 @@ tables_there e (t ∷ ts) few size = (
 )
 
 extension_there : (o : Option ExtensionSpec) → option_map_or bad_entries_of o false ≡ false → option_map_or bad_size_of_tables o false ≡ false
-    → Each HasForm (flat_map (λ e. map (definition_in e) (tables_on e)) (option_to_list o))
+    → Each DefinesForm (flat_map (λ e. map (definition_in e) (tables_on e)) (option_to_list o))
 extension_there None few size = tt
-extension_there (Some e) few size = each_append HasForm (map (definition_in e) (tables_on e)) [] (tables_there e (tables_on e) few size) tt
+extension_there (Some e) few size = each_append DefinesForm (map (definition_in e) (tables_on e)) [] (tables_there e (tables_on e) few size) tt
 
 -- columns that aren't turned around
 abbrev pub is_turned : InputFieldSpec → Bool
 is_turned f = nat_lt f.to f.from
 
-field_there : (o : Option InputFieldSpec) → option_map_or bad_size_of_field o false ≡ false → option_map_or is_turned o false ≡ false → Each HasForm (option_to_list (option_map definition_of o))
+field_there : (o : Option InputFieldSpec) → option_map_or bad_size_of_field o false ≡ false → option_map_or is_turned o false ≡ false → Each DefinesForm (option_to_list (option_map definition_of o))
 field_there None size straight = tt
 field_there (Some f) size straight =
     let order : nat_le f.from f.to ≡ true = le-leb f.from f.to (ltb-false f.to f.from straight) in
@@ -67,34 +67,34 @@ field_there (Some f) size straight =
     by true e h = h
     by false e h = cc
 
-result_there : (o : Option CalculationSpec) → option_map_or bad_size_of_result o false ≡ false → Each HasForm (option_to_list (option_and_then definition_by o))
+result_there : (o : Option CalculationSpec) → option_map_or bad_size_of_result o false ≡ false → Each DefinesForm (option_to_list (option_and_then definition_by o))
 result_there None size = tt
 result_there (Some k) size = by k.length k.result_field size
   where
-    by : (n : Option ℕ) (r : Option Entry) → bad_size_by n k.decimals ≡ false → Each HasForm (option_to_list (option_and_then (λ len. option_map (λ (e : Entry). record { name = e.name; form = sized_form len k.decimals }) r) n))
+    by : (n : Option ℕ) (r : Option Entry) → bad_size_by n k.decimals ≡ false → Each DefinesForm (option_to_list (option_and_then (λ len. option_map (λ (e : Entry). record { name = e.name; form = sized_form len k.decimals }) r) n))
     by None r size = tt
     by (Some len) None size = tt
     by (Some len) (Some e) size = (sized_there (form_with class.Plain false 1) len k.decimals size, tt)
 
-each_on_cards : (cards : List SpecCard) → Each (λ (c : SpecCard). Each HasForm (definitions_on c.spec)) cards → AreDefined cards
+each_on_cards : (cards : List SpecCard) → Each (λ (c : SpecCard). Each DefinesForm (definitions_on c.spec)) cards → AreDefined cards
 each_on_cards [] h = tt
-each_on_cards (c ∷ cs) h = each_append HasForm (definitions_on c.spec) (definitions cs) h.0 (each_on_cards cs h.1)
+each_on_cards (c ∷ cs) h = each_append DefinesForm (definitions_on c.spec) (definitions cs) h.0 (each_on_cards cs h.1)
 
 module _ (cards : List SpecCard)
     (sizes : Seen cards (λ before c after. bad_size c ≡ false))
     (entries : Seen cards (λ before c after. option_map_or bad_entries_of (extension_on c.spec) false ≡ false))
     (straight : Seen cards (λ before c after. option_map_or is_turned (input_field_on c.spec) false ≡ false)) where
-  on_one : Seen cards (λ before c after. Each HasForm (definitions_on c.spec))
+  on_one : Seen cards (λ before c after. Each DefinesForm (definitions_on c.spec))
   on_one before c after split =
       let size = sizes before c after split in
       let parts = or_first (option_map_or bad_size_of_tables (extension_on c.spec) false || option_map_or bad_size_of_field (input_field_on c.spec) false) (option_map_or bad_size_of_result (calculation_on c.spec) false) size in
       let tables = flat_map (λ e. map (definition_in e) (tables_on e)) (option_to_list (extension_on c.spec)) in
       let fields = option_to_list (option_map definition_of (input_field_on c.spec)) in
-      each_append HasForm (tables ++ fields) (option_to_list (option_and_then definition_by (calculation_on c.spec)))
-      (each_append HasForm tables fields
+      each_append DefinesForm (tables ++ fields) (option_to_list (option_and_then definition_by (calculation_on c.spec)))
+      (each_append DefinesForm tables fields
       (extension_there (extension_on c.spec) (entries before c after split) (or_first (option_map_or bad_size_of_tables (extension_on c.spec) false) (option_map_or bad_size_of_field (input_field_on c.spec) false) parts))
       (field_there (input_field_on c.spec) (or_second (option_map_or bad_size_of_tables (extension_on c.spec) false) (option_map_or bad_size_of_field (input_field_on c.spec) false) parts) (straight before c after split)))
       (result_there (calculation_on c.spec) (or_second (option_map_or bad_size_of_tables (extension_on c.spec) false || option_map_or bad_size_of_field (input_field_on c.spec) false) (option_map_or bad_size_of_result (calculation_on c.spec) false) size))
 
   pub all_defined : AreDefined cards
-  all_defined = each_on_cards cards (each_card cards (λ c. Each HasForm (definitions_on c.spec)) on_one)
+  all_defined = each_on_cards cards (each_card cards (λ c. Each DefinesForm (definitions_on c.spec)) on_one)

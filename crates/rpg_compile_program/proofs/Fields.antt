@@ -10,13 +10,13 @@ use Rattle.rpg_cards.specs.declared.names.Definition.{Definition}
 use Rattle.rpg_cards.specs.declared.spec_card.SpecCard.{SpecCard}
 use Rattle.rpg_program.specs.declared.form.FieldForm.{FieldForm}
 use Rattle.rpg_symbols.specs.Fields.{NamedForms, defined_form, given}
-use Rattle.rpg_compile_program.specs.Defined.{AreDefined, HasForm, IsForm}
+use Rattle.rpg_compile_program.specs.Defined.{AreDefined, DefinesForm, IsForm}
 use Rattle.rpg_compile_program.specs.Table.{defined_fields, with_definition, with_definitions, with_form}
 
 abbrev with_its_form : List ℕ → Option FieldForm → Definition
 with_its_form name o = record { name = name; form = o }
 
-one_name : (fs : NamedForms) (d : Definition) → HasForm d → insert_key same_name (map defined_field fs) d ≡ map defined_field (with_definition fs d)
+one_name : (fs : NamedForms) (d : Definition) → DefinesForm d → insert_key same_name (map defined_field fs) d ≡ map defined_field (with_definition fs d)
 one_name fs d valid = by_form d.form refl valid
   where
     by_cases : (b : Bool) (form : FieldForm) → cond b (map defined_field fs) (map defined_field fs ++ defined_field (d.name, form) ∷ []) ≡ map defined_field (cond b fs (fs ++ (d.name, form) ∷ []))
@@ -29,7 +29,7 @@ one_name fs d valid = by_form d.form refl valid
         ap (λ b. cond b (map defined_field fs) (map defined_field fs ++ d ∷ [])) (known_fields fs d.name)
         ∙ ap (λ (o : Option FieldForm). cond (is_some (defined_form fs d.name)) (map defined_field fs) (map defined_field fs ++ with_its_form d.name o ∷ [])) e ∙ by_cases (is_some (defined_form fs d.name)) form
 
-pub names_with : (fs : NamedForms) (ds : List Definition) → Each HasForm ds → insert_all same_name (map defined_field fs) ds ≡ map defined_field (with_definitions fs ds)
+pub names_with : (fs : NamedForms) (ds : List Definition) → Each DefinesForm ds → insert_all same_name (map defined_field fs) ds ≡ map defined_field (with_definitions fs ds)
 names_with fs [] valid = refl
 names_with fs (d ∷ ds) valid = ap (λ (known : List Definition). insert_all same_name known ds) (one_name fs d valid.0) ∙ names_with (with_definition fs d) ds valid.1
 

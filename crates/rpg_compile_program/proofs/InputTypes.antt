@@ -35,7 +35,7 @@ use Rattle.rpg_sheet_specs.specs.declared.input.RecordType.{RecordType}
 use Rattle.rpg_sheet_specs.specs.declared.spec.Spec.{Spec}
 use Rattle.rpg_sheet_specs.specs.declared.spec.Spec.TheVariants as spec
 use Rattle.rpg_text.specs.Texts.{is_between}
-use Rattle.rpg_compile_program.specs.Defined.{HasForm, IsForm}
+use Rattle.rpg_compile_program.specs.Defined.{DefinesForm, IsForm}
 use Rattle.rpg_compile_program.proofs.FiledGroups as filed
 use Rattle.rpg_compile_program.proofs.Known.{input_kept}
 use Rattle.rpg_compile_program.proofs.Lists.{or_first, or_second}
@@ -202,7 +202,7 @@ module _ (cards : List SpecCard) (rules : KeepsCardRules cards) (ranges : AreCar
 
   field_valid : (before : List SpecCard) (c : SpecCard) (after : List SpecCard) (f : InputFieldSpec) → cards ≡ before ++ c ∷ after → c.spec ≡ spec.Input (input.Field f) → IsFieldValid (open_file input_role before) f
   field_valid before c after f split is =
-      let here = (subst (λ s. Each HasForm (definitions_on s)) is (card_has_forms cards rules before c after split)).0 in
+      let here = (subst (λ s. Each DefinesForm (definitions_on s)) is (card_has_forms cards rules before c after split)).0 in
       let named = (subst (λ s. Each (HasName cards) (definitions_on s)) is (card_defines cards rules before c after split)).0 in
       by (field_form f) refl here named
     where

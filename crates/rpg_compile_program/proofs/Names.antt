@@ -7,7 +7,7 @@ use Rattle.std.specs.Option.{option_or, option_to_list}
 use Rattle.std.specs.Prelude.{is_some, nat_eq}
 use Rattle.std.proofs.lemmas.Bool.{or_left, or_right}
 use Rattle.std.proofs.lemmas.List.Folds.{list_any-append}
-use Rattle.rpg_compile_program.specs.Defined.{AreDefined, HasForm, IsForm}
+use Rattle.rpg_compile_program.specs.Defined.{AreDefined, DefinesForm, IsForm}
 use Rattle.rpg_cards.specs.Keys.{Fixed, Named}
 use Rattle.rpg_cards.specs.Plain.{Each}
 use Rattle.rpg_cards.proofs.FirstLemmas.{known_stays, lookup_push, option_or_assoc}
@@ -53,7 +53,7 @@ one_definition fields q name (Some form) ds valid rest =
     rest (with_name fields name form) ∙ ap (λ o. option_or o (form_in later)) (with_name-form fields name q form) ∙ option_or_assoc (defined_form fields q) _ (form_in later)
     ∙ ap (option_or (defined_form fields q)) (first_form-in name q form later)
 
-with_definitions-form : (fields : NamedForms) (ds : List Definition) (q : List ℕ) → Each HasForm ds →
+with_definitions-form : (fields : NamedForms) (ds : List Definition) (q : List ℕ) → Each DefinesForm ds →
     defined_form (with_definitions fields ds) q ≡ option_or (defined_form fields q) (form_in (first_form q ds))
 with_definitions-form fields [] q valid = or_none (defined_form fields q)
   where
@@ -72,7 +72,7 @@ IsValid Missing = Unit {0}
 IsValid Bad = ⊥
 IsValid (Valid form) = Unit {0}
 
-valid_in : (name : List ℕ) (ds : List Definition) → Each HasForm ds → IsValid (first_form name ds)
+valid_in : (name : List ℕ) (ds : List Definition) → Each DefinesForm ds → IsValid (first_form name ds)
 valid_in name [] valid = tt
 valid_in name (d ∷ ds) valid = by _ d.form valid.0 (valid_in name ds valid.1)
   where

@@ -15,7 +15,7 @@ use Rattle.rpg_program.specs.declared.form.FieldForm.{FieldForm}
 use Rattle.rpg_faults_limits.specs.Names.{redefine, redefines_as}
 use Rattle.rpg_symbols.proofs.Forms.{same_form-equal}
 use Rattle.rpg_symbols.specs.Fields.{defined_form, given, same_form}
-use Rattle.rpg_compile_program.specs.Defined.{HasForm, IsForm}
+use Rattle.rpg_compile_program.specs.Defined.{DefinesForm, IsForm}
 use Rattle.rpg_compile_program.proofs.Known.{defined, name_known}
 use Rattle.rpg_compile_program.proofs.Lists.{or_first, or_second}
 use Rattle.rpg_compile_program.specs.Rules.{KeepsCardRules}
@@ -42,7 +42,7 @@ first_form-append name (d ∷ ds) ys = ap (λ later. cond (is_of name d) (define
 itself : (d : Definition) (form : FieldForm) (ys : List Definition) → d.form ≡ Some form → first_form d.name (d ∷ ys) ≡ Valid form
 itself d form ys e = ap (λ b. cond b (defined_as d.form) (first_form d.name ys)) ((nat_list_eq_equiv).refl d.name) ∙ ap defined_as e
 
-never_bad : (name : List ℕ) (ds : List Definition) → Each HasForm ds → first_form name ds ≡ Bad → ⊥
+never_bad : (name : List ℕ) (ds : List Definition) → Each DefinesForm ds → first_form name ds ≡ Bad → ⊥
 never_bad name [] h e = absurd cc
 never_bad name (d ∷ ds) h e = by (is_of name d) d.form h.0 (never_bad name ds h.1) e
   where
@@ -52,7 +52,7 @@ never_bad name (d ∷ ds) h e = by (is_of name d) d.form h.0 (never_bad name ds 
     by false (Some form) h later e = later e
 
 -- a definition that isn't another form has the form of its name
-pub stays : (xs : List Definition) (d : Definition) (ys : List Definition) (form : FieldForm) → Each HasForm xs → redefines_as xs d ≡ false → d.form ≡ Some form → form_by d.name (xs ++ d ∷ ys) ≡ Valid form
+pub stays : (xs : List Definition) (d : Definition) (ys : List Definition) (form : FieldForm) → Each DefinesForm xs → redefines_as xs d ≡ false → d.form ≡ Some form → form_by d.name (xs ++ d ∷ ys) ≡ Valid form
 unfolding first_of
 stays xs d ys form valid same e = by_given (defined_form given d.name) alike
   where
@@ -74,10 +74,10 @@ stays xs d ys form valid same e = by_given (defined_form given d.name) alike
 abbrev pub HasName : List SpecCard → Definition → Type 0
 HasName cards d = (form : FieldForm) → d.form ≡ Some form → form_of_name d.name cards ≡ Valid form
 
-each_stays : (cards : List SpecCard) (xs ds ys : List Definition) → definitions cards ≡ xs ++ (ds ++ ys) → Each HasForm (definitions cards) → redefine xs ds ≡ false → Each (HasName cards) ds
+each_stays : (cards : List SpecCard) (xs ds ys : List Definition) → definitions cards ≡ xs ++ (ds ++ ys) → Each DefinesForm (definitions cards) → redefine xs ds ≡ false → Each (HasName cards) ds
 each_stays cards xs [] ys split valid same = tt
 each_stays cards xs (d ∷ ds) ys split valid same = (
-  λ form e. ap (form_by d.name) split ∙ stays xs d (ds ++ ys) form (each_front HasForm xs (d ∷ (ds ++ ys)) (subst (Each HasForm) split valid)) (or_first (redefines_as xs d) (redefine (xs ++ d ∷ []) ds) same) e,
+  λ form e. ap (form_by d.name) split ∙ stays xs d (ds ++ ys) form (each_front DefinesForm xs (d ∷ (ds ++ ys)) (subst (Each DefinesForm) split valid)) (or_first (redefines_as xs d) (redefine (xs ++ d ∷ []) ds) same) e,
   each_stays cards (xs ++ d ∷ []) ds ys (split ∙ sym (append_assoc xs (d ∷ []) (ds ++ ys))) valid (or_second (redefines_as xs d) (redefine (xs ++ d ∷ []) ds) same),
 )
 
@@ -95,7 +95,7 @@ module _ (cards : List SpecCard) (rules : KeepsCardRules cards) where
   each_second P (x ∷ xs) ys h = each_second P xs ys h.1
 
   -- and has one
-  pub card_has_forms : (before : List SpecCard) (c : SpecCard) (after : List SpecCard) → cards ≡ before ++ c ∷ after → Each HasForm (definitions_on c.spec)
+  pub card_has_forms : (before : List SpecCard) (c : SpecCard) (after : List SpecCard) → cards ≡ before ++ c ∷ after → Each DefinesForm (definitions_on c.spec)
   card_has_forms before c after split =
-      each_front HasForm (definitions_on c.spec) (definitions after)
-      (each_second HasForm (definitions before) (definitions_on c.spec ++ definitions after) (subst (Each HasForm) (ap definitions split ∙ definitions-append before (c ∷ after)) (defined cards rules)))
+      each_front DefinesForm (definitions_on c.spec) (definitions after)
+      (each_second DefinesForm (definitions before) (definitions_on c.spec ++ definitions after) (subst (Each DefinesForm) (ap definitions split ∙ definitions-append before (c ∷ after)) (defined cards rules)))

@@ -12,9 +12,9 @@ IsForm None = ⊥
 IsForm (Some form) = Unit {0}
 
 -- the definition has a form: its length, decimals and entries are within their limits
-abbrev pub HasForm : Definition → Type 0
-HasForm d = IsForm d.form
+abbrev pub DefinesForm : Definition → Type 0
+DefinesForm d = IsForm d.form
 
 -- each definition of the cards has a form
 abbrev pub AreDefined : List SpecCard → Type 0
-AreDefined cards = Each HasForm (definitions cards)
+AreDefined cards = Each DefinesForm (definitions cards)

@@ -33,7 +33,7 @@ use Rattle.rpg_program.specs.declared.section.Place.{Place}
 use Rattle.rpg_verify.specs.Bound.{bound}
 use Rattle.rpg_engine.specs.Inputs.{OfFronts, OfInputs, bytes_of_input, records_of}
 use Rattle.rpg_engine.specs.Outputs.{Contents, HaveAll, HaveParts, bytes_for, bytes_with, order}
-use Rattle.rpg_engine.specs.Reporting.{AreSameOrBad, IsBad, ContinuesFor, HasParts, HasSent, IsOutput, IsOutputBy, IsRunOver, IsUnread, MayBeOutput, Reports, WaitsFor, WentOn, bytes_of, records_of_file}
+use Rattle.rpg_engine.specs.Reporting.{AreSameOrBad, IsBad, ContinuesFor, HasParts, HasSent, IsOutputSoFar, IsOutputBy, IsRunOver, IsUnread, MayBeOutput, Reports, WaitsFor, WentOn, bytes_of, records_of_file}
 use Rattle.rpg_engine.specs.Sending.{FailsToSend, FileState, IsFileAfterFault, IsSendingOf, States, StopsWith, held_in}
 use Rattle.rpg_engine.specs.Streaming.{ReadsIfNeeded, FailsToRead, HasAnswered, IsRunFault, StopsEarly, TakesNone, ended_stage, record_with}
 use Rattle.rpg_engine.specs.declared.fault.CycleFault.{CycleFault}
@@ -365,7 +365,7 @@ module _ (first job : AtWork) (given others : Option (List ℕ)) (a b : Source) 
 
 -- what a run output by the end of a cycle, or by its own end
 abbrev EitherOutput : Object → ℤ → (primary secondary : List ℕ) → Bytes → Type 0
-EitherOutput p day primary secondary bytes = IsOutput p day primary secondary bytes ⊎ ((course : Course) × IsRunOver p day primary secondary course bytes)
+EitherOutput p day primary secondary bytes = IsOutputSoFar p day primary secondary bytes ⊎ ((course : Course) × IsRunOver p day primary secondary course bytes)
 
 -- a cycle with what it output
 module _ (first : AtWork) (day : ℤ) (is : IsStart first day) (xs ys : List ℕ) (earlier : List Selected) (now : Config) (i : Inputs) (rest after : Records) (cycles most : ℕ) (out : Output) (there : UnderWay) (o : Output)

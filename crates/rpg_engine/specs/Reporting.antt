@@ -109,13 +109,13 @@ abbrev pub IsOutputBy : ℕ → Object → ℤ → (primary secondary : List ℕ
 IsOutputBy cycles p day primary secondary bytes = (out : Output) × WentOn cycles p day primary secondary out (λ earlier rs c i. Unit {0}) × (bytes ≡ bytes_of out)
 
 -- these bytes had been output by the end of a cycle that went on
-abbrev pub IsOutput : Object → ℤ → (primary secondary : List ℕ) → Bytes → Type 0
-IsOutput p day primary secondary bytes = (cycles : ℕ) × IsOutputBy cycles p day primary secondary bytes
+abbrev pub IsOutputSoFar : Object → ℤ → (primary secondary : List ℕ) → Bytes → Type 0
+IsOutputSoFar p day primary secondary bytes = (cycles : ℕ) × IsOutputBy cycles p day primary secondary bytes
 
 -- or by the end of the one that ended the job; if memory ran out, by the end of as many cycles as the fault reports
 abbrev pub MayBeOutput : RunFault → Object → ℤ → (primary secondary : List ℕ) → Bytes → Type 0
 MayBeOutput (faults.NoMemory cycles) p day primary secondary bytes = IsOutputBy cycles p day primary secondary bytes
-MayBeOutput e p day primary secondary bytes = IsOutput p day primary secondary bytes ⊎ ((course : Course) × IsRunOver p day primary secondary course bytes)
+MayBeOutput e p day primary secondary bytes = IsOutputSoFar p day primary secondary bytes ⊎ ((course : Course) × IsRunOver p day primary secondary course bytes)
 
 -- what a file has of its bytes if a writer failed: all if it was sent before that one, `sent` bytes if it is that one, otherwise a prefix
 abbrev pub HasUpTo : Ordering → (sent : ℕ) → (before after : Option (List ℕ)) → List ℕ → Type 0

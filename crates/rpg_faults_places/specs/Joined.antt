@@ -9,7 +9,7 @@ abbrev pub is_joined : InputFieldSpec → Bool
 is_joined f = is_some f.level || is_some f.match_level
 
 -- an I card with such a field
-abbrev pub has_level : InputSpec → Bool
-has_level (input.Type t) = false
-has_level (input.And codes) = false
-has_level (input.Field f) = is_joined f
+abbrev pub has_joined_field : InputSpec → Bool
+has_joined_field (input.Type t) = false
+has_joined_field (input.And codes) = false
+has_joined_field (input.Field f) = is_joined f

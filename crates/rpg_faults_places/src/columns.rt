@@ -8,7 +8,7 @@ ghost use Rattle.rpg_faults_places.specs.Places as rules;
 ghost use Rattle.rpg_faults_places.specs.State.{IsPlaces};
 ghost use Rattle.rpg_cards.specs.Groups.{followers, input_role};
 ghost use Rattle.rpg_faults_places.specs.Before.{DetectsInput};
-ghost use Rattle.rpg_faults_places.specs.Joined.{has_level};
+ghost use Rattle.rpg_faults_places.specs.Joined.{has_joined_field};
 ghost use Rattle.rpg_sheet_specs.specs.declared.file.FileSpec.{FileSpec};
 
 use crate::state::Places;
@@ -56,7 +56,7 @@ fn join_badly(places: &Places, card: &SpecCard, after: &[SpecCard]) -> bool
 
 /// Whether a field up to the next record type has a control or match level.
 pub(crate) fn has_level(after: &[SpecCard]) -> bool
-    ensures { result ≡ list_any has_level (followers input_role after.now) }
+    ensures { result ≡ list_any has_joined_field (followers input_role after.now) }
 {
     for card in after {
         match card.input() {

@@ -14,7 +14,7 @@ use Rattle.rpg_cards.specs.declared.labels.Label.{Label}
 use Rattle.rpg_deck.specs.Seen.{step_in}
 use Rattle.rpg_deck.specs.Steps.{label_of, labels_of_steps}
 use Rattle.rpg_deck.specs.declared.steps.Step.{Step}
-use Rattle.rpg_faults_tree.specs.Index.{IsLabelIndex, first_label, is_for}
+use Rattle.rpg_faults_tree.specs.Index.{IsLabelIndex, first_label, is_label_for}
 use Rattle.rpg_faults_tree.specs.declared.labels.FirstLabel.{FirstLabel}
 
 module _ (all : List Step) (i : ℕ) (s : Step) (within : i < length all) (here : s ≡ get_or all i s) where
@@ -28,14 +28,14 @@ module _ (all : List Step) (i : ℕ) (s : Step) (within : i < length all) (here 
   one_more = ap labels_of_steps front ∙ filter_map-append label_of (map step_in (take i all)) (step_in s ∷ [])
 
   pub index_next : (names new : List (Name × FirstLabel)) (place : ℕ) → place ≡ length (labels_of_steps (map step_in (take i all))) → IsLabelIndex names (labels_of_steps (map step_in (take i all)))
-      → ((q : Name) → lookup (pointwise nat_eq q) new ≡ option_or (lookup (pointwise nat_eq q) names) (first_at (is_for q) first_label place (labels_of_steps (step_in s ∷ []))))
+      → ((q : Name) → lookup (pointwise nat_eq q) new ≡ option_or (lookup (pointwise nat_eq q) names) (first_at (is_label_for q) first_label place (labels_of_steps (step_in s ∷ []))))
       → IsLabelIndex new (labels_of_steps (map step_in (take (i + 1) all)))
   index_next names new place at index more = λ q.
       more q
-      ∙ ap (λ o. option_or o (first_at (is_for q) first_label place (labels_of_steps (step_in s ∷ [])))) (index q)
-      ∙ ap (λ n. option_or (first_at (is_for q) first_label 0 (labels_of_steps (map step_in (take i all)))) (first_at (is_for q) first_label n (labels_of_steps (step_in s ∷ [])))) (at ∙ sym (zero-add (length (labels_of_steps (map step_in (take i all))))))
-      ∙ sym (first_at-append (is_for q) first_label 0 (labels_of_steps (map step_in (take i all))) (labels_of_steps (step_in s ∷ [])))
-      ∙ ap (first_at (is_for q) first_label 0) (sym one_more)
+      ∙ ap (λ o. option_or o (first_at (is_label_for q) first_label place (labels_of_steps (step_in s ∷ [])))) (index q)
+      ∙ ap (λ n. option_or (first_at (is_label_for q) first_label 0 (labels_of_steps (map step_in (take i all)))) (first_at (is_label_for q) first_label n (labels_of_steps (step_in s ∷ [])))) (at ∙ sym (zero-add (length (labels_of_steps (map step_in (take i all))))))
+      ∙ sym (first_at-append (is_label_for q) first_label 0 (labels_of_steps (map step_in (take i all))) (labels_of_steps (step_in s ∷ [])))
+      ∙ ap (first_at (is_label_for q) first_label 0) (sym one_more)
 
   pub count_next : (place : ℕ) → place ≡ length (labels_of_steps (map step_in (take i all))) → place + length (labels_of_steps (step_in s ∷ [])) ≡ length (labels_of_steps (map step_in (take (i + 1) all)))
   count_next place at = ap (λ n. n + length (labels_of_steps (step_in s ∷ []))) at ∙ sym (length-append (labels_of_steps (map step_in (take i all))) (labels_of_steps (step_in s ∷ []))) ∙ ap length (sym one_more)
@@ -53,7 +53,7 @@ module _ (all : List Step) (i : ℕ) (s : Step) (within : i < length all) (here 
       → IsLabelIndex names (labels_of_steps (map step_in (take (i + 1) all)))
   index_passed none names place at index =
       index_next names names place at index (λ q.
-      kept (lookup (pointwise nat_eq q) names) ∙ ap (λ ls. option_or (lookup (pointwise nat_eq q) names) (first_at (is_for q) first_label place ls)) (sym (defined_name-here None none)))
+      kept (lookup (pointwise nat_eq q) names) ∙ ap (λ ls. option_or (lookup (pointwise nat_eq q) names) (first_at (is_label_for q) first_label place ls)) (sym (defined_name-here None none)))
     where
       kept : (x : Option FirstLabel) → x ≡ option_or x None
       kept None = refl
@@ -64,7 +64,7 @@ module _ (all : List Step) (i : ℕ) (s : Step) (within : i < length all) (here 
       → IsLabelIndex new (labels_of_steps (map step_in (take (i + 1) all)))
   index_noted l some names new place at index noted =
       index_next names new place at index (λ q.
-      noted q ∙ ap (λ ls. option_or (lookup (pointwise nat_eq q) names) (first_at (is_for q) first_label place ls)) (sym (defined_name-here (Some l) some)))
+      noted q ∙ ap (λ ls. option_or (lookup (pointwise nat_eq q) names) (first_at (is_label_for q) first_label place ls)) (sym (defined_name-here (Some l) some)))
 
   pub count_passed : label_of (step_in s) ≡ None → (place : ℕ) → place ≡ length (labels_of_steps (map step_in (take i all))) → place ≡ length (labels_of_steps (map step_in (take (i + 1) all)))
   count_passed none place at = let more = count_next place at in let here = ap length (defined_name-here None none) in omega arith

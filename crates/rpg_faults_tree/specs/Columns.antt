@@ -9,12 +9,12 @@ use Rattle.rpg_faults_tree.specs.Positions.{one_if}
 use Rattle.rpg_sheet_specs.specs.declared.calculation.CalculationSpec.{CalculationSpec}
 
 -- a card of several has no conditions, or a card has some although the group's operation allows none
-abbrev pub bad_conditions : Bool → CalculationSpec → CalculationSpec → Bool
-bad_conditions is_of_several last k = (is_of_several && not (depends k)) || (depends k && not (may_depend last))
+abbrev pub has_bad_conditions : Bool → CalculationSpec → CalculationSpec → Bool
+has_bad_conditions is_of_several last k = (is_of_several && not (depends k)) || (depends k && not (may_depend last))
 
 -- F9 of a card, given whether its group has cards before it and after it, and the card with the operation
 abbrev pub bad_card : Bool → Bool → CalculationSpec → CalculationSpec → Bool
-bad_card has_before has_after last k = bad_conditions (has_after || has_before) last k || ((is_some k.length && is_none k.result_field) || bad_by_end has_after k)
+bad_card has_before has_after last k = has_bad_conditions (has_after || has_before) last k || ((is_some k.length && is_none k.result_field) || bad_by_end has_after k)
 
 -- there are more cards
 abbrev pub are_more : {X : Type 0} → List X → Bool

@@ -19,8 +19,8 @@ use Rattle.rpg_faults_tree.specs.declared.labels.Target.{Target}
 -- ---- names
 
 -- the label has that name
-abbrev pub is_for : Name → Label → Bool
-is_for name l = pointwise nat_eq name l.named.name
+abbrev pub is_label_for : Name → Label → Bool
+is_label_for name l = pointwise nat_eq name l.named.name
 
 -- a label as the target of a GOTO or EXSR
 abbrev pub label_target : Label → Target
@@ -32,7 +32,7 @@ first_label i l = record { place = i; target = label_target l }
 
 -- each name with its first label
 abbrev pub IsLabelIndex : List (Name × FirstLabel) → List Label → Type 0
-IsLabelIndex names ls = (name : Name) → lookup (pointwise nat_eq name) names ≡ first_at (is_for name) first_label 0 ls
+IsLabelIndex names ls = (name : Name) → lookup (pointwise nat_eq name) names ≡ first_at (is_label_for name) first_label 0 ls
 
 -- the label is noted under its name, unless the name has one
 abbrev pub NotesLabel : Name → FirstLabel → List (Name × FirstLabel) → List (Name × FirstLabel) → Type 0

@@ -82,7 +82,7 @@ fn bad_conditions(
     last: &CalculationSpec,
     calculation: &CalculationSpec,
 ) -> bool
-    ensures { result ≡ columns.bad_conditions is_of_several last.now calculation.now }
+    ensures { result ≡ columns.has_bad_conditions is_of_several last.now calculation.now }
 {
     if depends(calculation) {
         !may_depend(last)

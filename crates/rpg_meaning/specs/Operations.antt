@@ -125,8 +125,8 @@ module _ (source : Source) (s : State) (k : CalculationSpec) where
   -- ---- the outcome
 
   -- the next calculation follows, with this data
-  abbrev pub continues : Data key_cmp → MeantOutcome
-  continues d = On (record s { world = with_data d s.world; next = s.next + 1 }) no_output
+  abbrev pub goes_to_next : Data key_cmp → MeantOutcome
+  goes_to_next d = On (record s { world = with_data d s.world; next = s.next + 1 }) no_output
 
   -- the job halts with that number
   abbrev pub halts : ℕ → MeantOutcome
@@ -159,7 +159,7 @@ module _ (source : Source) (s : State) (k : CalculationSpec) where
   -- The result field becomes this number: its decimals too many are cut off or half adjusted, and its digits too many on the left are lost. The
   -- indicators show its sign.
   abbrev pub becomes_in : Data key_cmp → Bool → Fraction → MeantOutcome
-  becomes_in d half n = continues (store d (operand_entry result) indicators (stored_value half (form result) n))
+  becomes_in d half n = goes_to_next (store d (operand_entry result) indicators (stored_value half (form result) n))
 
   -- with an H in 53 half adjusted
   abbrev pub becomes : Fraction → MeantOutcome
@@ -167,7 +167,7 @@ module _ (source : Source) (s : State) (k : CalculationSpec) where
 
   -- the result field takes a value
   abbrev pub takes : Value → MeantOutcome
-  takes v = continues (set_value s.world.data result.field (operand_entry result).position v)
+  takes v = goes_to_next (set_value s.world.data result.field (operand_entry result).position v)
 
   -- the result field takes the number that a text spells; halt 4 if it spells none
   abbrev pub takes_number : Option ℤ → MeantOutcome
@@ -239,27 +239,27 @@ module _ (source : Source) (s : State) (k : CalculationSpec) where
   pub record Compares : Type 0 where
     -- numbers by their values
     pub numbers : kind factor_1 ≡ kinds.Number → does op.Compare
-        ≡ comparing (continues (turned (shown indicators (fraction_cmp (operand_number factor_1) (operand_number factor_2))) s.world.data))
+        ≡ comparing (goes_to_next (turned (shown indicators (fraction_cmp (operand_number factor_1) (operand_number factor_2))) s.world.data))
     -- texts by the order of characters
     pub texts : kind factor_1 ≡ kinds.Text → does op.Compare
-        ≡ comparing (continues (turned (shown indicators (text_cmp (operand_characters factor_1) (operand_characters factor_2))) s.world.data))
+        ≡ comparing (goes_to_next (turned (shown indicators (text_cmp (operand_characters factor_1) (operand_characters factor_2))) s.world.data))
 
   -- LOKUP
   pub record LooksUp : Type 0 where
     -- nothing is found: all named indicators turn off, and the index of factor 2 becomes 1
     pub nothing : found ≡ None → does op.LookUp
-        ≡ searching (continues (turned (named_off indicators) (index_set factor_2.index 1 s.world.data)))
+        ≡ searching (goes_to_next (turned (named_off indicators) (index_set factor_2.index 1 s.world.data)))
     -- something is found: its position goes where it belongs, and the indicator for high, low or equal turns on
     pub something : (f : Found) → found ≡ Some f → holds_position source.forms factor_2.index table_field f.position ≡ true
-        → does op.LookUp ≡ searching (continues (turned (shown indicators f.order) (pointing_at f.position)))
+        → does op.LookUp ≡ searching (goes_to_next (turned (shown indicators f.order) (pointing_at f.position)))
 
   -- ---- SETON, SETOF, EXCPT
 
   -- SETON, SETOF and EXCPT
   pub record Sets : Type 0 where
     -- all named indicators turn on, or off
-    pub on : does op.SetOn ≡ continues (turned (all_on indicators) s.world.data)
-    pub off : does op.SetOff ≡ continues (turned (named_off indicators) s.world.data)
+    pub on : does op.SetOn ≡ goes_to_next (turned (all_on indicators) s.world.data)
+    pub off : does op.SetOff ≡ goes_to_next (turned (named_off indicators) s.world.data)
     -- the lines of time E are output
     pub except : does op.Except ≡ affected s (exception_output source.forms source.words source.overflow source.lines s.world)
 
@@ -280,5 +280,5 @@ module _ (source : Source) (s : State) (k : CalculationSpec) where
     pub end_subroutine : (part : Part) (next : ℕ) (others : List (Part × ℕ)) → s.back ≡ (part, next) ∷ others → does op.EndSubroutine
         ≡ On (record s { part = part; next = next; back = others }) no_output
     -- these do nothing
-    pub label : does op.Label ≡ continues s.world.data
-    pub begin_subroutine : does op.BeginSubroutine ≡ continues s.world.data
+    pub label : does op.Label ≡ goes_to_next s.world.data
+    pub begin_subroutine : does op.BeginSubroutine ≡ goes_to_next s.world.data

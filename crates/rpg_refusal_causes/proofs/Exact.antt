@@ -11,7 +11,7 @@ use Rattle.rpg_refusal_causes.proofs.HasSubroutine.{subroutine_has}
 use Rattle.rpg_refusal_causes.proofs.HasType.{type_has}
 use Rattle.rpg_refusal_causes.specs.Causes.{cause_in, refusal_cause_of, row_breaks}
 use Rattle.rpg_refusal_causes.specs.LineCauses.{line_cause}
-use Rattle.rpg_refusal_causes.specs.PlaceCauses.{all_placed, place_cause, placed_at}
+use Rattle.rpg_refusal_causes.specs.PlaceCauses.{all_placed, place_cause, placed_instruction}
 use Rattle.rpg_refusal_causes.specs.TypeCauses.{type_cause}
 use Rattle.rpg_refusal_causes.specs.declared.cause.RefusalCause.TheVariants as causes
 use Rattle.rpg_verify_rules.specs.Least.{IsBroken}
@@ -28,7 +28,7 @@ overflow_has p (suc k) h = absurd (false≢true h)
 
 -- what is found in a row that breaks a rule
 pub cause_has : (p : Object) (r : Rule) (row : ℕ) → row_breaks p r row ≡ true → is_some (cause_in p r row) ≡ true
-unfolding broken cause_in placed_at
+unfolding broken cause_in placed_instruction
 cause_has p rules.Overflow row h = overflow_has p row h
 cause_has p (rules.Type r) row h = some_at (type_cause r p) (type_breaks r p) (type_has r p) p.types row h
 cause_has p (rules.Line r) row h = some_at (line_cause r p) (line_breaks r p) (line_has r p) p.lines row h

@@ -4,7 +4,7 @@ use Rattle.std.specs.Option.{option_map, unwrap_or}
 use Rattle.rpg_program.specs.Object.{Object}
 use Rattle.rpg_refusal_causes.specs.First.{cause_of_row}
 use Rattle.rpg_refusal_causes.specs.LineCauses.{line_cause}
-use Rattle.rpg_refusal_causes.specs.PlaceCauses.{place_cause, placed_at}
+use Rattle.rpg_refusal_causes.specs.PlaceCauses.{place_cause, placed_instruction}
 use Rattle.rpg_refusal_causes.specs.SubroutineCauses.{subroutine_cause}
 use Rattle.rpg_refusal_causes.specs.TypeCauses.{type_cause}
 use Rattle.rpg_refusal_causes.specs.declared.cause.Refusal.{Refusal}
@@ -24,7 +24,7 @@ unfoldable pub cause_in : Object → Rule → ℕ → Option RefusalCause
 cause_in p rules.Overflow row = option_map causes.Overflow p.overflow
 cause_in p (rules.Type r) row = cause_of_row (type_cause r p) (slice_get p.types row)
 cause_in p (rules.Line r) row = cause_of_row (line_cause r p) (slice_get p.lines row)
-cause_in p (rules.Place r) row = cause_of_row (place_cause r p) (placed_at p row)
+cause_in p (rules.Place r) row = cause_of_row (place_cause r p) (placed_instruction p row)
 cause_in p (rules.Subroutine r) row = subroutine_cause r p row
 
 -- what in a row breaks a rule; nothing if the row doesn't break it

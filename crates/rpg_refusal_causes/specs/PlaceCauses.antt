@@ -51,8 +51,8 @@ abbrev pub all_placed : Object → List Placed
 all_placed p = map (placed_in p Detail) p.detail ++ placed_after_detail p
 
 -- the instruction at a place, with its section
-unfoldable pub placed_at : Object → ℕ → Option Placed
-placed_at p place = slice_get (all_placed p) place
+unfoldable pub placed_instruction : Object → ℕ → Option Placed
+placed_instruction p place = slice_get (all_placed p) place
 
 -- ---- which operand breaks a rule
 

@@ -81,7 +81,7 @@ fn after_detail(rows: &Rows, place: usize) -> Option<Placed>
 
 fn at_place(rows: &Rows, place: usize) -> Option<Placed>
     requires { IsProgram (seen rows.now) }
-    ensures { result ≡ words.placed_at (seen rows.now) place }
+    ensures { result ≡ words.placed_instruction (seen rows.now) place }
 {
     let detail = rows.detail.len();
     let span = Span {
@@ -98,7 +98,7 @@ fn at_place(rows: &Rows, place: usize) -> Option<Placed>
 
 /// Returns the instruction at a place, counted through the whole program, with its section.
 pub fn placed_at(program: &Program, place: usize) -> Option<Placed>
-    ensures { result ≡ words.placed_at program.now place }
+    ensures { result ≡ words.placed_instruction program.now place }
 {
     at_place(program.rows(), place)
 }
@@ -229,7 +229,7 @@ fn cause_at(rule: PlaceRule, rows: &Rows, placed: Placed) -> Option<RefusalCause
 /// Returns what in the instruction at a place breaks a rule, if it does.
 pub(crate) fn place_cause(rule: PlaceRule, rows: &Rows, place: usize) -> Option<RefusalCause>
     requires { IsProgram (seen rows.now) }
-    ensures { result ≡ cause_of_row (words.place_cause rule (seen rows.now)) (words.placed_at (seen rows.now) place) }
+    ensures { result ≡ cause_of_row (words.place_cause rule (seen rows.now)) (words.placed_instruction (seen rows.now) place) }
 {
     cause_at(rule, rows, at_place(rows, place)?)
 }

@@ -1,7 +1,7 @@
 //! How many names or constants there are, and the bytes that they take.
 
 ghost use Rattle.std.specs.Prelude.{◌≡◌, ◌++◌, ◌∷◌, [], ◌<◌, ◌^◌, length, IfOk, OnOk};
-ghost use Rattle.rpg_symbols.specs.Totals.{counts_at, first_totals, with_item};
+ghost use Rattle.rpg_symbols.specs.Totals.{is_counted_at, first_totals, with_item};
 
 use std::alloc::{AllocError, Global};
 use std::marker::Model;
@@ -51,9 +51,9 @@ pub struct RunningTotals {
 }
 
 impl Model for RunningTotals {
-    ghost use Rattle.rpg_symbols.specs.Totals.{Running};
+    ghost use Rattle.rpg_symbols.specs.Totals.{TotalsByItem};
 
-    ghost Value = { Running };
+    ghost Value = { TotalsByItem };
 
     ghost view = { λ r. record { before = r.before.items; all = r.all } };
 }
@@ -107,7 +107,7 @@ impl RunningTotals {
 
     /// Whether the item at a place counts, because it was new.
     pub fn counts(&self, place: usize) -> bool
-        ensures { result ≡ counts_at self.now place }
+        ensures { result ≡ is_counted_at self.now place }
     {
         match self.before.get(place) {
             Some(before) => before.number < self.first(place + 1).number,

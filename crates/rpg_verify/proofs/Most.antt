@@ -16,12 +16,12 @@ use Rattle.rpg_verify_rules.specs.Sound.{IsAt}
 use Rattle.rpg_verify.proofs.PathCosts.{costs_are}
 use Rattle.rpg_verify.proofs.Placing.{cost_there}
 use Rattle.rpg_verify.proofs.Sizes.{bound_few}
-use Rattle.rpg_verify.specs.Bound.{back_cost, cost, cost_in, costs_at, most, most_at, most_back, most_called, most_in, section_code}
+use Rattle.rpg_verify.specs.Bound.{back_cost, cost, cost_in, costs_at, most, most_at, most_back, most_called, most_in, code_of_section}
 use Rattle.rpg_verify.specs.Greatest.{AreGreatest}
 use Rattle.rpg_verify.specs.Paths.{IsCost}
 
-pub greatest_at : (p : Object) (x : Place) → first_place p x.section ≤ x.number → IsCost (weight p) (section_code p x.section) x.number (cost p x)
-greatest_at p x low = subst (IsCost (weight p) (section_code p x.section) x.number) (sym (cost_there p x low)) (costs_are (weight p) (first_place p x.section) (section_instructions p x.section) x.number low)
+pub greatest_at : (p : Object) (x : Place) → first_place p x.section ≤ x.number → IsCost (weight p) (code_of_section p x.section) x.number (cost p x)
+greatest_at p x low = subst (IsCost (weight p) (code_of_section p x.section) x.number) (sym (cost_there p x low)) (costs_are (weight p) (first_place p x.section) (section_instructions p x.section) x.number low)
 
 -- ---- targets of branches
 

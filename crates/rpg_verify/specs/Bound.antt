@@ -12,8 +12,8 @@ use Rattle.rpg_verify.specs.Paths.{SectionCode, costs_from}
 use Rattle.rpg_verify.specs.Weighing.{all_outputs_weight}
 
 -- a section of a program, with its first place
-abbrev pub section_code : Object → Section → SectionCode
-section_code p s = record { first = first_place p s; code = section_instructions p s }
+abbrev pub code_of_section : Object → Section → SectionCode
+code_of_section p s = record { first = first_place p s; code = section_instructions p s }
 
 -- the costs of the places of a section that begins at a place
 abbrev pub costs_at : Object → ℕ → List (Instruction ℕ) → List ℕ

@@ -94,7 +94,7 @@ impl Verified {
         requires first { first_place self.now place.section ≤ place.number }
         requires last { place.number < place_after self.now place.section }
         ensures cost { result ≡ words.cost self.now place }
-        ensures greatest { IsCost (weight self.now) (words.section_code self.now place.section) place.number result }
+        ensures greatest { IsCost (weight self.now) (words.code_of_section self.now place.section) place.number result }
     {
         self.costs[usize::from(place.number)]
     }

@@ -129,7 +129,7 @@ module _ (source : Source) (s : State) (k : CalculationSpec) where
   two a b = refl
 
   compare_by : Kind → MeantOutcome
-  compare_by f = is.continues source s k (is.turned source s k (shown (is.indicators source s k) (order_by source.forms f s.world.data (is.operand_entry source s k (is.factor_1 source s k)) (is.operand_entry source s k (is.factor_2 source s k)))) s.world.data)
+  compare_by f = is.goes_to_next source s k (is.turned source s k (shown (is.indicators source s k) (order_by source.forms f s.world.data (is.operand_entry source s k (is.factor_1 source s k)) (is.operand_entry source s k (is.factor_2 source s k)))) s.world.data)
 
   pub compares : Compares source s k
   unfolding operate resolved has_entries row_of position_of entry_of act compare_by

@@ -3,7 +3,7 @@ use Rattle.std.specs.Option.{option_or}
 use Rattle.rpg_program.specs.Object.{seen}
 use Rattle.rpg_program.specs.declared.section.Section.TheVariants.{Detail}
 use Rattle.rpg_refusal_causes.proofs.Placing.{either}
-use Rattle.rpg_refusal_causes.specs.PlaceCauses.{placed_at, placed_after_detail, placed_in}
+use Rattle.rpg_refusal_causes.specs.PlaceCauses.{placed_instruction, placed_after_detail, placed_in}
 use Rattle.rpg_verify_rules.proofs.Spanning.{detail_span}
 use Rattle.rpg_refusal_causes.proofs.places.at_place.Goals as goal
 
@@ -13,7 +13,7 @@ in_section-requires c =
     detail_span (seen c.args.rows.now) c.len-detail.result same
 
 pub returns-in-Some : goal.returns-in-Some
-unfolding placed_at
+unfolding placed_instruction
 returns-in-Some c =
     let p = seen c.args.rows.now in
     let later = placed_after_detail p in
@@ -23,7 +23,7 @@ returns-in-Some c =
     ∙ sym (either (placed_in p Detail) p.detail later c.args.place)
 
 pub returns-in-None : goal.returns-in-None
-unfolding placed_at
+unfolding placed_instruction
 returns-in-None c =
     let p = seen c.args.rows.now in
     let later = placed_after_detail p in

@@ -8,7 +8,7 @@ use Rattle.std.specs.Option.{is_none, is_some, option_or}
 use Rattle.std.specs.Prelude.{Option, nat_eq, ◌&&◌}
 use Rattle.rpg_card_index.proofs.IndexLemmas.{new_of_two, none_some}
 use Rattle.rpg_card_index.proofs.TotalLemmas.{one_more, running_more, same_name_equiv}
-use Rattle.rpg_card_index.specs.Index.{has_form, placed_definition}
+use Rattle.rpg_card_index.specs.Index.{has_some_form, placed_definition}
 use Rattle.rpg_card_index.specs.Totals.{definition_bytes, name_totals}
 use Rattle.rpg_card_index.specs.declared.name_index.FirstDefinition.{FirstDefinition}
 use Rattle.rpg_cards.proofs.FieldLemmas.{known_fields}
@@ -46,5 +46,5 @@ returns c items is =
           (c.in_ok-push.ensures.all ∙ ap (λ t. with_item t c.if-is_first.is_new c.bytes_of.result) is.running.all
           ∙ one_more same_name same_name_equiv definition_bytes given_names items d c.if-is_first.is_new c.bytes_of.result fresh sized)
           c.if-is_first.is_new c.bytes_of.result c.in_ok-push.ensures.all small;
-      formed = ap₂ (λ a b. a && b) is.formed (c.is_some.ensures ∙ sym (and-true (is_some d.form))) ∙ sym (list_all-append has_form items (d ∷ []));
+      formed = ap₂ (λ a b. a && b) is.formed (c.is_some.ensures ∙ sym (and-true (is_some d.form))) ∙ sym (list_all-append has_some_form items (d ∷ []));
     }

@@ -4,7 +4,7 @@ use Rattle.std.proofs.lemmas.List.{get_or_read}
 use Rattle.rpg_program.specs.ObjectInstructions.{weight}
 use Rattle.rpg_verify.proofs.Most.{greatest_at}
 use Rattle.rpg_verify.proofs.Placing.{in_stored, read_stored}
-use Rattle.rpg_verify.specs.Bound.{cost, costs, section_code}
+use Rattle.rpg_verify.specs.Bound.{cost, costs, code_of_section}
 use Rattle.rpg_verify.specs.Paths.{IsCost}
 use Rattle.rpg_verify.proofs.verified.Verified.path_cost.Goals as goal
 
@@ -38,4 +38,4 @@ returns-clause-greatest c =
     get_or_read c.self.inside.costs.items _ _ low c.index.ensures 0
     ∙ ap (slice_index c.self.inside.costs.items) number
     ∙ read_stored c.args.self.now c.args.place c.self.inside.costs.items are c.requires.first c.requires.last in
-    subst (IsCost (weight c.args.self.now) (section_code c.args.self.now c.args.place.section) c.args.place.number) (sym is) (greatest_at c.args.self.now c.args.place c.requires.first)
+    subst (IsCost (weight c.args.self.now) (code_of_section c.args.self.now c.args.place.section) c.args.place.number) (sym is) (greatest_at c.args.self.now c.args.place c.requires.first)
