@@ -29,17 +29,17 @@ abbrev pub file_if : (FileSpec → Bool) → SpecCard → Option FileOnCard
 file_if test c = option_and_then (λ f. if test f then Some (file_with c f) else None) (file_on c.spec)
 
 -- the first file that passes a test
-abbrev pub first_file_on_card : (FileSpec → Bool) → List SpecCard → Option FileOnCard
-first_file_on_card test [] = None
-first_file_on_card test (c ∷ cs) = option_or (file_if test c) (first_file_on_card test cs)
+abbrev pub first_file_with_card : (FileSpec → Bool) → List SpecCard → Option FileOnCard
+first_file_with_card test [] = None
+first_file_with_card test (c ∷ cs) = option_or (file_if test c) (first_file_with_card test cs)
 
 -- the first file of a name
 abbrev pub file_of_name : List ℕ → List SpecCard → Option FileOnCard
-file_of_name name cards = first_file_on_card (λ f. pointwise nat_eq name f.name) cards
+file_of_name name cards = first_file_with_card (λ f. pointwise nat_eq name f.name) cards
 
 -- the first file of a use
 abbrev pub file_of_use : FileUse → List SpecCard → Option FileOnCard
-file_of_use u cards = first_file_on_card (λ f. same_use u (file_use f)) cards
+file_of_use u cards = first_file_with_card (λ f. same_use u (file_use f)) cards
 
 -- ---- F7
 

@@ -3,7 +3,7 @@
 ghost use Rattle.std.specs.Prelude.{◌≡◌, ◌≤◌, [], List, length, min};
 ghost use Rattle.rpg_cards.specs.Groups.{followers, input_role};
 ghost use Rattle.rpg_cards.specs.declared.spec_card.SpecCard.{SpecCard};
-ghost use Rattle.rpg_faults_places.specs.Before.{KeepsCard, KeepsField, DetectsInput};
+ghost use Rattle.rpg_faults_places.specs.Before.{IncludesCard, IncludesField, DetectsInput};
 ghost use Rattle.rpg_faults_places.specs.Places as rules;
 ghost use Rattle.rpg_faults_places.specs.Lengths.{AreJoinedLengths, AreOpenLengths, any_differs, lengths_of, some_length, with_lengths};
 
@@ -37,7 +37,7 @@ impl JoinedLengths {
     /// Returns the state after one more card, given those after it.
     pub(crate) fn with(self, card: &SpecCard, after: &[SpecCard]) -> Self
         requires { length after.now ≤ 2000 }
-        ensures { KeepsCard AreJoinedLengths card.now after.now self result }
+        ensures { IncludesCard AreJoinedLengths card.now after.now self result }
     {
         let first = self.first;
         match card.input() {
@@ -134,7 +134,7 @@ fn with_levels(first: [Option<u32>; 9], after: &[SpecCard]) -> [Option<u32>; 9]
 
 /// Adds a field to the lengths of the open type.
 fn with_field(open_type: Option<[u16; 9]>, field: &InputFieldSpec) -> Option<[u16; 9]>
-    ensures { KeepsField lengths_of field.now open_type result }
+    ensures { IncludesField lengths_of field.now open_type result }
 {
     let mut lengths = open_type?;
     if let Some(level) = field.level {

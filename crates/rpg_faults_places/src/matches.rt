@@ -4,7 +4,7 @@ ghost use Rattle.std.specs.Prelude.{◌≡◌, ◌+◌, ◌-◌, ◌≤◌, [], 
 ghost use Rattle.rpg_cards.specs.Groups.{followers, input_role};
 ghost use Rattle.rpg_cards.specs.declared.spec_card.SpecCard.{SpecCard};
 ghost use Rattle.rpg_faults_places.specs.Matches.{AddsMatch, AreValid, AreMatches, AreOpenMatches, MakesOf, matches_of};
-ghost use Rattle.rpg_faults_places.specs.Before.{KeepsCard, KeepsField, DetectsInput};
+ghost use Rattle.rpg_faults_places.specs.Before.{IncludesCard, IncludesField, DetectsInput};
 ghost use Rattle.rpg_faults_places.specs.Places as rules;
 ghost use Rattle.rpg_sheet_specs.specs.declared.input.InputFieldSpec.{InputFieldSpec};
 ghost use Rattle.rpg_sheet_specs.specs.declared.input.InputSpec.{InputSpec};
@@ -107,7 +107,7 @@ impl Matches {
 
     /// Returns the state after one more card, given those after it.
     pub(crate) fn with(self, card: &SpecCard, after: &[SpecCard]) -> Self
-        ensures { KeepsCard AreMatches card.now after.now self result }
+        ensures { IncludesCard AreMatches card.now after.now self result }
     {
         let first = self.first;
         match card.input() {
@@ -159,7 +159,7 @@ impl Matches {
 
 /// Adds a field to the match fields of the open type.
 fn with_field(open_type: Option<OpenMatches>, field: &InputFieldSpec) -> Option<OpenMatches>
-    ensures { KeepsField matches_of field.now open_type result }
+    ensures { IncludesField matches_of field.now open_type result }
 {
     Some(open_type?.with(field))
 }

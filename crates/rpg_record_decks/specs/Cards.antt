@@ -15,8 +15,8 @@ abbrev pub max_cards : ℕ
 max_cards = 2000
 
 -- the card of a line, with its number, or why it is rejected
-abbrev pub card_at : ℕ → List ℕ → Result DeckCard CardFault
-card_at n line =
+abbrev pub card_on_line : ℕ → List ℕ → Result DeckCard CardFault
+card_on_line n line =
     if nat_lt max_cards n then Err faults.TooMany
     else if nat_lt 80 (length (trimmed line)) then Err faults.TooLong
     else if not (list_all is_character (take 80 line)) then Err faults.NoCharacter
@@ -31,10 +31,10 @@ abbrev pub with_deck_card : DeckCard → Result (List DeckCard) DeckFault → Re
 with_deck_card c rest = if ends_cards c.card then Ok [] else if is_skipped c.card then rest else onto (c ∷ []) rest
 
 -- the cards of lines that are numbered from n on
-abbrev pub cards_from : ℕ → List (List ℕ) → Result (List DeckCard) DeckFault
-cards_from n [] = Ok []
-cards_from n (line ∷ more) = and_then (at_card n (card_at n line)) (λ c. with_deck_card c (cards_from (n + 1) more))
+abbrev pub cards_on_lines : ℕ → List (List ℕ) → Result (List DeckCard) DeckFault
+cards_on_lines n [] = Ok []
+cards_on_lines n (line ∷ more) = and_then (at_card n (card_on_line n line)) (λ c. with_deck_card c (cards_on_lines (n + 1) more))
 
 -- the cards of a source
 abbrev pub cards_of : List ℕ → Result (List DeckCard) DeckFault
-cards_of source = cards_from 1 (lines source)
+cards_of source = cards_on_lines 1 (lines source)

@@ -1,7 +1,7 @@
 //! The cards of a deck.
 
 ghost use Rattle.std.specs.Prelude.{◌≡◌, ◌≤◌, IfErr, IfOk, Ok, OnOk, length, take};
-ghost use Rattle.rpg_record_decks.specs.Cards.{card_at, cards_of, ends_cards};
+ghost use Rattle.rpg_record_decks.specs.Cards.{card_on_line, cards_of, ends_cards};
 ghost use Rattle.rpg_record_decks.specs.Outcomes.{IsDeckFaultOf};
 
 use crate::fault::{CardFault, DeckFault};
@@ -48,7 +48,7 @@ fn within_card(line: &[u8]) -> &[u8]
 /// Returns the card of a line, with its number.
 #[tactic(auto, using(crate::proofs::CardLemmas::card_of_columns))]
 fn card_at(number: u16, line: &[u8]) -> Result<DeckCard, CardFault>
-    ensures value { result ≡ card_at number line.now }
+    ensures value { result ≡ card_on_line number line.now }
     ensures few { OnOk result (number ≤ 2000) }
 {
     if number > LAST_CARD {
