@@ -23,6 +23,7 @@ abbrev pub after_last : List SpecCard → List SpecCard → List SpecCard
 after_last own [] = own
 after_last own (c ∷ cs) = if opens_type c then after_last cs cs else after_last own cs
 
+-- the cards of the open type
 abbrev pub open_cards : List SpecCard → List SpecCard
 open_cards before = after_last [] before
 
@@ -88,6 +89,7 @@ long_matches joined n = if nat_le joined 256 && nat_lt 256 (joined + n) then Som
 abbrev pub of_match : List SpecCard → InputFieldSpec → ℕ → Option JoinCause
 of_match own f level = option_or (option_map (MatchedTwice level) (matched_on level own)) (long_matches (sum_by input_columns (matched own)) (input_columns f))
 
+-- the match field that repeats its level or makes the match fields too long
 abbrev pub match_level_cause : List SpecCard → InputFieldSpec → Option JoinCause
 match_level_cause own f = option_and_then (of_match own f) f.match_level
 
@@ -107,6 +109,7 @@ first_difference card level [] (n ∷ ns) = Some (OtherMatches level n 0 card)
 first_difference card level (m ∷ ms) [] = Some (OtherMatches level 0 m card)
 first_difference card level (m ∷ ms) (n ∷ ns) = if m == n then first_difference card (level + 1) ms ns else Some (OtherMatches level n m card)
 
+-- the first level at which the lengths differ from those of the first type with valid match fields, if there is one
 abbrev pub of_matches : Option FirstMatched → Option (List ℕ) → Option JoinCause
 of_matches None own = None
 of_matches (Some f) None = None
@@ -122,6 +125,7 @@ other_matches before after = of_matches (first_matched before) (valid_matches (m
 abbrev pub on_field : List SpecCard → InputFieldSpec → Option JoinCause
 on_field own f = option_or (level_cause own f) (match_level_cause own f)
 
+-- of the card of a type, its levels and its match fields; of a field card, its control field and its match field
 abbrev pub input_join_cause : List SpecCard → List SpecCard → InputSpec → Option JoinCause
 input_join_cause before after (input.Type t) = option_or (other_length before after) (other_matches before after)
 input_join_cause before after (input.And codes) = None
