@@ -1,8 +1,8 @@
 -- What holds of the sections of a source without faults: what the rules on targets, calls, returns and levels require.
-use Rattle.std.specs.Prelude.{◌≡◌, ℕ, suc, ◌≤◌, ◌⊎◌, Bool, true, false, ◌||◌, List, [], ◌∷◌, ◌++◌, length, nat_eq, Option, None, Some}
-use Rattle.std.specs.List.{list_any}
+use Rattle.std.specs.Prelude.{◌≡◌, ℕ, suc, ◌≤◌, Bool, true, false, ◌||◌, List, [], ◌∷◌, ◌++◌, length, Option, None, Some}
 use Rattle.rpg_cards.specs.Statements.{Acts, Begins, Calculation, Executes, Statement, Ends, GoesTo, Marks, Nothing, WritesExceptions, tests}
 use Rattle.rpg_cards.specs.Keys.{Key, Name}
+use Rattle.rpg_symbols.specs.Chains.{Calls, NoCallLeadsBack}
 use Rattle.rpg_cards.specs.Sections.{Sections, Subroutine, callee, is_same_name, label_on}
 
 -- what holds of each element, as a chain of pairs
@@ -53,11 +53,7 @@ IsNoReturn (Marks l) = Unit {0}
 IsNoReturn (Begins n) = Unit {0}
 IsNoReturn Nothing = Unit {0}
 
--- ---- calls of subroutines by subroutines: caller and callee
-
--- caller and callee, by their numbers
-abbrev pub Pair : Type 0
-Pair = ℕ × ℕ
+-- ---- calls of subroutines by subroutines
 
 -- the subroutine that EXSR names
 abbrev pub call_in : Statement Key → Option (Option Name)
@@ -71,37 +67,23 @@ call_in (Ends l) = None
 call_in Nothing = None
 
 -- the calls, with one more if there is one
-abbrev pub with_call : List (Subroutine Key) → ℕ → Option (Option Name) → List Pair → List Pair
+abbrev pub with_call : List (Subroutine Key) → ℕ → Option (Option Name) → Calls → Calls
 with_call all caller None ps = ps
 with_call all caller (Some n) ps = (caller, callee n all) ∷ ps
 
 -- the calls of one subroutine's calculations
-abbrev pub calls_in : List (Subroutine Key) → ℕ → List (Calculation Key) → List Pair
+abbrev pub calls_in : List (Subroutine Key) → ℕ → List (Calculation Key) → Calls
 calls_in all caller [] = []
 calls_in all caller (g ∷ gs) = with_call all caller (call_in g.statement) (calls_in all caller gs)
 
 -- the calls in subroutines from a number on
-abbrev pub calls_from : List (Subroutine Key) → ℕ → List (Subroutine Key) → List Pair
+abbrev pub calls_from : List (Subroutine Key) → ℕ → List (Subroutine Key) → Calls
 calls_from all caller [] = []
 calls_from all caller (s ∷ ss) = calls_in all caller s.body ++ calls_from all (suc caller) ss
 
 -- all calls of subroutines by subroutines
-abbrev pub calls_of : List (Subroutine Key) → List Pair
+abbrev pub calls_of : List (Subroutine Key) → Calls
 calls_of all = calls_from all 0 all
-
--- a chain of calls that ends in s: the callers from the last one back
-abbrev pub IsCallAmong : ℕ → ℕ → List Pair → Type 0
-IsCallAmong a b [] = ⊥
-IsCallAmong a b (p ∷ ps) = ((p.0 ≡ a) × (p.1 ≡ b)) ⊎ IsCallAmong a b ps
-
--- each of the chain calls the previous one
-abbrev pub IsChainAmong : List Pair → ℕ → List ℕ → Type 0
-IsChainAmong ps s [] = Unit {0}
-IsChainAmong ps s (a ∷ chain) = IsCallAmong a s ps × IsChainAmong ps a chain
-
--- no subroutine calls one that reaches it by this many calls
-abbrev pub NoneComesBack : ℕ → List Pair → Type 0
-NoneComesBack most ps = (s : ℕ) (chain : List ℕ) → length chain ≤ most → IsChainAmong ps s chain → list_any (nat_eq s) chain ≡ false
 
 -- ---- sections
 
@@ -136,6 +118,6 @@ pub record ArePlain (s : Sections Key) : Type 0 where
   pub total_found : Each (λ g. IsFound s.subroutines g.statement) s.total
   pub bodies : ArePlainBodies s.subroutines s.subroutines
   -- F14
-  pub forward : NoneComesBack (length s.subroutines) (calls_of s.subroutines)
+  pub forward : NoCallLeadsBack (calls_of s.subroutines)
   -- F6
   pub few : length s.subroutines ≤ 100

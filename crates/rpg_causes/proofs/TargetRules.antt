@@ -17,7 +17,7 @@ use Rattle.rpg_causes_flow.specs.declared.labels.Giver.{Giver}
 use Rattle.rpg_causes_flow.specs.declared.labels.Target.{Target}
 use Rattle.rpg_faults_flow.proofs.Ending.{asked}
 use Rattle.rpg_faults_flow.proofs.Facts.{last_with}
-use Rattle.rpg_faults_flow.specs.Flow.{calls_itself, comes_back, leaves_by, leaves_its_section, leaves_section}
+use Rattle.rpg_faults_flow.specs.Flow.{calls_itself, leads_back, leaves_by, leaves_its_section, leaves_section}
 use Rattle.rpg_sheet_specs.specs.declared.calculation.CalculationSpec.{CalculationSpec}
 
 mapped_some : {X Y : Type 0} (f : X → Y) (o : Option X) → is_some (option_map f o) ≡ is_some o
@@ -78,26 +78,26 @@ module _ (cards before : List SpecCard) (c : SpecCard) (after : List SpecCard) w
   -- ---- F14
 
   abbrev own : CalculationSpec → Bool
-  own k = comes_back all (called (subroutine_in (section k)) (target_name (statement_of k)))
+  own k = leads_back all (called (subroutine_in (section k)) (target_name (statement_of k)))
 
-  by_ending : (g : Option (Calculation Key)) → comes_back all (option_and_then (call_at given front) g) ≡ option_map_or (λ g. comes_back all (call_at given front g)) g false
+  by_ending : (g : Option (Calculation Key)) → leads_back all (option_and_then (call_at given front) g) ≡ option_map_or (λ g. leads_back all (call_at given front g)) g false
   by_ending None = refl
   by_ending (Some g) = refl
 
   by_card : calls_itself cards before c after ≡ option_map_or own (card_ending c after) false
   by_card =
       by_ending (calculation_ending before c after)
-      ∙ asked before c after (λ g. comes_back all (call_at given front g)) own
-      (λ k. ap (λ d. comes_back all (called (subroutine_in (section k)) (target_name (statement_of d)))) (last_with (open_calculation_group before) k))
+      ∙ asked before c after (λ g. leads_back all (call_at given front g)) own
+      (λ k. ap (λ d. leads_back all (called (subroutine_in (section k)) (target_name (statement_of d)))) (last_with (open_calculation_group before) k))
 
   -- what is called is given
   is_label : (m : ℕ) (b : Bool) (l : Option Label)
-      → comes_back all (option_map (λ n. (m, n)) (cond b (option_and_then (λ (x : Label). cond x.named.is_subroutine (subroutine_in x.section) None) l) None)) ≡ true → is_some l ≡ true
+      → leads_back all (option_map (λ n. (m, n)) (cond b (option_and_then (λ (x : Label). cond x.named.is_subroutine (subroutine_in x.section) None) l) None)) ≡ true → is_some l ≡ true
   is_label m false l e = absurd cc
   is_label m true None e = absurd cc
   is_label m true (Some l) e = refl
 
-  is_target : (caller : Option ℕ) (w : Option Named) → comes_back all (called caller w) ≡ true → is_some (option_and_then (target_by cards) w) ≡ true
+  is_target : (caller : Option ℕ) (w : Option Named) → leads_back all (called caller w) ≡ true → is_some (option_and_then (target_by cards) w) ≡ true
   is_target None w e = absurd cc
   is_target (Some m) None e = absurd cc
   is_target (Some m) (Some n) e = given_is n (is_label m n.is_subroutine (label_named n.name given) e)

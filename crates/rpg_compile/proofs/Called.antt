@@ -3,7 +3,7 @@ use Rattle.std.proofs.Common.{◌≡◌, ℕ, suc, ◌+◌, ◌≤◌, ◌<◌, 
 use Rattle.std.specs.Option.{option_map}
 use Rattle.rpg_cards.specs.Statements.{Acts, Begins, Calculation, Statement, Ends, Executes, GoesTo, Marks, Nothing, WritesExceptions, has_instruction}
 use Rattle.rpg_cards.specs.Keys.{Key, Name}
-use Rattle.rpg_cards.specs.Plain.{ArePlainBodies, Each, IsCallAmong, IsFound, Pair, call_in, calls_of, with_call}
+use Rattle.rpg_cards.specs.Plain.{ArePlainBodies, Each, IsFound, call_in, calls_of, with_call}
 use Rattle.rpg_cards.specs.Plain as plain
 use Rattle.rpg_cards.specs.Sections.{Subroutine, callee}
 use Rattle.rpg_compile_program.proofs.Heights.{is_call_either}
@@ -12,6 +12,7 @@ use Rattle.rpg_compile_program.specs.Code.{size, sizes, waits}
 use Rattle.rpg_cards.specs.Statements.{tests}
 use Rattle.rpg_compile.specs.Called.{callee_in, numbered_calls_from, numbered_calls_in, with_callee}
 use Rattle.rpg_compile.specs.Numbers.{body_sizes}
+use Rattle.rpg_symbols.specs.Chains.{Calls, IsCall}
 
 -- ---- the same calls
 
@@ -34,11 +35,11 @@ module _ (all : List (Subroutine Key)) (number : Option Name → ℕ) (is : (n :
 -- ---- callees are there
 
 module _ (all : List (Subroutine Key)) where
-  callees_in : (own a b : ℕ) (gs : List (Calculation Key)) → Each (λ g. IsFound all g.statement) gs → IsCallAmong a b (plain.calls_in all own gs) → b < length all
+  callees_in : (own a b : ℕ) (gs : List (Calculation Key)) → Each (λ g. IsFound all g.statement) gs → IsCall (plain.calls_in all own gs) a b → b < length all
   callees_in own a b [] found h = absurd h
   callees_in own a b (g ∷ gs) found h = by_statement g.statement found.0 h (callees_in own a b gs found.1)
     where
-      by_statement : (d : Statement Key) → IsFound all d → IsCallAmong a b (with_call all own (call_in d) (plain.calls_in all own gs)) → (IsCallAmong a b (plain.calls_in all own gs) → b < length all) → b < length all
+      by_statement : (d : Statement Key) → IsFound all d → IsCall (with_call all own (call_in d) (plain.calls_in all own gs)) a b → (IsCall (plain.calls_in all own gs) a b → b < length all) → b < length all
       by_statement (Executes n) f (inl h) rest = let there = callee_there n all f in let same = h.1 in omega arith
       by_statement (Executes n) f (inr h) rest = rest h
       by_statement (Acts x) f h rest = rest h
@@ -49,15 +50,15 @@ module _ (all : List (Subroutine Key)) where
       by_statement (Ends l) f h rest = rest h
       by_statement Nothing f h rest = rest h
 
-  callees_from : (own a b : ℕ) (ss : List (Subroutine Key)) → ArePlainBodies all ss → IsCallAmong a b (plain.calls_from all own ss) → b < length all
+  callees_from : (own a b : ℕ) (ss : List (Subroutine Key)) → ArePlainBodies all ss → IsCall (plain.calls_from all own ss) a b → b < length all
   callees_from own a b [] bodies h = absurd h
   callees_from own a b (s ∷ ss) bodies h = by_part (is_call_either a b (plain.calls_in all own s.body) (plain.calls_from all (suc own) ss) h) (callees_from (suc own) a b ss bodies.1)
     where
-      by_part : IsCallAmong a b (plain.calls_in all own s.body) ⊎ IsCallAmong a b (plain.calls_from all (suc own) ss) → (IsCallAmong a b (plain.calls_from all (suc own) ss) → b < length all) → b < length all
+      by_part : IsCall (plain.calls_in all own s.body) a b ⊎ IsCall (plain.calls_from all (suc own) ss) a b → (IsCall (plain.calls_from all (suc own) ss) a b → b < length all) → b < length all
       by_part (inl h) rest = callees_in own a b s.body bodies.0.found h
       by_part (inr h) rest = rest h
 
-  pub callees_below : ArePlainBodies all all → (a b : ℕ) → IsCallAmong a b (calls_of all) → b < length all
+  pub callees_below : ArePlainBodies all all → (a b : ℕ) → IsCall (calls_of all) a b → b < length all
   callees_below bodies a b h = callees_from 0 a b all bodies h
 
 -- ---- each call is an instruction
@@ -69,7 +70,7 @@ one_size g has =
     omega (arith, one)
 
 module _ (number : Option Name → ℕ) (caller : ℕ) where
-  one_more : (g : Calculation Key) (ps : List Pair) (d : Statement Key) → g.statement ≡ d → length (with_callee caller (callee_in number d) ps) ≤ size g + length ps
+  one_more : (g : Calculation Key) (ps : Calls) (d : Statement Key) → g.statement ≡ d → length (with_callee caller (callee_in number d) ps) ≤ size g + length ps
   one_more g ps (Executes n) is = let one = one_size g (ap has_instruction is) in omega (arith, one)
   one_more g ps (Acts x) is = omega arith
   one_more g ps WritesExceptions is = omega arith

@@ -5,7 +5,7 @@ use Rattle.rpg_cards.specs.Keys.{Key, Name}
 use Rattle.rpg_cards.specs.Sections.{Subroutine}
 use Rattle.rpg_cards.specs.declared.spec_card.SpecCard.{SpecCard}
 use Rattle.rpg_compile_program.proofs.Counts.{code_length}
-use Rattle.rpg_compile_program.specs.Code.{label_place, section_code, sizes, subroutines_code}
+use Rattle.rpg_compile_program.specs.Code.{label_place, calculations_code, sizes, subroutines_code}
 use Rattle.rpg_compile_program.specs.Levels.{subroutine_level}
 use Rattle.rpg_compile_program.specs.Whole.{called_number}
 use Rattle.rpg_compile.proofs.Sizes.{all_sizes}
@@ -15,8 +15,8 @@ use Rattle.rpg_compile_program.proofs.Flow.{plain}
 use Rattle.rpg_compile_program.specs.Program.{key_numbers, program_of, sections}
 use Rattle.rpg_compile_program.specs.Rules.{KeepsCardRules}
 
-section_length : (number : Key → ℕ) (callee_of : Option Name → ℕ) (own first : ℕ) (gs : List (Calculation Key)) → length (section_code number callee_of own first gs) ≡ sizes gs
-unfolding section_code
+section_length : (number : Key → ℕ) (callee_of : Option Name → ℕ) (own first : ℕ) (gs : List (Calculation Key)) → length (calculations_code number callee_of own first gs) ≡ sizes gs
+unfolding calculations_code
 section_length number callee_of own first gs = code_length number (λ l. label_place l gs first) callee_of own first gs
 
 bodies_length : (number : Key → ℕ) (callee_of : Option Name → ℕ) (level : ℕ → ℕ) (own first : ℕ) (ss : List (Subroutine Key)) → instructions_in (subroutines_code number callee_of level own first ss) ≡ body_sizes ss

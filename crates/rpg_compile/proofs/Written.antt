@@ -3,13 +3,13 @@ use Rattle.std.proofs.Common.{◌≡◌, ℕ, suc, ◌+◌, ◌<◌, List, [], �
 use Rattle.std.proofs.lemmas.List.{map-append}
 use Rattle.rpg_cards.specs.Keys.{Key, Name}
 use Rattle.rpg_cards.specs.Sections.{Subroutine}
-use Rattle.rpg_compile_program.specs.Code.{section_code, sizes, subroutines_code}
+use Rattle.rpg_compile_program.specs.Code.{calculations_code, sizes, subroutines_code}
 use Rattle.rpg_program.specs.Object.{SubroutineRow, subroutine_row}
 use Rattle.rpg_program.specs.declared.rows.Subroutine as row
 
 module _ (number : Key → ℕ) (called : Option Name → ℕ) (level : ℕ → ℕ) where
   abbrev pub row_of : ℕ → ℕ → Subroutine Key → SubroutineRow
-  row_of own first s = record { level = level own; instructions = section_code number called own first s.body }
+  row_of own first s = record { level = level own; instructions = calculations_code number called own first s.body }
 
   pub one_row_more : (now new : List row.Subroutine) (made : row.Subroutine) (all : List SubroutineRow) (own place following : ℕ) (s : Subroutine Key) (rest later : List (Subroutine Key)) → rest ≡ s ∷ later → new ≡ now ++ made ∷ []
       → subroutine_row made ≡ row_of own place s → following ≡ place + sizes s.body
@@ -34,5 +34,5 @@ pub same_levels : (number : Key → ℕ) (called : Option Name → ℕ) (f g : �
 unfolding subroutines_code
 same_levels number called f g own first [] same = refl
 same_levels number called f g own first (s ∷ ss) same =
-    ap (λ n. record { level = n; instructions = section_code number called own first s.body } ∷ subroutines_code number called f (suc own) (first + sizes s.body) ss) (same own (omega arith))
-    ∙ ap (λ rows. record { level = g own; instructions = section_code number called own first s.body } ∷ rows) (same_levels number called f g (suc own) (first + sizes s.body) ss (λ n low. same n (omega arith)))
+    ap (λ n. record { level = n; instructions = calculations_code number called own first s.body } ∷ subroutines_code number called f (suc own) (first + sizes s.body) ss) (same own (omega arith))
+    ∙ ap (λ rows. record { level = g own; instructions = calculations_code number called own first s.body } ∷ rows) (same_levels number called f g (suc own) (first + sizes s.body) ss (λ n low. same n (omega arith)))

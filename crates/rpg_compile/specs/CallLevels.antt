@@ -6,7 +6,7 @@ use Rattle.rpg_compile_program.specs.Program.{sections}
 use Rattle.rpg_program.specs.Object.{Object}
 use Rattle.rpg_program.specs.Sections.{level_of}
 use Rattle.rpg_program.specs.declared.section.Section.TheVariants as section
-use Rattle.rpg_symbols.specs.Levels.{IsCallLevel}
+use Rattle.rpg_symbols.specs.Chains.{IsCallLevel}
 
 -- that of each is the number of subroutines on the longest chain of calls that ends in it
 abbrev pub HasCallLevels : List SpecCard → Object → Type 0

@@ -5,7 +5,7 @@ use Rattle.rpg_cards.specs.Statements.{Calculation, Statement}
 use Rattle.rpg_cards.specs.Keys.{Key}
 use Rattle.rpg_cards.specs.Sections.{sections_of}
 use Rattle.rpg_cards.specs.declared.spec_card.SpecCard.{SpecCard}
-use Rattle.rpg_compile_program.specs.Code.{code_from, group_code, section_code, step_code, subroutines_code}
+use Rattle.rpg_compile_program.specs.Code.{code_from, group_code, calculations_code, step_code, subroutines_code}
 use Rattle.rpg_compile_program.specs.Levels.{subroutine_level}
 use Rattle.rpg_compile_program.specs.Table.{Table, key_number}
 use Rattle.rpg_compile_program.specs.Whole.{subroutine_rows}
@@ -32,7 +32,7 @@ statement_code s d = step_code (key_number s.table.now) (number_by s.labels.now)
 
 -- the code of a section of these cards, which begins at a place; `own` is the number of the subroutine
 abbrev pub rows_of_section : Table → NameNumbers → ℕ → ℕ → Part → List SpecCard → List (Instruction ℕ)
-rows_of_section t subroutines own first part cards = section_code (key_number t) (number_by subroutines) own first (section_in part cards)
+rows_of_section t subroutines own first part cards = calculations_code (key_number t) (number_by subroutines) own first (section_in part cards)
 
 -- the rows of the subroutines of these cards, which begin at a place and have these levels
 abbrev pub rows_at_levels : Table → NameNumbers → List ℕ → ℕ → List SpecCard → List SubroutineRow

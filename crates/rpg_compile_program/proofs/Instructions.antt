@@ -8,7 +8,7 @@ use Rattle.rpg_cards.specs.Keys.{Key, Name, key_cmp}
 use Rattle.rpg_cards.specs.Plain.{Each}
 use Rattle.rpg_cards.specs.Sections.{Sections, Subroutine}
 use Rattle.rpg_compile_program.proofs.Each.{each_append, each_map, none_broken, none_in_both}
-use Rattle.rpg_compile_program.specs.Code.{alternative_code, code_from, group_code, label_place, level_code, on_level, section_code, size, sizes, skip_code, step_code, subroutines_code, tests_code, waits}
+use Rattle.rpg_compile_program.specs.Code.{alternative_code, code_from, group_code, label_place, level_code, on_level, calculations_code, size, sizes, skip_code, step_code, subroutines_code, tests_code, waits}
 use Rattle.rpg_compile_program.specs.Whole.{IsCodeOf, called_number}
 use Rattle.rpg_program.specs.Control.{has_conditions}
 use Rattle.rpg_program.specs.Forms.{form_at}
@@ -216,8 +216,8 @@ module _ (p : Object) (forms : Key → Option FieldForm) (number : Key → ℕ) 
 
   -- ---- sections
 
-  section_kept : (callee_of : Option Name → ℕ) (own first : ℕ) (gs : List (Calculation Key)) → Each (IsRightCalculation p.version forms) gs → Each IsKept (section_code number callee_of own first gs)
-  unfolding section_code
+  section_kept : (callee_of : Option Name → ℕ) (own first : ℕ) (gs : List (Calculation Key)) → Each (IsRightCalculation p.version forms) gs → Each IsKept (calculations_code number callee_of own first gs)
+  unfolding calculations_code
   section_kept callee_of own first gs h = code_kept (λ l. label_place l gs first) callee_of own first gs h
 
   none_of_section : (s : Section) (r : PlaceRule) → IsOfColumns r → (code : List (Instruction ℕ)) → Each IsKept code → NoneTrue (map (place_breaks r p s) code)
@@ -234,15 +234,15 @@ module _ (p : Object) (forms : Key → Option FieldForm) (number : Key → ℕ) 
     unfolding subroutines_code
     none_of_subroutines n own first [] h = λ k e. absurd cc
     none_of_subroutines n own first (x ∷ ss) h =
-        none_in_both (map (place_breaks r p (section.Subroutine n)) (section_code number (called_number s) own first x.body)) (subroutines_judged r p (n + 1) (subroutines_code number (called_number s) level (suc own) (first + sizes x.body) ss))
-        (none_of_section (section.Subroutine n) r of (section_code number (called_number s) own first x.body) (section_kept (called_number s) own first x.body h.0))
+        none_in_both (map (place_breaks r p (section.Subroutine n)) (calculations_code number (called_number s) own first x.body)) (subroutines_judged r p (n + 1) (subroutines_code number (called_number s) level (suc own) (first + sizes x.body) ss))
+        (none_of_section (section.Subroutine n) r of (calculations_code number (called_number s) own first x.body) (section_kept (called_number s) own first x.body h.0))
         (none_of_subroutines (n + 1) (suc own) (first + sizes x.body) ss h.1)
 
     pub places_kept : NoneTrue (places_judged r p)
     places_kept =
         none_in_both (section_judged r p section.Detail) (judged_after_detail r p)
-        (subst (λ is. NoneTrue (map (place_breaks r p section.Detail) is)) (sym code.detail) (none_of_section section.Detail r of (section_code number (called_number s) 0 0 s.detail) (section_kept (called_number s) 0 0 s.detail h.detail)))
+        (subst (λ is. NoneTrue (map (place_breaks r p section.Detail) is)) (sym code.detail) (none_of_section section.Detail r of (calculations_code number (called_number s) 0 0 s.detail) (section_kept (called_number s) 0 0 s.detail h.detail)))
         (none_in_both (section_judged r p section.Total) (subroutines_judged r p 0 p.subroutines)
         (subst (λ is. NoneTrue (map (place_breaks r p section.Total) is)) (sym code.total)
-        (none_of_section section.Total r of (section_code number (called_number s) 0 (sizes s.detail) s.total) (section_kept (called_number s) 0 (sizes s.detail) s.total h.total)))
+        (none_of_section section.Total r of (calculations_code number (called_number s) 0 (sizes s.detail) s.total) (section_kept (called_number s) 0 (sizes s.detail) s.total h.total)))
         (subst (λ rows. NoneTrue (subroutines_judged r p 0 rows)) (sym code.subroutines) (none_of_subroutines 0 0 (sizes s.detail + sizes s.total) s.subroutines h.subroutines)))

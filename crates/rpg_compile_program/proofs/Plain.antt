@@ -1,5 +1,5 @@
 -- What faultless sources say of sections, in plain words, is what the rules on targets, calls, returns and levels need.
-use Rattle.std.proofs.Common.{ℕ, suc, List, [], ◌∷◌, length, inl, inr}
+use Rattle.std.proofs.Common.{ℕ, suc, List, [], ◌∷◌, inl, inr}
 use Rattle.rpg_program.specs.Object.{Object}
 use Rattle.rpg_verify_rules.proofs.Kept.{NoneTrue}
 use Rattle.rpg_verify_rules.specs.Rules.{broken}
@@ -10,13 +10,14 @@ use Rattle.rpg_compile_program.proofs.Heights.{body_up, is_call_append, levels_a
 use Rattle.rpg_compile_program.specs.Whole.{IsCodeOf}
 use Rattle.rpg_compile_program.proofs.Whole.{calls_kept, levels_kept, returns_kept, targets_kept}
 use Rattle.rpg_cards.specs.Keys.{Key}
-use Rattle.rpg_cards.specs.Plain.{ArePlain, ArePlainBodies, IsCallAmong, NoneComesBack, calls_from, calls_in, calls_of}
+use Rattle.rpg_cards.specs.Plain.{ArePlain, ArePlainBodies, calls_from, calls_in, calls_of}
 use Rattle.rpg_cards.specs.Sections.{Sections, Subroutine}
 use Rattle.rpg_compile_program.specs.Levels.{subroutine_level}
 use Rattle.rpg_compile_program.proofs.Sound.{AreSound, AreSoundBodies}
+use Rattle.rpg_symbols.specs.Chains.{IsCall, NoCallLeadsBack}
 
-module _ (all : List (Subroutine Key)) (none : NoneComesBack (length all) (calls_of all)) where
-  bodies_sound : (own : ℕ) (ss : List (Subroutine Key)) → ((a b : ℕ) → IsCallAmong a b (calls_from all own ss) → IsCallAmong a b (calls_of all)) → ArePlainBodies all ss → AreSoundBodies all (subroutine_level all) own ss
+module _ (all : List (Subroutine Key)) (none : NoCallLeadsBack (calls_of all)) where
+  bodies_sound : (own : ℕ) (ss : List (Subroutine Key)) → ((a b : ℕ) → IsCall (calls_from all own ss) a b → IsCall (calls_of all) a b) → ArePlainBodies all ss → AreSoundBodies all (subroutine_level all) own ss
   bodies_sound own [] more h = tt
   bodies_sound own (s ∷ ss) more h =
       let b = h.0 in (

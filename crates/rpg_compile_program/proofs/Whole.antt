@@ -21,7 +21,7 @@ use Rattle.rpg_cards.specs.Statements.{Acts, Begins, Calculation, Statement, End
 use Rattle.rpg_cards.specs.Keys.{Key, Name}
 use Rattle.rpg_cards.specs.Plain.{Each, HasGoal, defines_subroutine}
 use Rattle.rpg_cards.specs.Sections.{Sections, Subroutine, callee}
-use Rattle.rpg_compile_program.specs.Code.{code_from, label_place, section_code, sizes, step_code, subroutines_code, waits}
+use Rattle.rpg_compile_program.specs.Code.{code_from, label_place, calculations_code, sizes, step_code, subroutines_code, waits}
 use Rattle.rpg_compile_program.proofs.Sound.{AreSound, AreSoundBodies, CallsUp, IsSoundBody}
 use Rattle.rpg_compile_program.specs.Whole.{IsCodeOf, called_number}
 use Rattle.rpg_cards.specs.Sections.{is_same_name}
@@ -47,8 +47,8 @@ callee_there n (s ∷ ss) h = by_name (is_same_name n s.name) h (callee_there n 
 module _ (number : Key → ℕ) (level : ℕ → ℕ) (s : Sections Key) (p : Object) where
   -- ---- targets
 
-  section_length : (own first : ℕ) (gs : List (Calculation Key)) → length (section_code number (called_number s) own first gs) ≡ sizes gs
-  unfolding section_code
+  section_length : (own first : ℕ) (gs : List (Calculation Key)) → length (calculations_code number (called_number s) own first gs) ≡ sizes gs
+  unfolding calculations_code
   section_length own first gs = code_length number (λ l. label_place l gs first) (called_number s) own first gs
 
   leads_inside : (own first : ℕ) (gs : List (Calculation Key)) (x : Statement Key) → LeadsWithin number (λ l. label_place l gs first) (called_number s) own first (first + sizes gs) x
@@ -61,8 +61,8 @@ module _ (number : Key → ℕ) (level : ℕ → ℕ) (s : Sections Key) (p : Ob
   leads_inside own first gs (Ends l) = tt
   leads_inside own first gs Nothing = tt
 
-  section_within : (own first : ℕ) (gs : List (Calculation Key)) → Each (Within first (first + sizes gs)) (section_code number (called_number s) own first gs)
-  unfolding section_code
+  section_within : (own first : ℕ) (gs : List (Calculation Key)) → Each (Within first (first + sizes gs)) (calculations_code number (called_number s) own first gs)
+  unfolding calculations_code
   section_within own first gs =
       code_within number (λ l. label_place l gs first) (called_number s) own first (first + sizes gs) first gs (omega arith) (omega arith)
       (each_always (λ g. LeadsWithin number (λ l. label_place l gs first) (called_number s) own first (first + sizes gs) g.statement) gs (λ g. leads_inside own first gs g.statement))
@@ -82,16 +82,16 @@ module _ (number : Key → ℕ) (level : ℕ → ℕ) (s : Sections Key) (p : Ob
   front_code : ℕ → ℕ → List (Calculation Key) → Calculation Key → List (Instruction ℕ)
   front_code own first front last = code_from number (λ l. label_place l (front ++ last ∷ []) first) (called_number s) own first front
 
-  body_code : (own first : ℕ) (x : Subroutine Key) (b : IsSoundBody s.subroutines level own x) → section_code number (called_number s) own first x.body ≡ front_code own first b.front b.last ++ made.Return own ∷ []
-  unfolding section_code front_code code_from
+  body_code : (own first : ℕ) (x : Subroutine Key) (b : IsSoundBody s.subroutines level own x) → calculations_code number (called_number s) own first x.body ≡ front_code own first b.front b.last ++ made.Return own ∷ []
+  unfolding calculations_code front_code code_from
   body_code own first x b =
       let place = λ (l : Option Name). label_place l (b.front ++ b.last ∷ []) first in
-      let whole : section_code number (called_number s) own first x.body ≡ section_code number (called_number s) own first (b.front ++ b.last ∷ []) = ap (section_code number (called_number s) own first) b.split in
+      let whole : calculations_code number (called_number s) own first x.body ≡ calculations_code number (called_number s) own first (b.front ++ b.last ∷ []) = ap (calculations_code number (called_number s) own first) b.split in
       let parts = code_append number place (called_number s) own first b.front (b.last ∷ []) in
       let ends = last_return number place (called_number s) own (first + sizes b.front) b.last b.label b.returns b.waits b.free in
       whole ∙ parts ∙ ap (λ xs. code_from number place (called_number s) own first b.front ++ (xs ++ [])) ends
 
-  body_within : (own first : ℕ) (x : Subroutine Key) (b : IsSoundBody s.subroutines level own x) → Each (Within first (first + sizes b.front)) (section_code number (called_number s) own first x.body)
+  body_within : (own first : ℕ) (x : Subroutine Key) (b : IsSoundBody s.subroutines level own x) → Each (Within first (first + sizes b.front)) (calculations_code number (called_number s) own first x.body)
   unfolding front_code
   body_within own first x b =
       let place = λ (l : Option Name). label_place l (b.front ++ b.last ∷ []) first in
@@ -101,7 +101,7 @@ module _ (number : Key → ℕ) (level : ℕ → ℕ) (s : Sections Key) (p : Ob
       (each_append (Within first (first + sizes b.front)) (front_code own first b.front b.last) (made.Return own ∷ [])
       (code_within number place (called_number s) own first (first + sizes b.front) first b.front (omega arith) (omega arith) leads) (tt, tt))
 
-  body_size : (own first : ℕ) (x : Subroutine Key) (b : IsSoundBody s.subroutines level own x) → length (section_code number (called_number s) own first x.body) ≡ sizes b.front + 1
+  body_size : (own first : ℕ) (x : Subroutine Key) (b : IsSoundBody s.subroutines level own x) → length (calculations_code number (called_number s) own first x.body) ≡ sizes b.front + 1
   unfolding front_code
   body_size own first x b =
       let e = ap length (body_code own first x b) in
@@ -138,8 +138,8 @@ module _ (number : Key → ℕ) (level : ℕ → ℕ) (s : Sections Key) (p : Ob
       (lt-ltb (level_of p sec) (level_of p (section.Subroutine (callee n s.subroutines))) (omega arith), tt)
 
   section_calls : IsCodeOf number level s p → (sec : Section) (own low first : ℕ) (gs : List (Calculation Key)) → level_of p sec ≡ low → Each (λ g. CallsUp s.subroutines level low g.statement) gs →
-      Each (λ i. calls_higher p sec i ≡ true) (section_code number (called_number s) own first gs)
-  unfolding section_code
+      Each (λ i. calls_higher p sec i ≡ true) (calculations_code number (called_number s) own first gs)
+  unfolding calculations_code
   section_calls c sec own low first gs e h =
       code_each number (λ l. label_place l gs first) (called_number s) own (λ i. calls_higher p sec i ≡ true) (λ i t. t.calls p sec) first gs
       (each_map (λ (g : Calculation Key). CallsUp s.subroutines level low g.statement) (λ g. Each (λ i. calls_higher p sec i ≡ true) (step_code number (λ l. label_place l gs first) (called_number s) own g.statement)) gs (λ g up. step_calls c sec own low first gs g.statement e up) h)
@@ -190,7 +190,7 @@ module _ (number : Key → ℕ) (level : ℕ → ℕ) (s : Sections Key) (p : Ob
     sub : Section
     sub = section.Subroutine own
 
-    code_here : section_instructions p sub ≡ section_code number (called_number s) own first x.body
+    code_here : section_instructions p sub ≡ calculations_code number (called_number s) own first x.body
     unfolding sub subroutines_code
     code_here = let z : own ≡ own + 0 = omega arith in ap body_of (ap (slice_get p.subroutines) z ∙ at.rows 0)
 
@@ -198,7 +198,7 @@ module _ (number : Key → ℕ) (level : ℕ → ℕ) (s : Sections Key) (p : Ob
     unfolding sub subroutines_code
     first_here = let z : own ≡ own + 0 = omega arith in ap (λ k. first_place p (section.Subroutine k)) z ∙ at.firsts 0
 
-    end_here : place_after p sub ≡ first + length (section_code number (called_number s) own first x.body)
+    end_here : place_after p sub ≡ first + length (calculations_code number (called_number s) own first x.body)
     unfolding place_after
     end_here = let a = first_here in let b = ap length code_here in omega arith
 
@@ -206,12 +206,12 @@ module _ (number : Key → ℕ) (level : ℕ → ℕ) (s : Sections Key) (p : Ob
     unfolding sub subroutines_code
     level_here = let z : own ≡ own + 0 = omega arith in ap level_in (ap (slice_get p.subroutines) z ∙ at.rows 0)
 
-    body_passes : IsCodeOf number level s p → IsSoundBody s.subroutines level own x → (Passes V21 sub (section_code number (called_number s) own first x.body)) × Passes V22 sub (section_code number (called_number s) own first x.body)
+    body_passes : IsCodeOf number level s p → IsSoundBody s.subroutines level own x → (Passes V21 sub (calculations_code number (called_number s) own first x.body)) × Passes V22 sub (calculations_code number (called_number s) own first x.body)
     body_passes c b =
         let n = body_size own first x b in
         let e = end_here in (
-          body_targets_pass sub first (first + sizes b.front) (section_code number (called_number s) own first x.body) first_here (omega arith) (body_within own first x b),
-          calls_pass sub (section_code number (called_number s) own first x.body) (section_calls c sub own (level own) first x.body level_here b.calls),
+          body_targets_pass sub first (first + sizes b.front) (calculations_code number (called_number s) own first x.body) first_here (omega arith) (body_within own first x b),
+          calls_pass sub (calculations_code number (called_number s) own first x.body) (section_calls c sub own (level own) first x.body level_here b.calls),
         )
 
   -- where calls and targets are right in each part, they are in the whole
@@ -222,7 +222,7 @@ module _ (number : Key → ℕ) (level : ℕ → ℕ) (s : Sections Key) (p : Ob
   subroutines_pass c own first (x ∷ ss) at b =
       let here = body_passes own first x ss at c b.0 in
       let rest = subroutines_pass c (suc own) (first + sizes x.body) ss (stands_next own first x ss at) b.1 in
-      let code = section_code number (called_number s) own first x.body in
+      let code = calculations_code number (called_number s) own first x.body in
       let next : suc own ≡ own + 1 = omega arith in (
         none_in_both (map (place_breaks V21 p (section.Subroutine own)) code) (subroutines_judged V21 p (own + 1) (subroutines_code number (called_number s) level (suc own) (first + sizes x.body) ss))
             (none_broken (place_breaks V21 p (section.Subroutine own)) code here.0) (subst (λ n. NoneTrue (subroutines_judged V21 p n (subroutines_code number (called_number s) level (suc own) (first + sizes x.body) ss))) next rest.0),
@@ -250,35 +250,35 @@ module _ (number : Key → ℕ) (level : ℕ → ℕ) (s : Sections Key) (p : Ob
 
   pub targets_kept : IsCodeOf number level s p → AreSound s level → NoneTrue (places_judged V21 p)
   targets_kept c h =
-      let d = targets_pass section.Detail 0 (0 + sizes s.detail) (section_code number (called_number s) 0 0 s.detail) detail_first (detail_end c) refl (section_within 0 0 s.detail) in
-      let t = targets_pass section.Total (sizes s.detail) (sizes s.detail + sizes s.total) (section_code number (called_number s) 0 (sizes s.detail) s.total) (total_first c) (total_end c) refl (section_within 0 (sizes s.detail) s.total) in
+      let d = targets_pass section.Detail 0 (0 + sizes s.detail) (calculations_code number (called_number s) 0 0 s.detail) detail_first (detail_end c) refl (section_within 0 0 s.detail) in
+      let t = targets_pass section.Total (sizes s.detail) (sizes s.detail + sizes s.total) (calculations_code number (called_number s) 0 (sizes s.detail) s.total) (total_first c) (total_end c) refl (section_within 0 (sizes s.detail) s.total) in
       let u = (subroutines_pass c 0 (sizes s.detail + sizes s.total) s.subroutines (stands c) h.bodies).0 in
       none_in_both (section_judged V21 p section.Detail) (judged_after_detail V21 p)
-      (subst (λ code. NoneTrue (map (place_breaks V21 p section.Detail) code)) (sym c.detail) (none_broken (place_breaks V21 p section.Detail) (section_code number (called_number s) 0 0 s.detail) d))
+      (subst (λ code. NoneTrue (map (place_breaks V21 p section.Detail) code)) (sym c.detail) (none_broken (place_breaks V21 p section.Detail) (calculations_code number (called_number s) 0 0 s.detail) d))
       (none_in_both (section_judged V21 p section.Total) (subroutines_judged V21 p 0 p.subroutines)
-      (subst (λ code. NoneTrue (map (place_breaks V21 p section.Total) code)) (sym c.total) (none_broken (place_breaks V21 p section.Total) (section_code number (called_number s) 0 (sizes s.detail) s.total) t))
+      (subst (λ code. NoneTrue (map (place_breaks V21 p section.Total) code)) (sym c.total) (none_broken (place_breaks V21 p section.Total) (calculations_code number (called_number s) 0 (sizes s.detail) s.total) t))
       (subst (λ rows. NoneTrue (subroutines_judged V21 p 0 rows)) (sym c.subroutines) u))
 
   -- ---- V22
 
   pub calls_kept : IsCodeOf number level s p → AreSound s level → NoneTrue (places_judged V22 p)
   calls_kept c h =
-      let d = calls_pass section.Detail (section_code number (called_number s) 0 0 s.detail) (section_calls c section.Detail 0 0 0 s.detail refl h.detail_calls) in
-      let t = calls_pass section.Total (section_code number (called_number s) 0 (sizes s.detail) s.total) (section_calls c section.Total 0 0 (sizes s.detail) s.total refl h.total_calls) in
+      let d = calls_pass section.Detail (calculations_code number (called_number s) 0 0 s.detail) (section_calls c section.Detail 0 0 0 s.detail refl h.detail_calls) in
+      let t = calls_pass section.Total (calculations_code number (called_number s) 0 (sizes s.detail) s.total) (section_calls c section.Total 0 0 (sizes s.detail) s.total refl h.total_calls) in
       let u = (subroutines_pass c 0 (sizes s.detail + sizes s.total) s.subroutines (stands c) h.bodies).1 in
       none_in_both (section_judged V22 p section.Detail) (judged_after_detail V22 p)
-      (subst (λ code. NoneTrue (map (place_breaks V22 p section.Detail) code)) (sym c.detail) (none_broken (place_breaks V22 p section.Detail) (section_code number (called_number s) 0 0 s.detail) d))
+      (subst (λ code. NoneTrue (map (place_breaks V22 p section.Detail) code)) (sym c.detail) (none_broken (place_breaks V22 p section.Detail) (calculations_code number (called_number s) 0 0 s.detail) d))
       (none_in_both (section_judged V22 p section.Total) (subroutines_judged V22 p 0 p.subroutines)
-      (subst (λ code. NoneTrue (map (place_breaks V22 p section.Total) code)) (sym c.total) (none_broken (place_breaks V22 p section.Total) (section_code number (called_number s) 0 (sizes s.detail) s.total) t))
+      (subst (λ code. NoneTrue (map (place_breaks V22 p section.Total) code)) (sym c.total) (none_broken (place_breaks V22 p section.Total) (calculations_code number (called_number s) 0 (sizes s.detail) s.total) t))
       (subst (λ rows. NoneTrue (subroutines_judged V22 p 0 rows)) (sym c.subroutines) u))
 
   -- ---- V23
 
-  body_ends : (own first : ℕ) (x : Subroutine Key) → IsSoundBody s.subroutines level own x → is_body own (section_code number (called_number s) own first x.body) ≡ true
-  unfolding section_code
+  body_ends : (own first : ℕ) (x : Subroutine Key) → IsSoundBody s.subroutines level own x → is_body own (calculations_code number (called_number s) own first x.body) ≡ true
+  unfolding calculations_code
   body_ends own first x b =
-      and_from (list_all (is_own own) (section_code number (called_number s) own first x.body)) (ends_in_return (section_code number (called_number s) own first x.body))
-      (each_passes (is_own own) (section_code number (called_number s) own first x.body) (code_own number (λ l. label_place l x.body first) (called_number s) own first x.body))
+      and_from (list_all (is_own own) (calculations_code number (called_number s) own first x.body)) (ends_in_return (calculations_code number (called_number s) own first x.body))
+      (each_passes (is_own own) (calculations_code number (called_number s) own first x.body) (code_own number (λ l. label_place l x.body first) (called_number s) own first x.body))
       (ap ends_in_return (body_code own first x b) ∙ ap is_return_if_any (last_of (front_code own first b.front b.last) (made.Return own)))
 
   bodies_end : (own first : ℕ) (ss : List (Subroutine Key)) → AreSoundBodies s.subroutines level own ss → NoneTrue (bodies_judged own (subroutines_code number (called_number s) level own first ss))
@@ -286,20 +286,20 @@ module _ (number : Key → ℕ) (level : ℕ → ℕ) (s : Sections Key) (p : Ob
   bodies_end own first [] b = λ k e. absurd cc
   bodies_end own first (x ∷ ss) b =
       let next : suc own ≡ own + 1 = omega arith in
-      let here = not_from_true (is_body own (section_code number (called_number s) own first x.body)) (body_ends own first x b.0) in
+      let here = not_from_true (is_body own (calculations_code number (called_number s) own first x.body)) (body_ends own first x b.0) in
       let rest = subst (λ n. NoneTrue (bodies_judged n (subroutines_code number (called_number s) level (suc own) (first + sizes x.body) ss))) next (bodies_end (suc own) (first + sizes x.body) ss b.1) in
-      none_in_both (not (is_body own (section_code number (called_number s) own first x.body)) ∷ []) (bodies_judged (own + 1) (subroutines_code number (called_number s) level (suc own) (first + sizes x.body) ss)) (one_false (not (is_body own (section_code number (called_number s) own first x.body))) here) rest
+      none_in_both (not (is_body own (calculations_code number (called_number s) own first x.body)) ∷ []) (bodies_judged (own + 1) (subroutines_code number (called_number s) level (suc own) (first + sizes x.body) ss)) (one_false (not (is_body own (calculations_code number (called_number s) own first x.body))) here) rest
     where
       one_false : (b : Bool) → b ≡ false → NoneTrue (b ∷ [])
       one_false b is zero e = cc
       one_false b is (suc k) e = cc
 
   no_stray : IsCodeOf number level s p → AreSound s level → has_stray_return p ≡ false
-  unfolding section_code
+  unfolding calculations_code
   no_stray c h =
       or_from (list_any is_return p.detail) (list_any is_return p.total)
-      (ap (list_any is_return) c.detail ∙ none_passes is_return (section_code number (called_number s) 0 0 s.detail) (code_none number (λ l. label_place l s.detail 0) (called_number s) 0 0 s.detail h.detail_ends))
-      (ap (list_any is_return) c.total ∙ none_passes is_return (section_code number (called_number s) 0 (sizes s.detail) s.total) (code_none number (λ l. label_place l s.total (sizes s.detail)) (called_number s) 0 (sizes s.detail) s.total h.total_ends))
+      (ap (list_any is_return) c.detail ∙ none_passes is_return (calculations_code number (called_number s) 0 0 s.detail) (code_none number (λ l. label_place l s.detail 0) (called_number s) 0 0 s.detail h.detail_ends))
+      (ap (list_any is_return) c.total ∙ none_passes is_return (calculations_code number (called_number s) 0 (sizes s.detail) s.total) (code_none number (λ l. label_place l s.total (sizes s.detail)) (called_number s) 0 (sizes s.detail) s.total h.total_ends))
 
   with_none : (b : Bool) (bs : List Bool) → b ≡ false → NoneTrue bs → NoneTrue (with_first b bs)
   with_none b [] e h zero f = cc

@@ -97,12 +97,12 @@ module _ (number : Key → ℕ) (place_of callee_of : Option Name → ℕ) (own 
   code_from place (g ∷ gs) = group_code place g ++ code_from (place + size g) gs
 
 -- a section that begins at a place: its labels are its own
-unfoldable pub section_code : (Key → ℕ) → (Option Name → ℕ) → ℕ → ℕ → List (Calculation Key) → List (Instruction ℕ)
-section_code number callee_of own first gs = code_from number (λ l. label_place l gs first) callee_of own first gs
+unfoldable pub calculations_code : (Key → ℕ) → (Option Name → ℕ) → ℕ → ℕ → List (Calculation Key) → List (Instruction ℕ)
+calculations_code number callee_of own first gs = code_from number (λ l. label_place l gs first) callee_of own first gs
 
 -- subroutines from a number on, which begin at a place
 unfoldable pub subroutines_code : (Key → ℕ) → (Option Name → ℕ) → (ℕ → ℕ) → ℕ → ℕ → List (Subroutine Key) → List SubroutineRow
 subroutines_code number callee_of level own first [] = []
 subroutines_code number callee_of level own first (s ∷ ss) =
-    record { level = level own; instructions = section_code number callee_of own first s.body }
+    record { level = level own; instructions = calculations_code number callee_of own first s.body }
     ∷ subroutines_code number callee_of level (suc own) (first + sizes s.body) ss

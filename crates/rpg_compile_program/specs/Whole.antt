@@ -2,7 +2,7 @@
 use Rattle.std.specs.Prelude.{◌≡◌, ℕ, ◌+◌, List, Option}
 use Rattle.rpg_cards.specs.Keys.{Key, Name}
 use Rattle.rpg_cards.specs.Sections.{Sections, callee}
-use Rattle.rpg_compile_program.specs.Code.{section_code, sizes, subroutines_code}
+use Rattle.rpg_compile_program.specs.Code.{calculations_code, sizes, subroutines_code}
 use Rattle.rpg_program.specs.declared.operation.Instruction.{Instruction}
 use Rattle.rpg_program.specs.Object.{Object, SubroutineRow}
 
@@ -12,11 +12,11 @@ called_number s name = callee name s.subroutines
 
 -- the instructions of detail calculations
 abbrev pub detail_code : (Key → ℕ) → Sections Key → List (Instruction ℕ)
-detail_code number s = section_code number (called_number s) 0 0 s.detail
+detail_code number s = calculations_code number (called_number s) 0 0 s.detail
 
 -- the instructions of total calculations, which follow those of detail calculations
 abbrev pub total_code : (Key → ℕ) → Sections Key → List (Instruction ℕ)
-total_code number s = section_code number (called_number s) 0 (sizes s.detail) s.total
+total_code number s = calculations_code number (called_number s) 0 (sizes s.detail) s.total
 
 -- the subroutines with their levels and instructions, which follow those of total calculations
 abbrev pub subroutine_rows : (Key → ℕ) → (ℕ → ℕ) → Sections Key → List SubroutineRow

@@ -15,7 +15,7 @@ use Rattle.rpg_cards.specs.declared.spec_card.SpecCard.{SpecCard}
 use Rattle.rpg_program.specs.declared.condition.Conditions.{Conditions}
 use Rattle.rpg_sheet_specs.specs.Three.{filled_count}
 use Rattle.rpg_faults_flow.specs.Columns.{bad_by_end, bad_calculation, bad_calculation_columns, bad_conditions, bad_last, bad_operation, may_depend}
-use Rattle.rpg_faults_flow.specs.Flow.{calls_itself, comes_back, leaves_its_section, lacks_target, lacks_label, leaves_section}
+use Rattle.rpg_faults_flow.specs.Flow.{calls_itself, leads_back, leaves_its_section, lacks_target, lacks_label, leaves_section}
 use Rattle.rpg_faults_flow.specs.Kept.{KeepsRule}
 use Rattle.rpg_faults_flow.specs.Order.{breaks_calculation, breaks_group, breaks_order, is_bracket, is_early, is_outside_subroutine, unpaired}
 use Rattle.rpg_faults_flow.proofs.Walk.{EachSplit, Walk, each_calculation}
@@ -51,7 +51,7 @@ pub record Facts (cards : List SpecCard) (before : List (Calculation Key)) (g : 
   -- F13
   pub near : leaves_section (labels (calculations cards)) before g ≡ false
   -- F14
-  pub forward : comes_back (calls (calculations cards)) (call_at (labels (calculations cards)) before g) ≡ false
+  pub forward : leads_back (calls (calculations cards)) (call_at (labels (calculations cards)) before g) ≡ false
 
 -- ---- Booleans
 
@@ -213,7 +213,7 @@ module _ (cards : List SpecCard) (columns_kept : KeepsRule bad_calculation_colum
           named = ap (λ k. lacks_name (statement_of k)) is_last ∙ names_there e.card e.card.operation valid;
           found = sym (ap (λ x. option_map_or (lacks_label (labels (calculations cards))) (option_map calculation_of x) false) p) ∙ labels_found before c after s;
           near = sym (ap (λ x. option_map_or (leaves_section (labels (calculations cards)) (calculations_before before (c ∷ after))) (option_map calculation_of x) false) p) ∙ stays before c after s;
-          forward = sym (ap (λ x. comes_back (calls (calculations cards)) (option_and_then (call_at (labels (calculations cards)) (calculations_before before (c ∷ after))) (option_map calculation_of x))) p) ∙ leads before c after s;
+          forward = sym (ap (λ x. leads_back (calls (calculations cards)) (option_and_then (call_at (labels (calculations cards)) (calculations_before before (c ∷ after))) (option_map calculation_of x))) p) ∙ leads before c after s;
         };
   }
 

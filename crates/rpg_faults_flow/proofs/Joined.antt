@@ -4,7 +4,7 @@ use Rattle.std.specs.Prelude.{◌==◌}
 use Rattle.std.specs.Option.{option_and_then, option_map, option_map_or, option_to_list}
 use Rattle.std.proofs.lemmas.Bool.{eqb-true}
 use Rattle.rpg_cards.specs.Calculations.{calculations}
-use Rattle.rpg_cards.specs.Calls.{call_at, called_subroutine, calls, calls_after, reaches, subroutine_in}
+use Rattle.rpg_cards.specs.Calls.{call_at, called_subroutine, calls, calls_after, subroutine_in}
 use Rattle.rpg_cards.specs.Statements.{Acts, Begins, Calculation, Executes, Statement, Ends, GoesTo, Marks, Nothing, WritesExceptions, tests}
 use Rattle.rpg_cards.specs.Keys.{Key, Name}
 use Rattle.rpg_cards.specs.Labels as labels
@@ -13,7 +13,7 @@ use Rattle.rpg_cards.specs.declared.labels.Label.{Label}
 use Rattle.rpg_cards.specs.declared.labels.Named.{Named}
 use Rattle.rpg_cards.specs.declared.labels.Section.{Section}
 use Rattle.rpg_cards.specs.declared.labels.Section.TheVariants as section_kind
-use Rattle.rpg_cards.specs.Plain.{ArePlain, ArePlainBodies, Each, HasGoal, IsCallAmong, IsFound, IsNoReturn, NoneComesBack, Pair, call_in, calls_from, calls_in, calls_of, defines_subroutine, has_label, with_call}
+use Rattle.rpg_cards.specs.Plain.{ArePlain, ArePlainBodies, Each, HasGoal, IsFound, IsNoReturn, call_in, calls_from, calls_in, calls_of, defines_subroutine, has_label, with_call}
 use Rattle.rpg_cards.specs.Sections.{Subroutine, begun_by, callee, is_detail, is_subroutine, is_total, of_control, sections_of, subroutines_of, unless_begun, up_to_begin, with_begun}
 use Rattle.rpg_cards.specs.Groups.{joins}
 use Rattle.rpg_cards.specs.declared.spec_card.SpecCard.{SpecCard}
@@ -22,14 +22,15 @@ use Rattle.rpg_faults_flow.proofs.Counted.{subs_count}
 use Rattle.rpg_faults_flow.proofs.Goals.{At, any_begun, at_first, at_next, body_at, inside_here, label_placed, own_section, part, body_after}
 use Rattle.rpg_faults_flow.proofs.Paired.{ArePaired, EndsWell, all_end_well, are_paired, none_before}
 use Rattle.rpg_faults_flow.proofs.Placed.{IsOther, begin_control, begun_more, begun_same, bodies, not_begins, subroutine_found, subs, subs_begin, subs_other, up_begin, up_other, view}
-use Rattle.rpg_faults_flow.proofs.Reaching.{forward_by_calls}
 use Rattle.rpg_faults_flow.proofs.Walk.{EachSplit}
 use Rattle.rpg_faults_flow.specs.Columns.{bad_calculation_columns}
-use Rattle.rpg_faults_flow.specs.Flow.{alike, are_apart, calls_itself, comes_back, leaves_its_section, lacks_target, is_given_as, lacks_label, leaves_by}
+use Rattle.rpg_faults_flow.specs.Flow.{alike, are_apart, calls_itself, leads_back, leaves_its_section, lacks_target, is_given_as, lacks_label, leaves_by}
 use Rattle.rpg_faults_flow.specs.Kept.{KeepsRule}
 use Rattle.rpg_faults_flow.specs.Order.{breaks_order, is_bracket}
 use Rattle.rpg_sheet_specs.specs.declared.calculation.ControlLevel.{ControlLevel}
 use Rattle.rpg_sheet_specs.specs.declared.calculation.ControlLevel.TheVariants as control
+use Rattle.rpg_symbols.proofs.Chains.{leads_tested}
+use Rattle.rpg_symbols.specs.Chains.{Call, Calls, IsCall, NoCallLeadsBack, reaches}
 
 -- ---- of each
 
@@ -205,7 +206,7 @@ module _ (cards : List SpecCard) where
 
     -- ---- F14
 
-    abbrev ps : List Pair
+    abbrev ps : Calls
     ps = calls_of (subs all)
 
     callee_at : (g : Calculation Key) → lacks_name g.statement ≡ false → lacks_label given g ≡ false → option_and_then (called_subroutine given) (target_name g.statement) ≡ option_map (λ n. callee n (subs all)) (call_in g.statement)
@@ -223,10 +224,10 @@ module _ (cards : List SpecCard) where
         by (Ends l) a b = refl
         by Nothing a b = refl
 
-    abbrev made_call : Option ℕ → Option ℕ → Option Pair
+    abbrev made_call : Option ℕ → Option ℕ → Option Call
     made_call caller callee = option_and_then (λ (a : ℕ). option_map (λ (b : ℕ). (a, b)) callee) caller
 
-    with_made : (n : ℕ) (o : Option (Option Name)) (rest : List Pair) → option_to_list (made_call (Some n) (option_map (λ n. callee n (subs all)) o)) ++ rest ≡ with_call (subs all) n o rest
+    with_made : (n : ℕ) (o : Option (Option Name)) (rest : Calls) → option_to_list (made_call (Some n) (option_map (λ n. callee n (subs all)) o)) ++ rest ≡ with_call (subs all) n o rest
     with_made n None rest = refl
     with_made n (Some m) rest = refl
 
@@ -242,7 +243,7 @@ module _ (cards : List SpecCard) where
     outside_caller front b control.Or e = refl
 
     -- the calls that follow, in the open subroutine and in later ones
-    abbrev calls_left : List (Calculation Key) → List (Calculation Key) → List Pair
+    abbrev calls_left : List (Calculation Key) → List (Calculation Key) → Calls
     calls_left front gs = calls_in (subs all) (begun_count front - 1) (up_to_begin (bodies gs)) ++ calls_from (subs all) (begun_count front) (subs gs)
 
     calls_same : (front gs : List (Calculation Key)) → EachSplit (Facts cards) front gs → calls_after given front gs ≡ calls_left front gs
@@ -279,7 +280,7 @@ module _ (cards : List SpecCard) where
             made : call_at given front g ≡ made_call (subroutine_in (section_of front g)) (option_map (λ n. callee n (subs all)) (call_in g.statement))
             made = ap (made_call (subroutine_in (section_of front g))) (callee_at g h.0.named h.0.found)
 
-            with_append : (n : ℕ) (o : Option (Option Name)) (xs ys : List Pair) → with_call (subs all) n o (xs ++ ys) ≡ with_call (subs all) n o xs ++ ys
+            with_append : (n : ℕ) (o : Option (Option Name)) (xs ys : Calls) → with_call (subs all) n o (xs ++ ys) ≡ with_call (subs all) n o xs ++ ys
             with_append n None xs ys = refl
             with_append n (Some m) xs ys = refl
 
@@ -307,24 +308,27 @@ module _ (cards : List SpecCard) where
     pub calls_are : calls all ≡ ps
     calls_are = calls_same [] all facts ∙ ap (λ us. calls_in (subs all) (0 - 1) us ++ calls_from (subs all) 0 (subs all)) (none_before (bodies all) pairs)
 
-    abbrev IsForward : Pair → Type 0
+    abbrev IsForward : Call → Type 0
     IsForward p = reaches (calls all) p.1 p.0 ≡ false
 
     each_call : (front gs : List (Calculation Key)) → EachSplit (Facts cards) front gs → Each IsForward (calls_after given front gs)
     each_call front [] h = tt
     each_call front (g ∷ gs) h = by (call_at given front g) h.0.forward (each_call (front ++ g ∷ []) gs h.1)
       where
-        by : (o : Option Pair) → comes_back (calls all) o ≡ false → Each IsForward (calls_after given (front ++ g ∷ []) gs) → Each IsForward (option_to_list o ++ calls_after given (front ++ g ∷ []) gs)
+        by : (o : Option Call) → leads_back (calls all) o ≡ false → Each IsForward (calls_after given (front ++ g ∷ []) gs) → Each IsForward (option_to_list o ++ calls_after given (front ++ g ∷ []) gs)
         by None e r = r
         by (Some p) e r = (e, r)
 
-    call_forward : (a b : ℕ) (qs : List Pair) → IsCallAmong a b qs → Each IsForward qs → reaches (calls all) b a ≡ false
+    call_forward : (a b : ℕ) (qs : Calls) → IsCall qs a b → Each IsForward qs → reaches (calls all) b a ≡ false
     call_forward a b [] c h = absurd c
     call_forward a b (q ∷ qs) (inl c) h = ap (λ y. reaches (calls all) y a) (sym c.1) ∙ ap (reaches (calls all) q.1) (sym c.0) ∙ h.0
     call_forward a b (q ∷ qs) (inr c) h = call_forward a b qs c h.1
 
-    forward : (n : ℕ) → NoneComesBack n ps
-    forward = forward_by_calls ps (λ a b c. ap (λ cs. reaches cs b a) (sym calls_are) ∙ call_forward a b (calls all) (subst (IsCallAmong a b) (sym calls_are) c) (each_call [] all facts))
+    forward : NoCallLeadsBack ps
+    forward a b c back =
+        let no = ap (λ cs. reaches cs b a) (sym calls_are) ∙ call_forward a b (calls all) (subst (λ cs. IsCall cs a b) (sym calls_are) c) (each_call [] all facts) in
+        let yes = leads_tested ps b a back in
+        absurd cc
 
     -- ---- plain sections
 
@@ -401,7 +405,7 @@ module _ (cards : List SpecCard) where
       detail_found = each_control (λ g. IsFound (subs all) g.statement) is_detail all found_all;
       total_found = each_control (λ g. IsFound (subs all) g.statement) is_total all found_all;
       bodies = plain_bodies (subs all) (all_end_well (bodies all) false pairs) (each_body IsValidBody (bodies all) valid_bodies) (goals_after [] all (at_first all) facts).1;
-      forward = forward (length (subs all));
+      forward = forward;
       few = few;
     }
 

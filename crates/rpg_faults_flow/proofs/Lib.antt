@@ -5,5 +5,4 @@ pub mod Goals
 pub mod Joined
 pub mod Paired
 pub mod Placed
-pub mod Reaching
 pub mod Walk

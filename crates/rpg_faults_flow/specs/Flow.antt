@@ -1,9 +1,9 @@
 -- F10, F11, F13, F14: labels, subroutines, and transfers of control.
-use Rattle.std.specs.Prelude.{ℕ, ◌==◌, List, [], ◌∷◌, ◌++◌, Bool, true, false, not, ◌&&◌, ◌||◌, Option, is_some}
+use Rattle.std.specs.Prelude.{◌==◌, List, [], ◌∷◌, ◌++◌, Bool, true, false, not, ◌&&◌, ◌||◌, Option, is_some}
 use Rattle.std.specs.List.{list_any}
 use Rattle.std.specs.Option.{option_and_then, option_map_or}
 use Rattle.rpg_cards.specs.Calculations.{calculation_ending, calculations, calculations_before}
-use Rattle.rpg_cards.specs.Calls.{call_at, calls, reaches}
+use Rattle.rpg_cards.specs.Calls.{call_at, calls}
 use Rattle.rpg_cards.specs.Statements.{Calculation}
 use Rattle.rpg_cards.specs.Keys.{Key, Name}
 use Rattle.rpg_cards.specs.Labels.{defined_name, label_named, labels, section_of, target_name}
@@ -14,6 +14,7 @@ use Rattle.rpg_cards.specs.declared.labels.Section.TheVariants.{Detail, Outside,
 use Rattle.rpg_cards.specs.Names.{definitions, definitions_on, given_names, is_of}
 use Rattle.rpg_cards.specs.declared.names.Definition.{Definition}
 use Rattle.rpg_cards.specs.declared.spec_card.SpecCard.{SpecCard}
+use Rattle.rpg_symbols.specs.Chains.{Call, Calls, reaches}
 
 -- ---- F10: GOTO a label, EXSR a subroutine that isn't defined; a name that is defined twice is what it was first
 
@@ -81,10 +82,10 @@ leaves_its_section cards before c after = option_map_or (leaves_section (labels 
 -- ---- F14: an EXSR in a subroutine that the one called reaches
 
 -- a call whose callee reaches its caller
-abbrev pub comes_back : List (ℕ × ℕ) → Option (ℕ × ℕ) → Bool
-comes_back all call = option_map_or (λ (p : ℕ × ℕ). reaches all p.1 p.0) call false
+abbrev pub leads_back : Calls → Option Call → Bool
+leads_back all call = option_map_or (λ (p : Call). reaches all p.1 p.0) call false
 
 -- F14: the calculation that ends on the card calls a subroutine that reaches the one it is in
 abbrev pub calls_itself : List SpecCard → List SpecCard → SpecCard → List SpecCard → Bool
 calls_itself cards before c after =
-    comes_back (calls (calculations cards)) (option_and_then (call_at (labels (calculations cards)) (calculations_before before (c ∷ after))) (calculation_ending before c after))
+    leads_back (calls (calculations cards)) (option_and_then (call_at (labels (calculations cards)) (calculations_before before (c ∷ after))) (calculation_ending before c after))

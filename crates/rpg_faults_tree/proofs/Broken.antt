@@ -210,18 +210,18 @@ module _ (cards : List SpecCard) where
   abbrev all_calls : List (ℕ × ℕ)
   all_calls = steps.calls_of_steps (steps_in (tree cards))
 
-  of_call : (call : Calculation Key → Option (ℕ × ℕ)) (o : Option CalculationGroup) → option_map_or (λ g. flow.comes_back all_calls (call (calculation_of g))) o false ≡ flow.comes_back all_calls (option_and_then call (option_map calculation_of o))
+  of_call : (call : Calculation Key → Option (ℕ × ℕ)) (o : Option CalculationGroup) → option_map_or (λ g. flow.leads_back all_calls (call (calculation_of g))) o false ≡ flow.leads_back all_calls (option_and_then call (option_map calculation_of o))
   of_call call None = refl
   of_call call (Some g) = refl
 
   pub recursion-broken : AreBroken (λ before c after. flow.calls_itself (before ++ c ∷ after) before c after) cards (recursive_cards (tree cards))
-  recursion-broken = broken-same (at_end (λ done g following. flow.comes_back all_calls (old_calls.call_at given done g))) _ cards (recursive_cards (tree cards)) same (ends_broken (λ done g following. flow.comes_back all_calls (old_calls.call_at given done g)) (λ s after. calls_back given all_calls s) (back_is given all_calls))
+  recursion-broken = broken-same (at_end (λ done g following. flow.leads_back all_calls (old_calls.call_at given done g))) _ cards (recursive_cards (tree cards)) same (ends_broken (λ done g following. flow.leads_back all_calls (old_calls.call_at given done g)) (λ s after. calls_back given all_calls s) (back_is given all_calls))
     where
-      same : (before : List SpecCard) (c : SpecCard) (after : List SpecCard) → cards ≡ before ++ c ∷ after → at_end (λ done g following. flow.comes_back all_calls (old_calls.call_at given done g)) before c after ≡ flow.calls_itself (before ++ c ∷ after) before c after
+      same : (before : List SpecCard) (c : SpecCard) (after : List SpecCard) → cards ≡ before ++ c ∷ after → at_end (λ done g following. flow.leads_back all_calls (old_calls.call_at given done g)) before c after ≡ flow.calls_itself (before ++ c ∷ after) before c after
       same before c after split =
           of_call (old_calls.call_at given (calculations_before before (c ∷ after))) (group_ending before c after)
-          ∙ ap (λ ps. flow.comes_back ps (option_and_then (old_calls.call_at given (calculations_before before (c ∷ after))) (calculation_ending before c after))) (sym given_calls ∙ ap (λ cs. old_calls.calls (calculations cs)) split)
-          ∙ ap (λ ls. flow.comes_back (old_calls.calls (calculations (before ++ c ∷ after))) (option_and_then (old_calls.call_at ls (calculations_before before (c ∷ after))) (calculation_ending before c after))) (sym given_labels ∙ ap (λ cs. old.labels (calculations cs)) split)
+          ∙ ap (λ ps. flow.leads_back ps (option_and_then (old_calls.call_at given (calculations_before before (c ∷ after))) (calculation_ending before c after))) (sym given_calls ∙ ap (λ cs. old_calls.calls (calculations cs)) split)
+          ∙ ap (λ ls. flow.leads_back (old_calls.calls (calculations (before ++ c ∷ after))) (option_and_then (old_calls.call_at ls (calculations_before before (c ∷ after))) (calculation_ending before c after))) (sym given_labels ∙ ap (λ cs. old.labels (calculations cs)) split)
 
   -- ---- F12
 

@@ -5,12 +5,12 @@ use Rattle.std.proofs.lemmas.Bool.{eq-eqb}
 use Rattle.std.specs.List.{cons_option, filter_map, list_any}
 use Rattle.std.specs.Option.{option_map_or}
 use Rattle.std.specs.Prelude.{◌==◌, Contains}
-use Rattle.rpg_cards.specs.Calls.{reaches}
 use Rattle.rpg_deck.specs.Steps.{CalculationCards, Step, SubroutineState, call_of, calls_of_steps, labels_of_steps, steps_from, subroutine_state_after}
-use Rattle.rpg_faults_flow.specs.Flow.{comes_back}
-use Rattle.rpg_faults_tree.specs.Index.{AreLabelsOf, Call, same_call}
+use Rattle.rpg_faults_flow.specs.Flow.{leads_back}
+use Rattle.rpg_faults_tree.specs.Index.{AreLabelsOf, same_call}
 use Rattle.rpg_faults_tree.specs.Rules.{calls_back}
 use Rattle.rpg_faults_tree.specs.declared.labels.Labels.{Labels}
+use Rattle.rpg_symbols.specs.Chains.{Call, reaches}
 
 same_as_itself : (p : Call) → same_call p p ≡ true
 same_as_itself p = ap (λ b. b && p.1 == p.1) (eq-eqb p.0 p.0 refl) ∙ eq-eqb p.1 p.1 refl
@@ -29,10 +29,10 @@ pub back_is : (ss : List Step) (l : Labels) (s : Step) (o : Option Call) → Are
     → option_map_or (λ p. list_any (same_call p) l.cycles.items) o false ≡ calls_back (labels_of_steps ss) (calls_of_steps ss) s
 back_is ss l s o are among is = by o is
   where
-    by : (o : Option Call) → o ≡ call_of (labels_of_steps ss) s → option_map_or (λ p. list_any (same_call p) l.cycles.items) o false ≡ comes_back (calls_of_steps ss) (call_of (labels_of_steps ss) s)
-    by None is = ap (comes_back (calls_of_steps ss)) is
+    by : (o : Option Call) → o ≡ call_of (labels_of_steps ss) s → option_map_or (λ p. list_any (same_call p) l.cycles.items) o false ≡ leads_back (calls_of_steps ss) (call_of (labels_of_steps ss) s)
+    by None is = ap (leads_back (calls_of_steps ss)) is
     by (Some p) is =
-        are.cycles p ∙ ap (λ b. b && reaches (calls_of_steps ss) p.1 p.0) (called_among (call_of (labels_of_steps ss)) ss among.0 s p among.1 among.2 (sym is)) ∙ ap (comes_back (calls_of_steps ss)) is
+        are.cycles p ∙ ap (λ b. b && reaches (calls_of_steps ss) p.1 p.0) (called_among (call_of (labels_of_steps ss)) ss among.0 s p among.1 among.2 (sym is)) ∙ ap (leads_back (calls_of_steps ss)) is
 
 -- as many steps as groups
 pub count_steps : (p : SubroutineState) (gs : List CalculationCards) → length (steps_from p gs) ≡ length gs

@@ -67,10 +67,10 @@ leaves_is given p done g gs m =
     ∙ ap (λ d. option_map_or (λ (n : Named). option_map_or (leaves_by (section_of_group p g) n) (label_named n.name given) false) (target_name d) false) (same_statement g)
 
 -- F14
-pub back_is : (given : List Label) (all : List (ℕ × ℕ)) → IsTestOf (λ done g following. flow.comes_back all (call_at given done g)) (λ s after. calls_back given all s)
+pub back_is : (given : List Label) (all : List (ℕ × ℕ)) → IsTestOf (λ done g following. flow.leads_back all (call_at given done g)) (λ s after. calls_back given all s)
 back_is given all p done g gs m =
-    ap (λ x. flow.comes_back all (option_and_then (λ caller. option_map (λ callee. (caller, callee)) (option_and_then (called_subroutine given) (target_name (calculation_in g).statement))) (subroutine_in x))) (same_section p done g m)
-    ∙ ap (λ d. flow.comes_back all (option_and_then (λ caller. option_map (λ callee. (caller, callee)) (option_and_then (called_subroutine given) (target_name d))) (subroutine_in (section_of_group p g)))) (same_statement g)
+    ap (λ x. flow.leads_back all (option_and_then (λ caller. option_map (λ callee. (caller, callee)) (option_and_then (called_subroutine given) (target_name (calculation_in g).statement))) (subroutine_in x))) (same_section p done g m)
+    ∙ ap (λ d. flow.leads_back all (option_and_then (λ caller. option_map (λ callee. (caller, callee)) (option_and_then (called_subroutine given) (target_name d))) (subroutine_in (section_of_group p g)))) (same_statement g)
 
 -- ---- F12 where calculations end
 

@@ -5,7 +5,6 @@ use Rattle.std.specs.Int.{bit_at}
 use Rattle.std.specs.List.{list_any}
 use Rattle.std.specs.Map.{lookup}
 use Rattle.std.specs.Option.{option_map, option_or}
-use Rattle.rpg_cards.specs.Calls.{reaches, reaches_in}
 use Rattle.rpg_cards.specs.Keys.{Name}
 use Rattle.rpg_cards.specs.Labels.{label_named}
 use Rattle.rpg_cards.specs.declared.labels.Label.{Label}
@@ -15,6 +14,7 @@ use Rattle.rpg_faults_tree.specs.Rules.{calls_back}
 use Rattle.rpg_faults_tree.specs.declared.labels.FirstLabel.{FirstLabel}
 use Rattle.rpg_faults_tree.specs.declared.labels.Labels.{Labels}
 use Rattle.rpg_faults_tree.specs.declared.labels.Target.{Target}
+use Rattle.rpg_symbols.specs.Chains.{Call, Calls, reaches, reaches_within}
 
 -- ---- names
 
@@ -41,16 +41,12 @@ NotesLabel name label old new =
 
 -- ---- calls
 
--- the numbers of the caller and of the callee
-abbrev pub Call : Type 0
-Call = ℕ × ℕ
-
 -- the same caller and the same callee
 abbrev pub same_call : Call → Call → Bool
 same_call p q = p.0 == q.0 && p.1 == q.1
 
 -- the calls whose callee reaches their caller
-abbrev pub AreCycles : List Call → List Call → Type 0
+abbrev pub AreCycles : Calls → Calls → Type 0
 AreCycles found all = (p : Call) → list_any (same_call p) found ≡ (list_any (same_call p) all && reaches all p.1 p.0)
 
 -- the labels of steps, and their recursive calls
@@ -76,7 +72,7 @@ DetectsRecursion l s answer = (ss : List Step) → AreLabelsOf ss l → Contains
 -- ---- which subroutines reach which, 64 of them at a time: each is a bit of a word
 
 -- all numbers of callers and callees are below the count
-abbrev pub AreBelow : ℕ → List Call → Type 0
+abbrev pub AreBelow : ℕ → Calls → Type 0
 AreBelow count all = (k : ℕ) → k < length all → ((get_or all k (0, 0)).0 < count) × ((get_or all k (0, 0)).1 < count)
 
 -- bit i of the word is set
@@ -88,20 +84,20 @@ abbrev pub is_in_word : ℕ → ℕ → Bool
 is_in_word first x = nat_le first x && nat_lt (x - first) 64
 
 -- by at most this many calls
-pub record IsReaching (steps : ℕ) (all : List Call) (first count : ℕ) (words : List ℕ) : Type 0 where
+pub record IsReaching (steps : ℕ) (all : Calls) (first count : ℕ) (words : List ℕ) : Type 0 where
   pub each_has : length words ≡ count
-  pub reaching : (x i : ℕ) → x < count → i < 64 → has_word_bit (get_or words x 0) i ≡ reaches_in steps all x (first + i)
+  pub reaching : (x i : ℕ) → x < count → i < 64 → has_word_bit (get_or words x 0) i ≡ reaches_within steps all x (first + i)
 
 -- the next words are those for one call more
-abbrev pub ReachesFurther : List Call → ℕ → List ℕ → List ℕ → Type 0
+abbrev pub ReachesFurther : Calls → ℕ → List ℕ → List ℕ → Type 0
 ReachesFurther all first words next = (steps : ℕ) → IsReaching steps all first (length words) words → IsReaching (steps + 1) all first (length words) next
 
 -- a caller's word also gets the bits of the subroutines that it calls
-abbrev pub Spreads : List Call → List ℕ → List ℕ → List ℕ → Type 0
+abbrev pub Spreads : Calls → List ℕ → List ℕ → List ℕ → Type 0
 Spreads all words old new =
     (x i : ℕ) → x < length words → has_word_bit (slice_index new x) i ≡ (has_word_bit (slice_index old x) i || list_any (λ p. p.0 == x && has_word_bit (slice_index words p.1) i) all)
 
 -- of the calls by the 64 subroutines those that come back are added
-abbrev pub AddsCycles : ℕ → List Call → List Call → List Call → Type 0
+abbrev pub AddsCycles : ℕ → Calls → Calls → Calls → Type 0
 AddsCycles first all old new =
     (p : Call) → list_any (same_call p) new ≡ (list_any (same_call p) old || (list_any (same_call p) all && (is_in_word first p.0 && reaches all p.1 p.0)))

@@ -13,8 +13,9 @@ use Rattle.rpg_faults_tree.specs.Positions.{at_operations}
 use Rattle.rpg_faults_tree.specs.Order.{out_of_order}
 use Rattle.rpg_faults_tree.specs.Rounding.{wrong_from}
 use Rattle.rpg_faults_tree.specs.Breaks.{BreaksAt}
-use Rattle.rpg_faults_flow.specs.Flow.{comes_back, is_given_as, leaves_by}
+use Rattle.rpg_faults_flow.specs.Flow.{leads_back, is_given_as, leaves_by}
 use Rattle.rpg_faults_flow.specs.Kept.{Rule}
+use Rattle.rpg_symbols.specs.Chains.{Calls}
 
 -- of any cards, the list of their tree has just the positions of those that break the rule
 abbrev pub Finds : (Tree → List ℕ) → Rule → Type 0
@@ -57,8 +58,8 @@ abbrev pub leaving_cards : Tree → List ℕ
 leaving_cards t = leaving_among (steps_in t)
 
 -- a call of a subroutine that reaches the one it is made in
-abbrev pub calls_back : List Label → List (ℕ × ℕ) → Step → Bool
-calls_back given all s = comes_back all (call_of given s)
+abbrev pub calls_back : List Label → Calls → Step → Bool
+calls_back given all s = leads_back all (call_of given s)
 
 -- of these steps, the cards with a call that leads back to its own subroutine
 abbrev pub recursive_among : List Step → List ℕ

@@ -1,8 +1,9 @@
 //! Recursive calls: calls between subroutines whose callee reaches the caller.
 
-ghost use Rattle.std.specs.Prelude.{◌≡◌, ℕ, ◌+◌, ◌-◌, ◌≤◌, ◌<◌, ◌==◌, ◌&&◌, length, slice_index, true, List, IfOk, OnOk};
+ghost use Rattle.std.specs.Prelude.{◌≡◌, ℕ, ◌+◌, ◌-◌, ◌≤◌, ◌<◌, ◌==◌, ◌&&◌, length, slice_index, true, IfOk, OnOk};
 ghost use Rattle.std.specs.List.{list_any};
 ghost use Rattle.rpg_faults_tree.specs.Index as index;
+ghost use Rattle.rpg_symbols.specs.Chains.{Calls};
 
 use std::alloc::{AllocError, Global};
 
@@ -89,7 +90,7 @@ fn reach_further(first: usize, calls: &[(u16, u16)], words: &[u64], next: &mut [
 }
 
 fn reach_itself(first: usize, words: &mut [u64])
-    ensures { (calls : List index.Call) → index.IsReaching 0 calls first (length words.old) words.new }
+    ensures { (calls : Calls) → index.IsReaching 0 calls first (length words.old) words.new }
 {
     for number in 0..words.len() {
         words[number] = own_bit(first, number);
@@ -133,7 +134,7 @@ fn push_cycles(
     ensures { OnOk result (index.AddsCycles first calls.now found.old.items found.new.items) }
 {
     for call in calls {
-        if comes_back(first, words, *call) {
+        if leads_back(first, words, *call) {
             found.push(*call)?;
         }
     }
@@ -141,7 +142,7 @@ fn push_cycles(
 }
 
 /// Whether the caller is among the 64 subroutines, and its callee reaches it.
-fn comes_back(first: usize, words: &[u64], call: (u16, u16)) -> bool
+fn leads_back(first: usize, words: &[u64], call: (u16, u16)) -> bool
     requires { call.1 < length words.now }
     ensures { result ≡ (index.is_in_word first call.0 && index.has_word_bit (slice_index words.now call.1) (call.0 - first)) }
 {

@@ -4,7 +4,7 @@ use Rattle.std.proofs.lemmas.Bool.{ltb-false}
 use Rattle.rpg_cards.specs.Statements.{Acts, Begins, Calculation, Statement, Ends, Executes, GoesTo, Marks, Nothing, WritesExceptions, has_instruction, tests}
 use Rattle.rpg_cards.specs.Keys.{Key, Name, key_cmp}
 use Rattle.rpg_compile_program.proofs.Counts.{level_length, tests_length}
-use Rattle.rpg_compile_program.specs.Code.{group_code, jump, label_place, level_code, no_conditions, section_code, step_code, tests_code, waits}
+use Rattle.rpg_compile_program.specs.Code.{group_code, jump, label_place, level_code, no_conditions, calculations_code, step_code, tests_code, waits}
 use Rattle.rpg_compile_program.specs.Whole.{called_number}
 use Rattle.rpg_program.specs.Effect.{Effect}
 use Rattle.rpg_program.specs.Ended.{on_data}
@@ -80,7 +80,7 @@ module _ {p : Object} {source : Source} {number : Key → ℕ} (orderly : IsOrde
       pushed (y ∷ ys) x = let r = pushed ys x in omega arith
 
   calculation_stands : (s : State) (d : Config) (g : Calculation Key) → AgreeAt p source number s d → slice_get (calculations s) s.next ≡ Some g → HasAt p orderly d d.place (group_code number (own_label s) callee_of (own s) d.place g)
-  unfolding section_code
+  unfolding calculations_code
   calculation_stands s d g a e =
       let part = cut number (own_label s) callee_of (own s) (calculations s) (first s) s.next g e in
       let code = ap (section_instructions p) a.section ∙ code_of_part number is.level source.sections p is.code s.part ∙ part.2 in

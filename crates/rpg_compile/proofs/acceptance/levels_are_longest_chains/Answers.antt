@@ -8,7 +8,7 @@ use Rattle.rpg_compile_program.specs.Program.{key_numbers, program_of, sections}
 use Rattle.rpg_compile.proofs.Kept.{keeps_rules}
 use Rattle.rpg_compile.proofs.Levels.{longest_is}
 use Rattle.rpg_compile.proofs.acceptance.levels_are_longest_chains.Goals as goal
-use Rattle.rpg_symbols.specs.Levels.{IsCallLevel}
+use Rattle.rpg_symbols.specs.Chains.{IsCallLevel}
 
 pub returns : goal.returns
 returns c = λ cards allowance none s low.

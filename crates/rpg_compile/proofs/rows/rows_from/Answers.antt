@@ -1,7 +1,7 @@
 use Rattle.std.proofs.Common.{◌≡◌, ◌+◌, ◌<◌, ℕ, length, ap, ◌∙◌, arith}
 use Rattle.rpg_cards.specs.Calculations.{calculations}
 use Rattle.rpg_cards.specs.Sections.{sections_of}
-use Rattle.rpg_compile_program.specs.Code.{section_code, sizes, subroutines_code}
+use Rattle.rpg_compile_program.specs.Code.{calculations_code, sizes, subroutines_code}
 use Rattle.rpg_compile_program.specs.Levels.{subroutine_level}
 use Rattle.rpg_compile_program.specs.Whole.{called_number}
 use Rattle.rpg_compile.proofs.Sizes.{all_sizes}
@@ -43,7 +43,7 @@ returns-clause-detail c =
     let s = sections_of (calculations c.args.cards.now) in
     let number = key_number c.args.table.now in
     let names : number_by c.in_ok-subroutines.subroutines ≡ called_number s = λ i n. c.in_ok-subroutines.ensures n i in
-    c.in_ok-detail.ensures.code ∙ ap (λ f. section_code number f 0 0 s.detail) names
+    c.in_ok-detail.ensures.code ∙ ap (λ f. calculations_code number f 0 0 s.detail) names
 
 pub returns-clause-total : goal.returns-clause-total
 returns-clause-total c =
@@ -52,10 +52,10 @@ returns-clause-total c =
     let names : number_by c.in_ok-subroutines.subroutines ≡ called_number s = λ i n. c.in_ok-subroutines.ensures n i in
     let end : c.in_ok-detail.end ≡ sizes s.detail = let e = c.in_ok-detail.ensures.end in omega (arith, e) in
     c.in_ok-total.ensures.code
-    ∙ ap (λ t. section_code (key_number t.now) (number_by c.section.new.self.subroutines) 0 c.in_ok-detail.end s.total) c.in_ok-detail.ensures.table
-    ∙ ap (λ t. section_code number (number_by t) 0 c.in_ok-detail.end s.total) c.in_ok-detail.ensures.subroutines
-    ∙ ap (λ f. section_code number f 0 c.in_ok-detail.end s.total) names
-    ∙ ap (λ n. section_code number (called_number s) 0 n s.total) end
+    ∙ ap (λ t. calculations_code (key_number t.now) (number_by c.section.new.self.subroutines) 0 c.in_ok-detail.end s.total) c.in_ok-detail.ensures.table
+    ∙ ap (λ t. calculations_code number (number_by t) 0 c.in_ok-detail.end s.total) c.in_ok-detail.ensures.subroutines
+    ∙ ap (λ f. calculations_code number f 0 c.in_ok-detail.end s.total) names
+    ∙ ap (λ n. calculations_code number (called_number s) 0 n s.total) end
 
 pub returns-clause-subroutines : goal.returns-clause-subroutines
 returns-clause-subroutines c =

@@ -1,7 +1,7 @@
 use Rattle.std.proofs.Common.{◌∙◌}
-use Rattle.rpg_cards.specs.Calls.{reaches}
 use Rattle.rpg_faults_tree.proofs.Bits.{all_below}
 use Rattle.rpg_faults_tree.proofs.cycles.cycles.Goals as goal
+use Rattle.rpg_symbols.specs.Chains.{reaches}
 
 pub returns : goal.returns
 returns c = λ p.

@@ -1,8 +1,8 @@
 use Rattle.std.proofs.Common.{◌≡◌, ◌&&◌, ◌||◌, take}
 use Rattle.std.specs.List.{list_any}
-use Rattle.rpg_cards.specs.Calls.{reaches}
-use Rattle.rpg_faults_tree.specs.Index.{Call, is_in_word, same_call}
+use Rattle.rpg_faults_tree.specs.Index.{is_in_word, same_call}
 use Rattle.rpg_faults_tree.proofs.cycles.push_cycles.Given as goal
+use Rattle.rpg_symbols.specs.Chains.{Call, reaches}
 
 abbrev pub invariant-loop-call : goal.invariant-loop-call
 invariant-loop-call l = (p : Call)

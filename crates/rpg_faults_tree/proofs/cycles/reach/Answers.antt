@@ -1,9 +1,10 @@
 use Rattle.std.proofs.Common.{◌≡◌, ℕ, zero, suc, ◌+◌, ◌-◌, List, ◌∙◌, length, subst, sym, arith}
-use Rattle.rpg_faults_tree.specs.Index.{Call, IsReaching}
+use Rattle.rpg_faults_tree.specs.Index.{IsReaching}
 use Rattle.rpg_faults_tree.proofs.cycles.reach.Goals as goal
+use Rattle.rpg_symbols.specs.Chains.{Calls}
 
 -- where one call more changes nothing, so many more don't
-stays : (all : List Call) (first count : ℕ) (words : List ℕ) → ((n : ℕ) → IsReaching n all first count words → IsReaching (n + 1) all first count words) → (more n : ℕ) → IsReaching n all first count words → IsReaching (n + more) all first count words
+stays : (all : Calls) (first count : ℕ) (words : List ℕ) → ((n : ℕ) → IsReaching n all first count words → IsReaching (n + 1) all first count words) → (more n : ℕ) → IsReaching n all first count words → IsReaching (n + more) all first count words
 stays all first count words step zero n is = let same : n ≡ n + 0 = omega arith in subst (λ m. IsReaching m all first count words) same is
 stays all first count words step (suc more) n is =
     let same : n + 1 + more ≡ n + suc more = omega arith in

@@ -1,7 +1,8 @@
 use Rattle.std.proofs.Common.{◌≡◌, ◌<◌, ℕ, ◌&&◌, ◌||◌, get_or, length, take}
 use Rattle.std.specs.List.{list_any}
 use Rattle.std.specs.Prelude.{◌==◌}
-use Rattle.rpg_faults_tree.specs.Index.{Call, has_word_bit}
+use Rattle.rpg_faults_tree.specs.Index.{has_word_bit}
+use Rattle.rpg_symbols.specs.Chains.{Call}
 use Rattle.rpg_faults_tree.proofs.cycles.spread.Given as goal
 
 abbrev pub invariant-loop-call : goal.invariant-loop-call

@@ -1,12 +1,12 @@
 use Rattle.std.proofs.Common.{◌≡◌, ◌++◌, ap, ◌∙◌}
-use Rattle.rpg_compile_program.specs.Code.{code_from, label_place, section_code}
+use Rattle.rpg_compile_program.specs.Code.{code_from, label_place, calculations_code}
 use Rattle.rpg_compile.proofs.rows.Writer.section.Goals as goal
 use Rattle.rpg_compile.specs.Numbers.{number_by}
 use Rattle.rpg_compile.specs.Walk.{section_in}
 use Rattle.rpg_compile_program.specs.Table.{key_number}
 
 pub returns-clause-code : goal.returns-clause-code
-unfolding section_code
+unfolding calculations_code
 returns-clause-code c =
     let gs = section_in c.args.part c.args.cards.now in
     let number = key_number c.args.self.now.table.now in

@@ -2,7 +2,7 @@ use Rattle.std.proofs.Common.{◌<◌, List, map, length, sym, ap, ◌∙◌, su
 use Rattle.std.proofs.lemmas.List.{map-append}
 use Rattle.std.proofs.lemmas.List.Elements.{All-push}
 use Rattle.std.specs.Prelude.{All}
-use Rattle.rpg_compile_program.specs.Code.{section_code}
+use Rattle.rpg_compile_program.specs.Code.{calculations_code}
 use Rattle.rpg_compile.proofs.Written.{no_row_left, one_row_more}
 use Rattle.rpg_compile.proofs.rows.Writer.subroutines.Goals as goal
 use Rattle.rpg_compile.specs.Called.{level_at}
@@ -25,8 +25,8 @@ loop-following-preserved c =
     let count = i.count in
     let places = i.places in
     let ends = e.end in
-    let code = e.code ∙ ap (λ t. section_code (key_number t.now) (number_by c.loop-following.self.subroutines) c.loop-following.own c.loop-following.place following) i.table
-    ∙ ap (λ s. section_code (key_number self.table.now) (number_by s) c.loop-following.own c.loop-following.place following) i.subroutines in
+    let code = e.code ∙ ap (λ t. calculations_code (key_number t.now) (number_by c.loop-following.self.subroutines) c.loop-following.own c.loop-following.place following) i.table
+    ∙ ap (λ s. calculations_code (key_number self.table.now) (number_by s) c.loop-following.own c.loop-following.place following) i.subroutines in
     let pushed = c.in_ok-push.ensures.items in
     let low : level_at c.args.levels.now c.loop-following.own < 65536 = omega (arith, c.type_inv.levels c.loop-following.own) in
     record {
