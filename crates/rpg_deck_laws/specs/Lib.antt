@@ -1,0 +1,4 @@
+pub mod Finding
+pub mod Limits
+pub mod Places
+pub mod TableData
