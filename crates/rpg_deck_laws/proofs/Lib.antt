@@ -4,4 +4,5 @@ pub mod LimitCounts
 pub mod Limits
 pub mod Misfits
 pub mod Ordering
+pub mod Returning
 pub mod TableData
