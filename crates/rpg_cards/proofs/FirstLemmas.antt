@@ -1,7 +1,6 @@
 -- What is found first in a list and in its front.
-use Rattle.std.proofs.Common.{◌≡◌, ℕ, zero, suc, ◌+◌, ◌<◌, ◌≤◌, Bool, true, false, cond, List, [], ◌∷◌, ◌++◌, length, take, get_or, Option, None, Some, refl, sym, ap, ◌∙◌, arith}
+use Rattle.std.proofs.Common.{◌≡◌, ℕ, zero, suc, ◌+◌, ◌<◌, ◌≤◌, Bool, true, false, cond, List, [], ◌∷◌, ◌++◌, length, take, Option, None, Some, refl, sym, ap, ◌∙◌, arith}
 use Rattle.std.proofs.lemmas.Bool.{le-ltb, lt-ltb}
-use Rattle.std.proofs.lemmas.List.{length-take-le, take_more}
 use Rattle.std.specs.Cmp.{IsEquivalence}
 use Rattle.std.specs.List.{list_any}
 use Rattle.std.specs.Map.{lookup}
@@ -115,22 +114,3 @@ module _ {X Y : Type 0} (test : X → Bool) (made : ℕ → X → Y) where
   pub noted_more : {K : Type 0} (found : K → Bool) (entries more : List (K × Y)) (xs items : List X) → lookup found entries ≡ first_at test made 0 xs
       → lookup found more ≡ option_or (lookup found entries) (first_at test made (length xs) items) → lookup found more ≡ first_at test made 0 (xs ++ items)
   noted_more found entries more xs items was noted = first_more (lookup found entries) (lookup found more) xs items was noted
-
-  -- one item more of those that are being noted
-  pub noted_one : {K : Type 0} (found : K → Bool) (old entries more : List (K × Y)) (start place : ℕ) (done : List X) (x : X) → place ≡ start + length done
-      → lookup found entries ≡ option_or (lookup found old) (first_at test made start done)
-      → lookup found more ≡ option_or (lookup found entries) (cond (test x) (Some (made place x)) None)
-      → lookup found more ≡ option_or (lookup found old) (first_at test made start (done ++ x ∷ []))
-  noted_one found old entries more start place done x at was noted =
-      noted ∙ ap (λ o. option_or o (cond (test x) (Some (made place x)) None)) was ∙ option_or_assoc (lookup found old) (first_at test made start done) (cond (test x) (Some (made place x)) None)
-      ∙ ap (λ k. option_or (lookup found old) (option_or (first_at test made start done) (cond (test x) (Some (made k x)) None))) at
-      ∙ ap (option_or (lookup found old)) (sym (first_at-append start done (x ∷ [])))
-
-  -- the same for the next item of a list
-  pub noted_next : {K : Type 0} (found : K → Bool) (old entries more : List (K × Y)) (start place i : ℕ) (xs : List X) (x : X) → i < length xs → x ≡ get_or xs i x → place ≡ start + i
-      → lookup found entries ≡ option_or (lookup found old) (first_at test made start (take i xs))
-      → lookup found more ≡ option_or (lookup found entries) (cond (test x) (Some (made place x)) None)
-      → lookup found more ≡ option_or (lookup found old) (first_at test made start (take (i + 1) xs))
-  noted_next found old entries more start place i xs x lt is at was noted =
-      let front : place ≡ start + length (take i xs) = let long = length-take-le i xs (omega arith) in omega arith in
-      rw (take_more xs i x lt, ← is) (noted_one found old entries more start place (take i xs) x front was noted)

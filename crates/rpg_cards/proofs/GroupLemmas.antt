@@ -1,5 +1,5 @@
 -- How groups grow by a card, and to which group a card belongs.
-use Rattle.std.proofs.Common.{◌≡◌, ℕ, ◌+◌, List, [], ◌∷◌, ◌++◌, length, map, take, Option, None, Some, refl, sym, ap, ◌∙◌, arith, append_assoc, append-nil}
+use Rattle.std.proofs.Common.{◌≡◌, ℕ, ◌+◌, List, [], ◌∷◌, ◌++◌, length, take, Option, None, Some, refl, sym, ap, ◌∙◌, arith, append_assoc, append-nil}
 use Rattle.std.proofs.Math.Seq.{take-append_seam}
 use Rattle.std.proofs.lemmas.List.Sums.{fold-append}
 use Rattle.std.specs.List.{last_or}
@@ -84,13 +84,6 @@ module _ {H F : Type 0} (role : Spec → Role H F) where
   pub groups-append : (before after : List SpecCard) → groups role (before ++ after) ≡ closed None before ++ groups_on (open_group role before) after
   groups-append before after = groups_on-append None before after ∙ ap (λ o. closed None before ++ groups_on o after) (sym (open_group-is before))
 
-  -- a follower is in the group that is open before it
-  pub follower-belongs : (before : List SpecCard) (c : SpecCard) (after : List SpecCard) (f : F) (g : Group H F) → role c.spec ≡ Follower f → open_group role before ≡ Some g
-      → groups role (before ++ c ∷ after) ≡ closed None before ++ with_followers (f ∷ followers role after) g ∷ groups_from role g.file after
-  follower-belongs before c after f g is opened =
-      groups-append before (c ∷ after) ∙ ap (λ o. closed None before ++ groups_on o (c ∷ after)) opened
-      ∙ ap (λ (r : Role H F). closed None before ++ with_followers (followers_with r (followers role after)) g ∷ opening r g.file (followers role after) (λ own. groups_from role own after)) is
-
   -- ---- how many groups there are
 
   count_from : (file : Option (List ℕ)) (before : List SpecCard) (c : SpecCard) → length (groups_from role file (before ++ c ∷ [])) ≡ length (groups_from role file before) + one_if_heading (role c.spec)
@@ -140,16 +133,4 @@ module _ {H F : Type 0} (role : Spec → Role H F) where
       → take (length (groups role before)) (groups role (before ++ c ∷ after)) ≡ groups role before
   groups-taken before c after h name e =
       ap (take (length (groups role before))) (groups-heading None before c after h name e) ∙ take-append_seam (groups role before) (groups_from role (file_after None before) (c ∷ after))
-
   -- ---- rows that don't name the file
-
-  pub rows_from : {Y : Type 0} (row : Group H F → Y) → ((h : H) (fs : List F) (a b : Option (List ℕ)) → row (record { heading = h; followers = fs; file = a }) ≡ row (record { heading = h; followers = fs; file = b }))
-      → (a b : Option (List ℕ)) (cards : List SpecCard) → map row (groups_from role a cards) ≡ map row (groups_from role b cards)
-  rows_from row alike a b [] = refl
-  rows_from row alike a b (c ∷ cs) = by_role (role c.spec) (λ x y. rows_from row alike x y cs)
-    where
-      by_role : (r : Role H F) → ((x y : Option (List ℕ)) → map row (groups_from role x cs) ≡ map row (groups_from role y cs))
-          → map row (opening r a (followers role cs) (λ own. groups_from role own cs)) ≡ map row (opening r b (followers role cs) (λ own. groups_from role own cs))
-      by_role (Heading h name) rest = let first = alike h (followers role cs) (option_or name a) (option_or name b) in let following = rest (option_or name a) (option_or name b) in cc
-      by_role (Follower f) rest = rest a b
-      by_role Apart rest = rest a b

@@ -1,7 +1,7 @@
 -- Groups of cards: a heading with the cards that follow it, up to the next heading of its sheet.
 use Rattle.std.specs.Prelude.{ℕ, List, [], ◌∷◌, ◌++◌, length, Option, None, Some, Bool, true, false}
 use Rattle.std.specs.List.{last_or}
-use Rattle.std.specs.Option.{option_and_then, option_map, option_map_or, option_or}
+use Rattle.std.specs.Option.{option_and_then, option_map, option_or}
 use Rattle.rpg_cards.specs.Cards.{input_on, output_on, data_on}
 use Rattle.rpg_cards.specs.declared.spec_card.SpecCard.{SpecCard}
 use Rattle.rpg_sheet_specs.specs.declared.calculation.ControlLevel.{ControlLevel}
@@ -71,17 +71,9 @@ module _ {H F : Type 0} (role : Spec → Role H F) where
   abbrev pub open_group : List SpecCard → Option (Group H F)
   open_group before = last_or None (groups before)
 
-  -- the heading of the open group
-  abbrev pub open_heading : List SpecCard → Option H
-  open_heading before = option_map (λ g. g.heading) (open_group before)
-
   -- the file of the open group
   abbrev pub open_file : List SpecCard → Option (List ℕ)
   open_file before = file_of_group (open_group before)
-
-  -- how many cards follow its heading
-  abbrev pub open_followers : List SpecCard → ℕ
-  open_followers before = option_map_or (λ g. length g.followers) (open_group before) 0
 
 -- ---- one more card: it opens a group, follows the open one, or changes nothing
 

@@ -17,7 +17,6 @@ pub mod Names
 pub mod Noted
 pub mod Programs
 pub mod SectionLimits
-pub mod Sections
 pub mod Sizes
 pub mod Steps
 pub mod Totals

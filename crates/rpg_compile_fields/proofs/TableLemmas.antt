@@ -1,12 +1,12 @@
 -- What a table takes from a card, and from the cards after it.
 use Rattle.std.proofs.Common.{◌≡◌, ℕ, ◌+◌, ◌-◌, List, [], ◌∷◌, ◌++◌, map, length, min, refl, sym, ap, ◌∙◌, arith}
-use Rattle.std.proofs.lemmas.List.{append_assoc, append-nil, map-append}
+use Rattle.std.proofs.lemmas.List.{append_assoc, map-append}
 use Rattle.std.proofs.lemmas.List.FromFn.{map-range_with_len_more}
 use Rattle.std.specs.List.{range_with_len}
 use Rattle.rpg_program.specs.Values.{Value}
 use Rattle.rpg_compile_fields.specs.Tables.{values_on_card}
 use Rattle.rpg_compile_fields.specs.declared.tables.TableData.{TableData}
-use Rattle.rpg_faults_data.proofs.EntryLemmas.{entries-card, entries-none}
+use Rattle.rpg_faults_data.proofs.EntryLemmas.{entries-card}
 use Rattle.rpg_faults_data.specs.Data.{data_entries, entry_on}
 use Rattle.rpg_compile_program.specs.Data.{entry_value}
 
@@ -39,11 +39,6 @@ module _ (d : TableData) where
       ∙ ap (λ vs. old ++ vs) (ap (λ k. values_on_card d text number ++ values_in k texts) fewer
       ∙ ap (λ k. values_on_card d text k ++ values_in (left - k) texts) least ∙ sym (values-card left text texts) ∙ ap (values_in left) (sym first))
       ∙ so_far
-
-  pub at_end : (left : ℕ) (all : List (List ℕ)) (old done : List Value) → all ≡ [] → old ++ values_in left all ≡ done → old ≡ done
-  at_end left all old done none so_far =
-      sym (append-nil old)
-      ∙ ap (λ vs. old ++ vs) (sym (ap (values_in left) none ∙ ap (map (entry_value d.table.now)) (entries-none d.width d.from d.table.now.length left d.per_card))) ∙ so_far
 
   -- one entry more of a card
   pub values_on_card-more : (card : List ℕ) (i : ℕ) (v : Value) (old new all : List Value) → new ≡ old ++ v ∷ []

@@ -93,9 +93,6 @@ module _ (level_of : InputFieldSpec → Option ℕ) where
       by (Some l) e r = (f x l e h.0, r)
 
 module _ (cards : List SpecCard) (rules : KeepsCardRules cards) (ranges : AreCards cards) where
-  valid_columns : (name : Option (List ℕ)) (i : InputSpec) (f : InputFieldSpec) → i ≡ input.Field f → IsInputValid cards rules ranges name i → HasColumns f
-  valid_columns name i f is h = in_columns (file_by name cards) f (subst (IsInputValid cards rules ranges name) is h).outside
-
   -- ---- a type's columns are valid, and its joined lengths at most 256
 
   has_columns : (g : Group RecordType InputSpec) → InFile cards rules ranges g → levelled.InGroup g

@@ -97,10 +97,6 @@ quietly f a b s t e d h is = subst (λ (r : Running). Does (without_output f) a 
   };
 })
 
--- a phase of a program that is the machine's own
-pub own : (F : Object → Phase) {p : Object} {a b : Running} {s t : Beside} {e : PhaseEnd} → a.program ≡ p → Does (F a.program) a s e b t → Does (F p) a s e b t
-own F {p} {a} {b} {s} {t} {e} same h = subst (λ (q : Object). Does (F q) a s e b t) same h
-
 -- ---- phases that select nothing
 
 pub passes_goes : {P Q : Phase} {a b c : Running} {e : PhaseEnd} → DoesAlone P a Continues b → DoesAlone Q b e c → DoesAlone (P before Q) a e c

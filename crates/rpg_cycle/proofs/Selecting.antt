@@ -1,5 +1,5 @@
 -- How records are taken in, and how one is selected.
-use Rattle.std.proofs.Common.{◌≡◌, ℕ, ◌≤◌, ◌<◌, ◌+◌, ◌*◌, suc, Bool, true, false, cond, not, ◌&&◌, List, [], ◌∷◌, length, slice_get, All, Option, None, Some, is_none, Ok, Err, refl, sym, ap, ◌∙◌, subst, take, arith}
+use Rattle.std.proofs.Common.{◌≡◌, ℕ, ◌≤◌, ◌<◌, ◌+◌, ◌*◌, suc, Bool, true, false, cond, not, ◌&&◌, List, [], ◌∷◌, length, slice_get, All, Option, None, Some, Ok, Err, refl, sym, ap, ◌∙◌, subst, take, arith}
 use Rattle.std.proofs.lemmas.Bool.Decides.{nat_tests}
 use Rattle.std.specs.List.{list_all}
 use Rattle.std.specs.Option.{ForSome}
@@ -20,8 +20,8 @@ use Rattle.rpg_cycle_records.specs.Identifying.{IsOf, IsOfNone, identified, is_v
 use Rattle.rpg_cycle_records.specs.Keeping.{left_of, renewed, renewed_by, seen_levels, seen_value, selected_as, value_following}
 use Rattle.rpg_cycle_records.specs.Levels.{broken_in, is_in_record}
 use Rattle.rpg_cycle_records.specs.Matching.{exceeds}
-use Rattle.rpg_cycle_records.specs.Waiting.{InputState, Inputs, chosen, input_at, other_file, with_file_over, takes_in, waiting_in, with_input, with_waiting}
-use Rattle.rpg_cycle_records.specs.Holding.{AreFilesKept, HoldsRecord, HoldsSelected, IsFileKept, input_state_of, inputs_of, kept_at, last_record_in, takes_from, text_in}
+use Rattle.rpg_cycle_records.specs.Waiting.{InputState, Inputs, chosen, input_at, other_file, takes_in, waiting_in, with_input, with_waiting}
+use Rattle.rpg_cycle_records.specs.Holding.{AreFilesKept, HoldsRecord, HoldsSelected, IsFileKept, input_state_of, inputs_of, kept_at, last_record_in, text_in}
 use Rattle.rpg_cycle_records.specs.declared.files.KeptFile.{KeptFile}
 use Rattle.rpg_cycle_records.specs.declared.kept.Kept.{Kept}
 use Rattle.rpg_cycle_records.specs.declared.levels.LastBytes.{LastBytes}
@@ -36,7 +36,7 @@ use Rattle.rpg_machine.specs.Config.{Config, charged}
 use Rattle.rpg_machine.specs.Ready.{IsReady}
 use Rattle.rpg_machine.specs.Running.{Running, config_on}
 use Rattle.rpg_program.specs.Kept.{IsCharacter}
-use Rattle.rpg_program.specs.Object.{Object, has_file, input_length}
+use Rattle.rpg_program.specs.Object.{Object, input_length}
 use Rattle.rpg_verify.specs.Bound.{most}
 
 and : (b c : Bool) → b ≡ true → c ≡ true → (b && c) ≡ true
@@ -142,47 +142,17 @@ waits_so k t text x w e o =
 
 -- ---- the phase
 
-pub settled : (p : Object) (left : Left) (f : InputFile) (next : Option (List ℕ)) (i : Inputs) (a : Running) → takes_in p i f ≡ false → Does (take_in p left f next) a (unselected i) Continues a (unselected i)
-settled p left f next i a h =
-    quietly (λ c. cond (takes_in p c.inputs f) (read_record p left f next c) (done Continues c)) a a (unselected i) (unselected i) Continues a.config (λ previous. rw h refl) refl
-
 pub asked : (p : Object) (left : Left) (f : InputFile) (next given : Option (List ℕ)) (i j : Inputs) (a b : Running) (e : PhaseEnd) → takes_in p i f ≡ true → next ≡ given → HasRead p left f given i a e b j →
     Does (take_in p left f next) a (unselected i) e b (unselected j)
 asked p left f next given i j a b e h is r =
     quietly (λ c. cond (takes_in p c.inputs f) (read_record p left f next c) (done Continues c)) a b (unselected i) (unselected j) e r.config
     (λ previous. rw h (ap (λ (n : Option (List ℕ)). read_record p left f n (under_way (config_on previous a.config) (unselected i))) is ∙ r.read previous)) r.machine
 
--- the file is at its end
-pub at_end : (p : Object) (left : Left) (f : InputFile) (i : Inputs) (a : Running) → HasRead p left f None i a Continues a (with_file_over f i)
-at_end p left f i a = record { config = a.config; read = λ previous. refl; machine = refl }
-
 -- ---- what is kept of a file, put in its place
 
 put_back : (f : InputFile) (i : Inputs) → with_input f (input_at i f) i ≡ i
 put_back Primary i = refl
 put_back Secondary i = refl
-
-pub stays : (p : Object) (left : Left) (f : InputFile) (next : Option (List ℕ)) (i : Inputs) (x : InputState) (a : Running) → input_at i f ≡ x → takes_from p f x ≡ false →
-    Does (take_in p left f next) a (unselected i) Continues a (unselected (with_input f x i))
-stays p left f next i x a is h =
-    subst (λ (j : Inputs). Does (take_in p left f next) a (unselected i) Continues a (unselected j)) (sym (put_back f i) ∙ ap (λ (y : InputState). with_input f y i) is)
-    (settled p left f next i a (ap (takes_from p f) is ∙ h))
-
-none_there : (b : Bool) (i : InputState) → (b && (not i.is_over && is_none i.waiting)) ≡ true → i.waiting ≡ None
-none_there b i h = none b i.is_over i.waiting h
-  where
-    none : (b c : Bool) (o : Option Selected) → (b && (not c && is_none o)) ≡ true → o ≡ None
-    none true false None h = refl
-    none true false (Some s) h = cc
-    none true true o h = cc
-    none false c o h = cc
-
-pub ends : (p : Object) (left : Left) (f : InputFile) (next : Option (List ℕ)) (i : Inputs) (x y : InputState) (a : Running) → input_at i f ≡ x → takes_from p f x ≡ true → next ≡ None →
-    y ≡ record { waiting = x.waiting; is_over = true } → Does (take_in p left f next) a (unselected i) Continues a (unselected (with_input f y i))
-ends p left f next i x y a is h none e =
-    subst (λ (z : InputState). Does (take_in p left f next) a (unselected i) Continues a (unselected (with_input f z i)))
-    (ap (λ (o : Option Selected). let z : InputState = record { waiting = o; is_over = true } in z) (sym (none_there (has_file p f) x h)) ∙ sym e)
-    (asked p left f next None i (with_file_over f i) a a Continues (ap (takes_from p f) is ∙ h) none (at_end p left f i a))
 
 pub taken_costs : (p : Object) (f : InputFile) (full : List ℕ) (t : ℕ) (a b c : Running) → TakesType p f full a t b → c ≡ record b { config = charged (length (match_fields p t)) b.config } → SpendsTakingIn p f a c
 taken_costs p f full t a b c one two =

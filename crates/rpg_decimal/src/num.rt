@@ -45,17 +45,3 @@ pub struct Rest {
     pub dec: Scale,
     pub ghost bound: { unsigned_abs value < 10 ^ 15 },
 }
-
-impl Figure {
-    /// Returns the number with its decimal point before the last `dec` digits.
-    pub fn with_point(self, dec: u8) -> Num
-        requires { dec ≤ 9 }
-        ensures value { result.value ≡ self.value }
-        ensures dec { result.dec ≡ dec }
-    {
-        Num {
-            value: self.value,
-            dec,
-        }
-    }
-}

@@ -13,7 +13,7 @@ use Rattle.rpg_program.specs.Entries.{position_of}
 use Rattle.rpg_program.specs.Forms.{has_field, is_array, is_index_form, is_text_constant, kind_of, length_of, may_write, same_kind}
 use Rattle.rpg_edit_marks.specs.Code.{is_blank_fill}
 use Rattle.rpg_program.specs.LineFaults.{KeepsFieldRules, field_fault, fits_editing, fits_source, fits_word, has_kinds, has_storage, has_word, prints_page, line_fault}
-use Rattle.rpg_program.specs.Lines.{Draft, Drafted, Line, after_movement, after_skip, after_space, assembled, blank_line, blanked, blanked_all, with_page_counted, drafted, exception_output, go_on_with, is_due, laid, laid_over, line_out, lines_out, next_page, one_out, printed_line, put_on, write_line_out, remembered, spaced_before, unless_faulty, where_due, with_field, with_fields}
+use Rattle.rpg_program.specs.Lines.{Draft, Drafted, Line, after_movement, after_skip, after_space, assembled, blank_line, blanked, blanked_all, with_page_counted, drafted, go_on_with, is_due, laid, laid_over, line_out, lines_out, next_page, one_out, printed_line, put_on, write_line_out, remembered, spaced_before, unless_faulty, where_due, with_field, with_fields}
 use Rattle.rpg_program.specs.Rows.{has_entry, has_index, has_operand, is_one, is_one_entry, is_shaped}
 use Rattle.rpg_program.specs.Showing.{turned_on}
 use Rattle.rpg_program.specs.Values.{Number, number_of}
@@ -298,7 +298,3 @@ module _ {K L : Type 0} {R : K → K → Ordering} {S : L → L → Ordering} {o
   unfolding lines_out
   lines_same overflow pass [] there v w a = leaves_same v w a
   lines_same overflow pass (l ∷ ls) there v w a = then_same _ _ _ _ (one_out_same overflow pass l (All-head AreAll l ls there) v w a) (lines_same overflow pass ls (All-tail AreAll l ls there))
-
-  -- EXCPT does the same by both names
-  pub except_same : (overflow : Option ℕ) (ls : List (Line K)) → AreNamed old ls → (v : World R) (w : World S) → Agree old at v w → SameEffect old at (exception_output old words overflow ls v) (exception_output new new_words overflow (map (renamed_line at) ls) w)
-  except_same overflow ls there v w a = lines_same overflow passes.Exception ls there v w a

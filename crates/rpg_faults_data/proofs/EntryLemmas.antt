@@ -1,6 +1,6 @@
 -- Entries, each judged after the one before it.
 use Rattle.std.proofs.Common.{◌≡◌, ℕ, suc, ◌+◌, ◌-◌, ◌≤◌, Bool, true, false, ◌&&◌, ◌||◌, List, [], ◌∷◌, ◌++◌, map, length, take, min, Option, None, Some, refl, sym, ap, ◌∙◌, arith, append-nil, ◌⊎◌, inl, inr, ◌<◌, ◌≢◌}
-use Rattle.std.proofs.Math.Seq.{take-append-add, take-nil}
+use Rattle.std.proofs.Math.Seq.{take-append-add}
 use Rattle.std.proofs.lemmas.Bool.{cases_lt}
 use Rattle.std.proofs.lemmas.List.{take-append-le}
 use Rattle.std.proofs.lemmas.List.FromFn.{length-map-range_with_len, map-range_with_len_more, take-map-range_with_len}
@@ -44,9 +44,6 @@ any_wrong-append t o (x ∷ xs) ys = ap (λ r. is_wrong t o x || r) (any_wrong-a
 
 -- those of a card, and those of the cards after it
 module _ (width from len : ℕ) where
-  pub entries-none : (n per_card : ℕ) → data_entries n per_card width from len [] ≡ []
-  entries-none n per_card = take-nil n
-
   entries-few : (n per_card : ℕ) (text : List ℕ) (texts : List (List ℕ)) → n ≤ per_card
       → data_entries n per_card width from len (text ∷ texts) ≡ map (entry_on width from len text) (range_with_len 0 n)
   entries-few n per_card text texts few =

@@ -148,8 +148,5 @@ module _ (cards : List SpecCard) (i : ℕ) (c : SpecCard) (less : i < length car
   pub at_data : (text : List ℕ) → data_on c.spec ≡ Some (deck.Card text) → deck_cards (drop i cards) ≡ data_card c.number text ∷ deck_cards (drop (i + 1) cards)
   at_data text on = cards_at cards i c less is ∙ ap (λ (d : Option DataSpec). with_data_card c.number d (deck_cards (drop (i + 1) cards))) on
 
-  pub at_begin : data_on c.spec ≡ Some deck.Begin → deck_cards (drop i cards) ≡ []
-  at_begin on = cards_at cards i c less is ∙ ap (λ (d : Option DataSpec). with_data_card c.number d (deck_cards (drop (i + 1) cards))) on
-
   pub at_other : data_on c.spec ≡ None → deck_cards (drop i cards) ≡ deck_cards (drop (i + 1) cards)
   at_other on = cards_at cards i c less is ∙ ap (λ (d : Option DataSpec). with_data_card c.number d (deck_cards (drop (i + 1) cards))) on

@@ -332,12 +332,6 @@ module _ (cards : List SpecCard) where
 
     -- ---- plain sections
 
-    abbrev IsValid : Calculation Key → Type 0
-    IsValid g = (is_subroutine g.control ≡ true → g.level ≡ None) × ((is_endsr g.statement ≡ true → tests g.alternatives ≡ 0) × IsFound (subs all) g.statement)
-
-    valid : Each IsValid all
-    valid = each_split IsValid (λ front g gs f. (f.waits, (f.free, found_at g f.named f.found))) [] all facts
-
     found_all : Each (λ g. IsFound (subs all) g.statement) all
     found_all = each_split (λ g. IsFound (subs all) g.statement) (λ front g gs f. found_at g f.named f.found) [] all facts
 

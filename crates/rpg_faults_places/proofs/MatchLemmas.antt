@@ -355,20 +355,8 @@ module _ (fs : List InputFieldSpec) (c : SpecCard) (rest : List SpecCard) where
   of_role : (r : Role RecordType InputSpec) → input_role c.spec ≡ r → matched (c ∷ rest) ≡ matched_fields (followers_with r (followers input_role rest))
   of_role r is = ap (λ (r : Role RecordType InputSpec). matched_fields (followers_with r (followers input_role rest))) is
 
-  pub matched_type : (t : RecordType) (found : Option (List ℕ)) → input_role c.spec ≡ Heading t t.file → AreValid fs found → found ≡ valid_matches (fs ++ matched (c ∷ rest))
-  matched_type t found is valid = valid.lengths ∙ ap valid_matches (sym (ap (λ xs. fs ++ xs) (of_role (Heading t t.file) is) ∙ append-nil fs))
-
   pub matched_field : (f : InputFieldSpec) (n : ℕ) → input_role c.spec ≡ Follower (input.Field f) → f.match_level ≡ Some n → fs ++ matched (c ∷ rest) ≡ fs ++ f ∷ matched rest
   matched_field f n is at = ap (λ xs. fs ++ xs) (of_role (Follower (input.Field f)) is ∙ match_field-one f n (followers input_role rest) at)
-
-  pub matched_plain : (f : InputFieldSpec) → input_role c.spec ≡ Follower (input.Field f) → f.match_level ≡ None → fs ++ matched (c ∷ rest) ≡ fs ++ matched rest
-  matched_plain f is none = ap (λ xs. fs ++ xs) (of_role (Follower (input.Field f)) is ∙ match_field-none f (followers input_role rest) none)
-
-  pub matched_codes : (codes : Three (Option RecordCode)) → input_role c.spec ≡ Follower (input.And codes) → fs ++ matched (c ∷ rest) ≡ fs ++ matched rest
-  matched_codes codes is = ap (λ xs. fs ++ xs) (of_role (Follower (input.And codes)) is)
-
-  pub matched_apart : input_role c.spec ≡ Apart → fs ++ matched (c ∷ rest) ≡ fs ++ matched rest
-  matched_apart is = ap (λ xs. fs ++ xs) (of_role Apart is)
 
 -- ---- all of it, card by card
 

@@ -1,5 +1,5 @@
 -- The records of an input.
-use Rattle.std.specs.Prelude.{◌≡◌, ◌==◌, ◌&&◌, ℕ, Bool, true, false, nat_le, if◌then◌else◌, List, [], ◌∷◌, ◌++◌, length, map, codes, refl}
+use Rattle.std.specs.Prelude.{◌≡◌, ◌==◌, ◌&&◌, ℕ, Bool, true, false, nat_le, if◌then◌else◌, List, [], ◌∷◌, ◌++◌, length, map}
 use Rattle.std.specs.List.{flat_map, list_all}
 use Rattle.rpg_text.specs.Lines.{is_line, with_line_feed, unless_empty}
 use Rattle.rpg_text.specs.Texts.{is_character}
@@ -51,26 +51,3 @@ without_return (b ∷ c ∷ bytes) = b ∷ without_return (c ∷ bytes)
 abbrev pub RecordsAreLines : Type 0
 RecordsAreLines = (lines : List (List ℕ)) (rest : List ℕ) → list_all is_line lines ≡ true → is_line rest ≡ true
     → records (flat_map with_line_feed lines ++ rest) ≡ map without_return lines ++ unless_empty rest
-
--- ---- examples
-
-no_records : records [] ≡ []
-no_records = refl
-
-two_records : records (codes "007\n35\n") ≡ codes "007" ∷ codes "35" ∷ []
-two_records = refl
-
-last_record_without_line_feed : records (codes "007\n35") ≡ codes "007" ∷ codes "35" ∷ []
-last_record_without_line_feed = refl
-
-empty_records : records (codes "\n\n") ≡ [] ∷ [] ∷ []
-empty_records = refl
-
-record_before_carriage_return : records (codes "007\r\n35") ≡ codes "007" ∷ codes "35" ∷ []
-record_before_carriage_return = refl
-
-record_with_carriage_return : records (codes "7\r\r\n") ≡ codes "7\r" ∷ []
-record_with_carriage_return = refl
-
-record_around_carriage_return : records (codes "7\r5\r") ≡ codes "7\r5\r" ∷ []
-record_around_carriage_return = refl

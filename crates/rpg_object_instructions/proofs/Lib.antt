@@ -1,5 +1,4 @@
 pub mod Choices
-pub mod Examples
 pub mod IndicatorLaws
 pub mod IndicatorsKept
 pub mod InstructionKept

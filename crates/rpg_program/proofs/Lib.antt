@@ -1,5 +1,4 @@
 pub mod Digits
-pub mod Examples
 pub mod Fronts
 pub mod PlaceLaws
 pub mod Printing

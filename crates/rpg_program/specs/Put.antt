@@ -4,7 +4,7 @@ use Rattle.std.specs.Prelude.{◌≡◌, ℕ, ◌+◌, List, [], ◌∷◌, ◌+
 use Rattle.std.specs.Ordering.{nat_cmp}
 use Rattle.std.specs.declared.cmp.Ordering.{Ordering}
 use Rattle.rpg_paper.specs.Form.{line_of, page_or_1}
-use Rattle.rpg_paper.specs.Paper.{Position, Placed, bytes_from, last_position_from, last_position, paper}
+use Rattle.rpg_paper.specs.Paper.{Position, Placed, bytes_from, last_position_from, paper}
 use Rattle.rpg_program.specs.Effect.{Effect}
 use Rattle.rpg_program.specs.Ends.{End}
 use Rattle.rpg_program.specs.World.{World}
@@ -42,9 +42,3 @@ pub record IsLeft (previous : Option Position) (after : Effect nat_cmp) (old : B
 -- an effect was done, whatever was placed before: how it ended, what it left, and its lines' bytes appended
 pub record IsDone (effect : World nat_cmp → Effect nat_cmp) (w : Held) (old : Bytes) (e : End) (v : Held) (new : Bytes) : Type 0 where
   pub following : (previous : Option Position) → w.last ≡ line_of previous → IsLeft previous (effect (on_paper previous w.world)) old e v new
-
--- everything that a job has output: the lines on its paper, from the top, and the records on its disk, with the bytes sent before
-pub record HasPut (sent : Bytes) (w : Held) (bytes : Bytes) (lines : List Placed) (records : List (List ℕ)) : Type 0 where
-  pub last : w.last ≡ line_of (last_position lines)
-  pub print : sent.print ++ bytes.print ≡ paper lines
-  pub disk : sent.disk ++ bytes.disk ≡ disk_bytes records

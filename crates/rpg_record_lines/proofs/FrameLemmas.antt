@@ -16,9 +16,6 @@ counted_more p a b = omega arith
 enough : (n : ℕ) (xs : List ℕ) → n ≤ length (take n xs) → n ≤ length xs
 enough n xs h = omega (arith, length-take n xs)
 
-few : (n : ℕ) (xs : List ℕ) → length (take n xs) < n → length xs < n
-few n xs h = omega (arith, length-take n xs)
-
 few_length : (n : ℕ) (xs r : List ℕ) → r ≡ take n xs → length r < n → length r ≡ length xs
 few_length n xs r e h = omega (arith, length-take n xs, ap length e)
 

@@ -1,5 +1,5 @@
 -- The lines of a text are std's `lines`. For a text that is made of lines, that means:
-use Rattle.std.specs.Prelude.{◌≡◌, ◌==◌, ℕ, Bool, true, not, List, [], ◌∷◌, ◌++◌, map, codes, refl}
+use Rattle.std.specs.Prelude.{◌≡◌, ◌==◌, ℕ, Bool, true, not, List, [], ◌∷◌, ◌++◌, map}
 use Rattle.std.specs.List.{flat_map, list_all}
 use Rattle.std.specs.Str.Lines.{lines, strip_carriage_return}
 
@@ -29,26 +29,3 @@ unless_empty (b ∷ bytes) = (b ∷ bytes) ∷ []
 abbrev pub LinesEndAtLineFeeds : Type 0
 LinesEndAtLineFeeds = (parts : List (List ℕ)) (rest : List ℕ) → list_all is_line parts ≡ true → is_line rest ≡ true
     → lines (flat_map with_line_feed parts ++ rest) ≡ map strip_carriage_return parts ++ unless_empty rest
-
--- ---- examples
-
-no_lines : lines [] ≡ []
-no_lines = refl
-
-two_lines : lines (codes "007\n35\n") ≡ codes "007" ∷ codes "35" ∷ []
-two_lines = refl
-
-without_line_feed_at_the_end : lines (codes "007\n35") ≡ codes "007" ∷ codes "35" ∷ []
-without_line_feed_at_the_end = refl
-
-empty_lines : lines (codes "\n\n") ≡ [] ∷ [] ∷ []
-empty_lines = refl
-
-carriage_return_before_line_feed : lines (codes "007\r\n35") ≡ codes "007" ∷ codes "35" ∷ []
-carriage_return_before_line_feed = refl
-
-two_carriage_returns : lines (codes "7\r\r\n") ≡ codes "7\r" ∷ []
-two_carriage_returns = refl
-
-carriage_return_elsewhere : lines (codes "7\r5\r") ≡ codes "7\r5\r" ∷ []
-carriage_return_elsewhere = refl

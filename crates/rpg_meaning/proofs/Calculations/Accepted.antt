@@ -1,5 +1,5 @@
 -- What the machine of an accepted program does: nothing is wrong, and control is where the rules let it go.
-use Rattle.std.proofs.Common.{◌≡◌, ◌≢◌, ◌<◌, ℕ, true, false, ◌&&◌, cond, eqb, Some, None, subst, ap, ◌∙◌}
+use Rattle.std.proofs.Common.{◌≡◌, ◌≢◌, ◌<◌, ℕ, false, ◌&&◌, cond, eqb, Some, None, subst, ap, ◌∙◌}
 use Rattle.rpg_program.specs.Ends.{Fault, Halt, Wrong}
 use Rattle.rpg_program.specs.declared.operation.Instruction.{Instruction}
 use Rattle.rpg_program.specs.declared.operation.Instruction.TheVariants.{Call, Return}
@@ -18,7 +18,7 @@ use Rattle.rpg_meaning.specs.Calculations.Agreement.{IsRunnable}
 use Rattle.rpg_memory.proofs.Programs.{program_forms}
 use Rattle.rpg_program.specs.Kept.{IsProgram}
 use Rattle.rpg_program.specs.Object.{Object}
-use Rattle.rpg_program.specs.Sections.{instruction_at, is_place, level_of}
+use Rattle.rpg_program.specs.Sections.{instruction_at, level_of}
 use Rattle.rpg_program.specs.declared.section.Section.TheVariants as sections
 use Rattle.rpg_verify_rules.proofs.Soundness.{sound}
 use Rattle.rpg_verify_rules.specs.Accepted.{IsAccepted}
@@ -28,9 +28,6 @@ pub orderly_of : (p : Object) → IsProgram p → IsAccepted p → IsOrderly p
 orderly_of p program accepted = orderly p program (sound p accepted) (greatest p program) (program_forms p program)
 
 module _ (p : Object) (orderly : IsOrderly p) where
-  pub place_there : (c : Config) → IsRunnable p c → is_place p (here c) ≡ true
-  place_there c fit = fit.0.place
-
   pub right : (c : Config) (i : Instruction ℕ) → IsRunnable p c → instruction_at p (here c) ≡ Some i → fault p (charged (weight p i) c) i (control_in c i) ≡ None
   right c i fit at = no_fault p (charged (weight p i) c) i (control_in c i) (never_wrong p c i orderly fit.0 at)
 

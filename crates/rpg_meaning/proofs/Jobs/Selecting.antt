@@ -168,10 +168,6 @@ module _ {p : Object} {job : Job} {number : Key → ℕ} (orderly : IsOrderly p)
     stands : (n : ℕ) → Same p job number s (with_config (charged n) c)
     stands n = record { world = same.world; allowance = same.allowance; inputs = same.inputs; selected = same.selected }
 
-    -- the files changed alike
-    filed : (n : ℕ) (g : Inputs → Inputs) → Same p job number (record s { inputs = g s.inputs }) (with_inputs g (with_config (charged n) c))
-    filed n g = record { world = same.world; allowance = same.allowance; inputs = ap g same.inputs; selected = same.selected }
-
     matched : (n m : ℕ) (r : Selected) → IsCycleEnd (machine.match_up p (left_by p earlier) f r (with_config (charged m) (with_config (charged n) c))).end
         → Matches (machine.match_up p (left_by p earlier) f r (with_config (charged m) (with_config (charged n) c))) (cards.meant_match_up job earlier f r s)
     matched n m r = by (list_all (is_in_record (length r.text)) (match_fields p r.type))

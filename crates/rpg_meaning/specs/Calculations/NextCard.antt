@@ -9,7 +9,6 @@ use Rattle.rpg_cards.specs.Sections.{begun_by, is_detail, is_same_name, is_subro
 use Rattle.rpg_cards.specs.Cards.{calculation_on}
 use Rattle.rpg_cards.specs.Groups.{joins}
 use Rattle.rpg_cards.specs.declared.spec_card.SpecCard.{SpecCard}
-use Rattle.rpg_meaning.specs.Calculations.Meaning.{State}
 use Rattle.rpg_meaning.specs.Calculations.Parts.{InDetail, InSubroutine, InTotal, Part, calculations_in}
 use Rattle.rpg_sheet_specs.specs.declared.calculation.CalculationSpec.{CalculationSpec}
 use Rattle.rpg_compile_program.specs.Program.{sections}
@@ -57,10 +56,6 @@ those_in (InSubroutine name) es = after_begsr name (filter (λ e. is_subroutine 
 -- the number of the card that the n-th calculation of a part begins on
 abbrev pub card_number : List SpecCard → Part → ℕ → Option ℕ
 card_number cards part n = option_map (λ e. e.0) (slice_get (those_in part (numbered_from None cards)) n)
-
--- none if no card of the part is left
-abbrev pub next_card : List SpecCard → State → Option ℕ
-next_card cards s = card_number cards s.part s.next
 
 -- ---- laws
 
