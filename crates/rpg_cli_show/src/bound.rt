@@ -1,71 +1,9 @@
-//! The bound of an accepted program, and the path costs from which it is computed.
-
-ghost use Rattle.std.specs.Prelude.{◌≡◌, ◌+◌, ◌≤◌, length};
-ghost use Rattle.rpg_program.specs.Kept.{IsProgram};
-ghost use Rattle.rpg_program.specs.Object.{seen};
-ghost use Rattle.rpg_program.specs.Sections.{first_place, place_after};
+//! The bound of an accepted program, and its parts.
 
 use rpg_cli_text::TextWriter;
 use rpg_program::line::Time;
 use rpg_program::operation::Instruction;
 use rpg_program::rows::{Rows, Version};
-use rpg_program::section::{Place, Section};
-use rpg_verify::Verified;
-use std::alloc::{AllocError, Global};
-
-/// Notes the path costs of the places of a section.
-fn push_section(
-    costs: &mut Vec<u64>,
-    verified: &Verified,
-    section: Section,
-    first: usize,
-    count: usize,
-) -> Result<(), AllocError>
-    requires few { first + count ≤ 8192 }
-    requires first { first ≡ first_place verified.now section }
-    requires end { first + count ≡ place_after verified.now section }
-{
-    for place in first..first + count {
-        let number = place as u16;
-        costs.push(verified.path_cost(Place { section, number }))?;
-    }
-    Ok(())
-}
-
-/// Notes the costs of all subroutines, the first at this place.
-fn push_subroutines(
-    costs: &mut Vec<u64>,
-    verified: &Verified,
-    rows: &Rows,
-    begin: usize,
-) -> Result<(), AllocError>
-    requires same { seen rows.now ≡ verified.now }
-    requires program { IsProgram (seen rows.now) }
-    requires begin { begin ≡ length rows.now.detail.items + length rows.now.total.items }
-{
-    let mut first = begin;
-    let mut number: u16 = 0;
-    for subroutine in &rows.subroutines {
-        let count = subroutine.instructions.len();
-        push_section(costs, verified, Section::Subroutine(number), first, count)?;
-        first += count;
-        number += 1;
-    }
-    Ok(())
-}
-
-/// Returns the path costs of the places of an accepted program.
-#[tactic(auto, unfolding(rpg_program::specs::Sections::first_place, rpg_program::specs::Sections::place_after))]
-pub(crate) fn path_costs(alloc: Global, verified: &Verified) -> Result<Vec<u64>, AllocError> {
-    let rows = verified.program().rows();
-    let detail = rows.detail.len();
-    let total = rows.total.len();
-    let mut costs = Vec::new(alloc);
-    push_section(&mut costs, verified, Section::Detail, 0, detail)?;
-    push_section(&mut costs, verified, Section::Total, detail, total)?;
-    push_subroutines(&mut costs, verified, rows, detail + total)?;
-    Ok(costs)
-}
 
 /// Returns the weight of all record types: their codes, control fields, input fields and match fields.
 fn types_weight(rows: &Rows) -> u64 {

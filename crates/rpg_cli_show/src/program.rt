@@ -1,6 +1,6 @@
 //! A program as text.
 
-use crate::bound::{path_costs, write_bound};
+use crate::bound::write_bound;
 use crate::fields::{write_fields, write_first_values};
 use crate::header::{write_header, write_version};
 use crate::instructions::write_sections;
@@ -56,12 +56,11 @@ fn accepted_text(
     source: &SourceRows,
     is_named: bool,
 ) -> Result<String, AllocError> {
-    let costs = path_costs(alloc, verified)?;
     let shown = Shown {
         rows: verified.program().rows(),
         source,
         is_named,
-        costs: &costs,
+        costs: verified.path_costs(),
         broken: None,
     };
     shown_text(alloc, verified.program(), shown, Some(verified.bound()))

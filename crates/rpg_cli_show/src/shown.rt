@@ -1,8 +1,7 @@
 //! What the rows of a program are printed from, and what they share.
 
-use rpg_cli_explain::Topic;
 use rpg_cli_show_fields::{SourceRows, constant_of, name_text, write_card_operand, write_value};
-use rpg_cli_text::TextWriter;
+use rpg_cli_text::{TextWriter, Topic};
 use rpg_program::operation::{Index, Operand};
 use rpg_program::rows::Rows;
 use rpg_verify::{BrokenRule, Rule, VerifyFault};

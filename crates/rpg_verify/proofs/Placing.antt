@@ -80,22 +80,7 @@ cost_there p x low = by_test (nat_le (first_place p x.section) x.number) (le-leb
 pub stored : (p : Object) (x : Place) → first_place p x.section ≤ x.number → x.number < place_after p x.section → slice_index (costs p) x.number ≡ cost p x
 stored p x low high = by_section p x.section x.number low high ∙ sym (cost_there p x low)
 
--- ---- all places have a cost
-
-pub length_in : (p : Object) (b : ℕ) (ss : List SubroutineRow) → length (costs_in p b ss) ≡ instructions_in ss
-length_in p b [] = refl
-length_in p b (s ∷ ss) =
-    let own = length_costs (weight p) b s.instructions in
-    let rest = length_in p (b + length s.instructions) ss in
-    let both = length-append (costs_at p b s.instructions) (costs_in p (b + length s.instructions) ss) in
-    omega (arith, own, rest, both)
-
-pub length_all : (p : Object) → length (costs p) ≡ places_of p
-length_all p =
-    let main = main_long p in
-    let rest = length_in p (length p.detail + length p.total) p.subroutines in
-    let both = length-append (main_costs p) (costs_in p (length p.detail + length p.total) p.subroutines) in
-    omega (arith, main, rest, both)
+-- ---- sections end within the program
 
 end_in : (b : ℕ) (ss : List SubroutineRow) (n : ℕ) → first_in b ss n + length (body_of (slice_get ss n)) ≤ b + instructions_in ss
 end_in b [] n = omega arith
@@ -109,13 +94,6 @@ ends_within p Total = omega arith
 ends_within p (Subroutine n) = end_in (length p.detail + length p.total) p.subroutines n
 
 -- ---- as they are stored
-
-pub in_stored : (p : Object) (s : Section) (n : ℕ) (all : List ℕ) → all ≡ costs p → n < place_after p s → n < length all
-in_stored p s n all e h =
-    let l = length_all p in
-    let w = ends_within p s in
-    let same : length all ≡ length (costs p) = ap length e in
-    omega (arith, l, w, same, h)
 
 pub read_stored : (p : Object) (x : Place) (all : List ℕ) → all ≡ costs p → first_place p x.section ≤ x.number → x.number < place_after p x.section → slice_index all x.number ≡ cost p x
 read_stored p x all e low high = ap (λ xs. slice_index xs x.number) e ∙ stored p x low high

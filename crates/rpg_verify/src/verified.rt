@@ -1,9 +1,10 @@
 //! Programs that may run.
 
-ghost use Rattle.std.specs.Prelude.{◌≡◌, ◌<◌, ◌≤◌, ◌^◌, IfErr, IfOk};
+ghost use Rattle.std.specs.Prelude.{◌≡◌, ◌<◌, ◌≤◌, ◌^◌, IfErr, IfOk, slice_index};
 ghost use Rattle.rpg_program.specs.ObjectInstructions.{weight};
 ghost use Rattle.rpg_program.specs.Kept.{IsProgram};
 ghost use Rattle.rpg_program.specs.Sections.{first_place, place_after};
+ghost use Rattle.rpg_program.specs.declared.section.Place.{Place};
 ghost use Rattle.rpg_verify_rules.specs.Accepted.{IsAccepted};
 ghost use Rattle.rpg_verify_rules.specs.Sound.{IsSound};
 ghost use Rattle.rpg_verify.specs.Bound as words;
@@ -14,7 +15,6 @@ ghost use Rattle.rpg_verify.specs.Verified.{IsRefusal};
 use crate::bound::{Measured, measure};
 use crate::least::first_broken;
 use rpg_program::Program;
-use rpg_program::section::Place;
 use rpg_verify_rules::Rule;
 use std::alloc::Global;
 use std::marker::Model;
@@ -89,14 +89,12 @@ impl Verified {
         self.bound
     }
 
-    /// Returns the greatest sum of weights along a forward path from a place that has an instruction.
-    pub fn path_cost(&self, place: Place) -> u64
-        requires first { first_place self.now place.section ≤ place.number }
-        requires last { place.number < place_after self.now place.section }
-        ensures cost { result ≡ words.cost self.now place }
-        ensures greatest { IsCost (weight self.now) (words.code_of_section self.now place.section) place.number result }
+    /// Returns, for each place, the greatest sum of weights along a forward path from it.
+    pub fn path_costs(&self) -> &[u64]
+        ensures costs { result.now ≡ words.costs self.now }
+        ensures greatest { (x : Place) → first_place self.now x.section ≤ x.number → x.number < place_after self.now x.section → IsCost (weight self.now) (words.code_of_section self.now x.section) x.number (slice_index result.now x.number) }
     {
-        self.costs[usize::from(place.number)]
+        &self.costs
     }
 
     /// What follows from the rules: no operand, line or input field is wrong, and control goes only where it

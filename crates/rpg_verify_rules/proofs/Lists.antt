@@ -1,18 +1,12 @@
 -- Tests over lists that are seen as other lists.
-use Rattle.std.proofs.Common.{◌≡◌, ℕ, suc, ◌+◌, Bool, true, false, not, ◌&&◌, cond, List, [], ◌∷◌, ◌++◌, map, length, Option, Some, None, refl, ap, ◌∙◌, arith}
+use Rattle.std.proofs.Common.{◌≡◌, ℕ, suc, ◌+◌, Bool, true, false, not, ◌&&◌, ◌||◌, cond, List, [], ◌∷◌, ◌++◌, map, length, Option, Some, None, refl, ap, ◌∙◌, arith}
 use Rattle.std.specs.Prelude.{nat_lt}
-use Rattle.std.specs.List.{list_all, position, position_or_len}
+use Rattle.std.specs.List.{list_all, list_any, position, position_or_len}
 use borrow.Author.Tests.{ltb-true, ltb-false}
-use Rattle.std.specs.Global.{Vec}
-use Rattle.rpg_program.specs.declared.condition.Condition.{Condition}
 use Rattle.rpg_program.specs.Object.{subroutine_row}
 use Rattle.rpg_program.specs.declared.rows.Subroutine.{Subroutine}
 use Rattle.rpg_verify_rules.specs.Least.{first_true}
 use Rattle.rpg_verify_rules.specs.PlaceRules.{is_off_level}
-
-pub all-map : {X Y : Type 0} (test : Y → Bool) (f : X → Y) (xs : List X) → list_all test (map f xs) ≡ list_all (λ x. test (f x)) xs
-all-map test f [] = refl
-all-map test f (x ∷ xs) = ap (λ b. test (f x) && b) (all-map test f xs)
 
 -- the first row that is broken is the first at which the test holds
 abbrev pub found : ℕ → ℕ → ℕ → Option ℕ
@@ -77,9 +71,14 @@ found_in_both {X} test n (x ∷ xs) bs = by_test (test x) (found_in_both test (n
     by_test true h = at_front _ refl
     by_test false h = h ∙ following (position_or_len test xs) _ _ refl refl
 
--- conditions in alternatives
-pub alternatives : (test : Condition → Bool) (xs : List (Vec Condition)) → list_all (list_all test) (map (λ a. a.items) xs) ≡ list_all (λ a. list_all test a.items) xs
-alternatives test xs = all-map (list_all test) (λ (a : Vec Condition). a.items) xs
+-- not all pass exactly if one doesn't
+pub not_all : {X : Type 0} (test : X → Bool) (xs : List X) → not (list_all test xs) ≡ list_any (λ x. not (test x)) xs
+not_all test [] = refl
+not_all test (x ∷ xs) = by_test (test x) (not_all test xs)
+  where
+    by_test : (b : Bool) → not (list_all test xs) ≡ list_any (λ x. not (test x)) xs → not (b && list_all test xs) ≡ (not b || list_any (λ x. not (test x)) xs)
+    by_test true h = h
+    by_test false h = refl
 
 -- levels of subroutines
 pub levels : (xs : List Subroutine) → first_true 0 (map is_off_level (map subroutine_row xs)) ≡ position (λ s. is_off_level (subroutine_row s)) xs

@@ -1,5 +1,5 @@
 -- The rules of output lines.
-use Rattle.std.specs.Prelude.{ℕ, Bool, true, not, ◌&&◌, ◌==◌, Option}
+use Rattle.std.specs.Prelude.{ℕ, Bool, true, false, not, ◌&&◌, ◌==◌, Option}
 use Rattle.std.specs.List.{list_all, list_any}
 use Rattle.rpg_edit_marks.specs.Code.{fits_code, is_blank_fill}
 use Rattle.rpg_edit_marks.specs.declared.code.Fill.{Fill}
@@ -100,6 +100,18 @@ is_field_testable v f = all_testable v f.conditions
 -- it fits and is validly blanked, but tests an indicator that isn't allowed
 abbrev pub has_untestable_condition : Object → ℕ → LineField ℕ → Bool
 has_untestable_condition p len f = not (is_field_testable p.version f) && (blanks_writable (form_at p.fields) (word_at p) f && fits_line p len f)
+
+-- the field breaks the rule in a line of that length; none breaks V2, V8 or V9, which are about the line itself
+abbrev pub field_breaks : LineRule → Object → ℕ → LineField ℕ → Bool
+field_breaks V2 p len f = false
+field_breaks V8 p len f = false
+field_breaks V9 p len f = false
+field_breaks V10 p len f = not (is_field_there p f)
+field_breaks V11 p len f = lacks_editing p f
+field_breaks V12 p len f = lacks_word p f
+field_breaks V13 p len f = lacks_room p len f
+field_breaks V14 p len f = blanks_wrongly p len f
+field_breaks V15 p len f = has_untestable_condition p len f
 
 -- ---- whether a line breaks a rule; V10 to V15 don't apply to a field that a lower-numbered one rejects
 

@@ -28,7 +28,7 @@ use rpg_program::line::{Editing, File, LineField, Source, Spacing};
 use rpg_program::rows::{Line, Rows, Version};
 
 /// Whether a line breaks a rule.
-#[tactic(auto, unfolding(crate::specs::LineRules::line_breaks))]
+#[tactic(auto, using(crate::proofs::Lists::not_all), unfolding(crate::specs::LineRules::line_breaks))]
 pub fn breaks(rule: LineRule, rows: &Rows, line: &Line) -> bool
     requires { IsProgram (seen rows.now) }
     ensures { result ≡ words.line_breaks rule (seen rows.now) (line_row line.now) }
@@ -37,12 +37,12 @@ pub fn breaks(rule: LineRule, rows: &Rows, line: &Line) -> bool
         LineRule::V2 => rows.file_length(line.file) == 0,
         LineRule::V8 => !is_spaced_on(line.file, line.spacing),
         LineRule::V9 => !are_alternatives_testable(rows.version, &line.alternatives),
-        LineRule::V10 => !are_fields_there(rows, &line.fields),
-        LineRule::V11 => lack_editing(rows, &line.fields),
-        LineRule::V12 => lack_words(rows, &line.fields),
-        LineRule::V13 => lack_room(rows, rows.file_length(line.file), &line.fields),
-        LineRule::V14 => blank_wrongly(rows, rows.file_length(line.file), &line.fields),
-        LineRule::V15 => have_untestable_condition(rows, rows.file_length(line.file), &line.fields),
+        LineRule::V10
+        | LineRule::V11
+        | LineRule::V12
+        | LineRule::V13
+        | LineRule::V14
+        | LineRule::V15 => any_field_breaks(rule, rows, rows.file_length(line.file), &line.fields),
     }
 }
 
@@ -65,19 +65,23 @@ fn is_spaced_on(file: File, s: Spacing) -> bool
 pub fn are_all_testable(version: Version, conditions: &[Condition]) -> bool
     ensures { result ≡ list_all (marks.is_testable version) conditions.now }
 {
-    conditions.iter().all(|c| is_testable(version, c))
-}
-
-fn are_each_testable(version: Version, alternatives: &[Vec<Condition>]) -> bool
-    ensures { result ≡ list_all (λ (a : Vec Condition). list_all (marks.is_testable version) a.items) alternatives.now }
-{
-    alternatives.iter().all(|a| are_all_testable(version, a))
+    for condition in conditions {
+        if !is_testable(version, condition) {
+            return false;
+        }
+    }
+    true
 }
 
 fn are_alternatives_testable(version: Version, alternatives: &[Vec<Condition>]) -> bool
     ensures { result ≡ list_all (list_all (marks.is_testable version)) (map (λ a. a.items) alternatives.now) }
 {
-    are_each_testable(version, alternatives)
+    for conditions in alternatives {
+        if !are_all_testable(version, conditions) {
+            return false;
+        }
+    }
+    true
 }
 
 // ---- whether fields exist, and may be blanked
@@ -96,12 +100,6 @@ pub fn is_field_there(rows: &Rows, field: &LineField<u16>) -> bool
 {
     (has_entry(rows, field.operand) && is_one_entry(rows, field.operand))
         && is_source_of(field.source, form_at(rows, field.operand.field))
-}
-
-fn are_fields_there(rows: &Rows, fields: &[LineField<u16>]) -> bool
-    ensures { result ≡ list_all (words.is_field_there (seen rows.now)) fields.now }
-{
-    fields.iter().all(|f| is_field_there(rows, f))
 }
 
 fn is_blanked_writable(rows: &Rows, field: &LineField<u16>) -> bool
@@ -141,12 +139,6 @@ pub fn lacks_editing(rows: &Rows, field: &LineField<u16>) -> bool
     is_field_there(rows, field) && !is_field_edited(rows, field)
 }
 
-fn lack_editing(rows: &Rows, fields: &[LineField<u16>]) -> bool
-    ensures { result ≡ list_any (words.lacks_editing (seen rows.now)) fields.now }
-{
-    fields.iter().any(|f| lacks_editing(rows, f))
-}
-
 // ---- edit words
 
 /// The digits of a number, 0 if there is no field.
@@ -175,13 +167,6 @@ pub fn lacks_word(rows: &Rows, field: &LineField<u16>) -> bool
     ensures { result ≡ words.lacks_word (seen rows.now) field.now }
 {
     is_field_there(rows, field) && (is_field_edited(rows, field) && !is_field_worded(rows, field))
-}
-
-fn lack_words(rows: &Rows, fields: &[LineField<u16>]) -> bool
-    requires { IsProgram (seen rows.now) }
-    ensures { result ≡ list_any (words.lacks_word (seen rows.now)) fields.now }
-{
-    fields.iter().any(|f| lacks_word(rows, f))
 }
 
 // ---- room
@@ -254,13 +239,6 @@ pub fn lacks_room(rows: &Rows, length: u16, field: &LineField<u16>) -> bool
     may_have_width(rows, field) && (!has_room(rows, length, field) && is_field_worded(rows, field))
 }
 
-fn lack_room(rows: &Rows, length: u16, fields: &[LineField<u16>]) -> bool
-    requires { IsProgram (seen rows.now) }
-    ensures { result ≡ list_any (words.lacks_room (seen rows.now) length) fields.now }
-{
-    fields.iter().any(|f| lacks_room(rows, length, f))
-}
-
 // ---- requirements on fields that fit
 
 fn has_width(rows: &Rows, field: &LineField<u16>) -> bool
@@ -285,13 +263,6 @@ pub fn blanks_wrongly(rows: &Rows, length: u16, field: &LineField<u16>) -> bool
     !is_blanked_writable(rows, field) && fits_line(rows, length, field)
 }
 
-fn blank_wrongly(rows: &Rows, length: u16, fields: &[LineField<u16>]) -> bool
-    requires { IsProgram (seen rows.now) }
-    ensures { result ≡ list_any (words.blanks_wrongly (seen rows.now) length) fields.now }
-{
-    fields.iter().any(|f| blanks_wrongly(rows, length, f))
-}
-
 pub fn has_untestable_condition(rows: &Rows, length: u16, field: &LineField<u16>) -> bool
     requires { IsProgram (seen rows.now) }
     ensures { result ≡ words.has_untestable_condition (seen rows.now) length field.now }
@@ -300,11 +271,32 @@ pub fn has_untestable_condition(rows: &Rows, length: u16, field: &LineField<u16>
         && (is_blanked_writable(rows, field) && fits_line(rows, length, field))
 }
 
-fn have_untestable_condition(rows: &Rows, length: u16, fields: &[LineField<u16>]) -> bool
+// ---- all fields of a line
+
+/// Whether a field breaks a rule in a line of this length. No field breaks V2, V8 or V9, which are about the line itself.
+fn field_breaks(rule: LineRule, rows: &Rows, length: u16, field: &LineField<u16>) -> bool
     requires { IsProgram (seen rows.now) }
-    ensures { result ≡ list_any (words.has_untestable_condition (seen rows.now) length) fields.now }
+    ensures { result ≡ words.field_breaks rule (seen rows.now) length field.now }
 {
-    fields
-        .iter()
-        .any(|f| has_untestable_condition(rows, length, f))
+    match rule {
+        LineRule::V2 | LineRule::V8 | LineRule::V9 => false,
+        LineRule::V10 => !is_field_there(rows, field),
+        LineRule::V11 => lacks_editing(rows, field),
+        LineRule::V12 => lacks_word(rows, field),
+        LineRule::V13 => lacks_room(rows, length, field),
+        LineRule::V14 => blanks_wrongly(rows, length, field),
+        LineRule::V15 => has_untestable_condition(rows, length, field),
+    }
+}
+
+fn any_field_breaks(rule: LineRule, rows: &Rows, length: u16, fields: &[LineField<u16>]) -> bool
+    requires { IsProgram (seen rows.now) }
+    ensures { result ≡ list_any (words.field_breaks rule (seen rows.now) length) fields.now }
+{
+    for field in fields {
+        if field_breaks(rule, rows, length, field) {
+            return true;
+        }
+    }
+    false
 }

@@ -56,7 +56,12 @@ pub fn first_widths(types: &[RecordType]) -> [u128; 9]
 pub fn has_level(level: u8, fields: &[ControlField]) -> bool
     ensures { result ≡ list_any (words.is_of_level level) fields.now }
 {
-    fields.iter().any(|f| f.level == level)
+    for field in fields {
+        if field.level == level {
+            return true;
+        }
+    }
+    false
 }
 
 /// Whether each level appears once at most.

@@ -23,7 +23,12 @@ pub fn is_return(instruction: Instruction<u16>) -> bool
 pub fn has_return(code: &[Instruction<u16>]) -> bool
     ensures { result ≡ list_any words.is_return code.now }
 {
-    code.iter().any(|i| is_return(*i))
+    for instruction in code {
+        if is_return(*instruction) {
+            return true;
+        }
+    }
+    false
 }
 
 fn is_own(number: usize, instruction: Instruction<u16>) -> bool
@@ -41,7 +46,12 @@ fn is_own(number: usize, instruction: Instruction<u16>) -> bool
 fn are_own(number: usize, code: &[Instruction<u16>]) -> bool
     ensures { result ≡ list_all (words.is_own number) code.now }
 {
-    code.iter().all(|i| is_own(number, *i))
+    for instruction in code {
+        if !is_own(number, *instruction) {
+            return false;
+        }
+    }
+    true
 }
 
 fn ends_in_return(code: &[Instruction<u16>]) -> bool

@@ -125,7 +125,12 @@ pub fn is_code_in(length: u16, code: &RecordCode) -> bool
 fn are_codes_in(length: u16, codes: &[RecordCode]) -> bool
     ensures { result ≡ list_all (words.is_code_in length) codes.now }
 {
-    codes.iter().all(|c| is_code_in(length, c))
+    for code in codes {
+        if !is_code_in(length, code) {
+            return false;
+        }
+    }
+    true
 }
 
 pub fn is_control_in(length: u16, field: &ControlField) -> bool
@@ -137,7 +142,12 @@ pub fn is_control_in(length: u16, field: &ControlField) -> bool
 pub(crate) fn are_controls_in(length: u16, fields: &[ControlField]) -> bool
     ensures { result ≡ list_all (words.is_control_in length) fields.now }
 {
-    fields.iter().all(|f| is_control_in(length, f))
+    for field in fields {
+        if !is_control_in(length, field) {
+            return false;
+        }
+    }
+    true
 }
 
 pub fn is_input_in(rows: &Rows, length: u16, field: &InputField<u16>) -> bool
@@ -155,7 +165,12 @@ pub fn is_input_in(rows: &Rows, length: u16, field: &InputField<u16>) -> bool
 fn are_inputs_in(rows: &Rows, length: u16, fields: &[InputField<u16>]) -> bool
     ensures { result ≡ list_all (words.is_input_in (seen rows.now) length) fields.now }
 {
-    fields.iter().all(|f| is_input_in(rows, length, f))
+    for field in fields {
+        if !is_input_in(rows, length, field) {
+            return false;
+        }
+    }
+    true
 }
 
 /// Whether the indicators suit the kind: a text shows only blanks.
@@ -183,5 +198,10 @@ pub fn shows_wrongly(rows: &Rows, length: u16, field: &InputField<u16>) -> bool
 fn show_wrongly(rows: &Rows, length: u16, fields: &[InputField<u16>]) -> bool
     ensures { result ≡ list_any (words.shows_wrongly (seen rows.now) length) fields.now }
 {
-    fields.iter().any(|f| shows_wrongly(rows, length, f))
+    for field in fields {
+        if shows_wrongly(rows, length, field) {
+            return true;
+        }
+    }
+    false
 }
