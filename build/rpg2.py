@@ -1,9 +1,11 @@
 #!/usr/bin/env python3
-"""Builds crates/rpg2/out/rpg2 only from what is proved. The Makefile calls it: build/rpg2.py, at the top of the repository.
+"""Builds crates/rpg2/out/rpg2 only from what is proved, for `make prove`.
+
+usage, at the top of the repository: build/rpg2.py [--is-built]
 
 rpg2 and the libraries below it are proved from nothing by the gate's own command, `rt ci`, in a room that has them and nothing else: no
 wrong bodies, no tests, no other program. On the way it prints how many crates are proved and how long the rest is likely to take. If
-nothing in them is newer than the program, it is left as it is.
+nothing in them is newer than the program, it is left as it is. With --is-built nothing is built: it fails unless the program is up to date.
 """
 
 import os
@@ -19,6 +21,7 @@ PROGRAM = Path("crates/rpg2/out/rpg2")
 PARTS = ("src", "specs", "proofs", "args", "data", "stdout")
 # Processor seconds of a proof, as docs/develop/GATE.md has them: for a crate whatever it holds, and for a line of its .rt files.
 EACH_CRATE, EACH_LINE = 20, 0.13
+NOT_BUILT = "rpg2: no proved program is up to date: `make prove` makes one, in some 40 minutes on 4 processors, and the package has one (README.md, \"Get it\")"
 DONE = re.compile(r"rt: (\w+) (?:proved|is kept)\b")
 
 
@@ -35,12 +38,14 @@ def crates_below(name):
     return found
 
 
-def is_older(program, crates):
-    """Whether a file that the program is made of is newer than it."""
-    folders = [Path("crates", it) for it in crates]
+def is_up_to_date(program):
+    """Whether there is the program, and no file that it is made of is newer."""
+    if not program.exists():
+        return False
+    folders = [Path("crates", it) for it in crates_below("rpg2")]
     files = [Path("crates.txt"), Path("HANDLES"), *(file for it in folders for file in it.rglob("*") if it / "out" not in file.parents and file.is_file())]
     made = program.stat().st_mtime
-    return any(file.stat().st_mtime > made for file in files)
+    return all(file.stat().st_mtime <= made for file in files)
 
 
 def room_of(crates, room):
@@ -96,10 +101,9 @@ def prove(room, progress):
     return gate.returncode
 
 
-def main():
-    crates = crates_below("rpg2")
-    if PROGRAM.exists() and not is_older(PROGRAM, crates):
-        return 0
+def build():
+    """Proves and builds the program. It is as old as the files it is made of, even if they change while they are proved."""
+    crates, begun = crates_below("rpg2"), time.time()
     with tempfile.TemporaryDirectory(prefix="melguda-build-") as name:
         room, progress = Path(name), Progress(crates)
         room_of(crates, room)
@@ -108,8 +112,15 @@ def main():
         if not status:
             PROGRAM.parent.mkdir(parents=True, exist_ok=True)
             shutil.copy(room / PROGRAM, PROGRAM)
+            os.utime(PROGRAM, (begun, begun))
     return status
 
 
+def main(words):
+    if is_up_to_date(PROGRAM):
+        return 0
+    return NOT_BUILT if words == ["--is-built"] else build()
+
+
 if __name__ == "__main__":
-    sys.exit(main())
+    sys.exit(main(sys.argv[1:]))
