@@ -20,7 +20,7 @@ use Rattle.rpg_faults_operands.specs.Operands.{card_entry_form, operand_with, op
 use Rattle.rpg_program.specs.Kept.{IsIndexRow}
 use Rattle.rpg_compile.proofs.Fields.{named_kept}
 use Rattle.rpg_compile.proofs.Totals.{names_within, number_within}
-use Rattle.rpg_effect_renaming.specs.Naming.{renamed_index}
+use Rattle.rpg_program.specs.Naming.{renamed_index}
 use Rattle.rpg_sheet_specs.specs.declared.entry.Entry.{Entry}
 use Rattle.rpg_sheet_specs.specs.declared.entry.EntryIndex.{EntryIndex}
 use Rattle.rpg_sheet_specs.specs.declared.entry.EntryIndex.TheVariants as written

@@ -19,7 +19,7 @@ use Rattle.rpg_faults_limits.specs.Limits.{alternative_count, condition_count, c
 use Rattle.rpg_sheet_specs.specs.Three.{filled_count}
 use Rattle.rpg_compile.proofs.Indices.{HasValidIndex, valid_on_cards}
 use Rattle.rpg_compile.proofs.Walks.{all_of, at_open, one_more, three_count, unpassed}
-use Rattle.rpg_effect_renaming.specs.Naming.{renamed_field}
+use Rattle.rpg_program.specs.Naming.{renamed_field}
 use Rattle.rpg_sheet_specs.specs.declared.indicator.ConditionSpec as sheet
 use Rattle.rpg_sheet_specs.specs.declared.indicator.Three.{Three}
 use Rattle.rpg_sheet_specs.specs.declared.output.OutputRecord.{OutputRecord}

@@ -28,7 +28,7 @@ use Rattle.rpg_compile_program.specs.Lines.{lines_on, record_length_of}
 use Rattle.rpg_compile_program.specs.Program.{key_numbers, line_rows, numbered_line, program_of, sections, types_of, version_for}
 use Rattle.rpg_compile_program.specs.Table.{forms, table_of}
 use Rattle.rpg_compile_program.specs.Types.{types_on}
-use Rattle.rpg_effect_renaming.specs.Naming.{renamed_type}
+use Rattle.rpg_program.specs.Naming.{renamed_type}
 use Rattle.rpg_compile.proofs.Instructions as instructions
 use Rattle.rpg_compile.proofs.Versions.{plain}
 

@@ -15,7 +15,7 @@ use Rattle.rpg_compile.proofs.Groups.{group_alternatives, group_tests, size_of_i
 use Rattle.rpg_compile.specs.Steps.{action_in, code_of_group}
 use Rattle.rpg_compile.specs.Tests.{alternatives_in, tests_in}
 use Rattle.rpg_compile.specs.Walk.{first_calculation, group_of, size_with}
-use Rattle.rpg_effect_renaming.specs.Naming.{renamed_action}
+use Rattle.rpg_program.specs.Naming.{renamed_action}
 use Rattle.rpg_sheet_specs.specs.declared.calculation.CalculationSpec.{CalculationSpec}
 
 pub acted : (number : Key → ℕ) (place_of callee_of : Option Name → ℕ) (own : ℕ) (d : Statement Key) (a : Action (Operand ℕ)) → Some a ≡ option_map (renamed_action number) (action_in d)

@@ -20,7 +20,7 @@ use Rattle.rpg_faults_limits.specs.Limits.{bytes_up_to, constant_bytes, fields_u
 use Rattle.rpg_program.specs.Kept.{storage_of}
 use Rattle.rpg_compile.proofs.Walks.{unpassed}
 use Rattle.rpg_symbols.specs.Fields.{NamedForms, storage}
-use Rattle.rpg_compile_program.proofs.Fields.{names_are}
+use Rattle.rpg_compile_program.proofs.NamedFields.{names_are}
 use Rattle.rpg_compile_program.proofs.Known.{defined}
 use Rattle.rpg_compile_program.proofs.Lists.{all_within}
 use Rattle.rpg_compile_program.specs.Rules.{KeepsCardRules}

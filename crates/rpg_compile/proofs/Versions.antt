@@ -21,7 +21,7 @@ use Rattle.rpg_compile_program.specs.Lines.{record_length_of}
 use Rattle.rpg_compile_program.specs.Program.{key_numbers, program_of, types_of, version_for, version_with}
 use Rattle.rpg_compile_program.specs.Types.{card_type, control_field, file_read, input_fields_in, input_file}
 use Rattle.rpg_program.specs.declared.input.InputFile.TheVariants as input_file_of
-use Rattle.rpg_effect_renaming.specs.Naming.{renamed_type}
+use Rattle.rpg_program.specs.Naming.{renamed_type}
 use Rattle.rpg_program.specs.Kept.{IsPlain, IsPlainType}
 use Rattle.rpg_program.specs.declared.rows.Version.TheVariants as versions
 use Rattle.rpg_sheet_specs.specs.declared.file.FileSpec.{FileSpec}

@@ -6,11 +6,11 @@ ghost use Rattle.rpg_cards.specs.Statements as statements;
 ghost use Rattle.rpg_cards.specs.Keys as keys;
 ghost use Rattle.rpg_compile.specs.Marked.{IsMarkedAction};
 ghost use Rattle.rpg_compile.specs.Steps as steps;
-ghost use Rattle.rpg_effect_renaming.specs.Naming.{renamed_action, renamed_operand};
+ghost use Rattle.rpg_program.specs.Naming.{renamed_action, renamed_operand};
 ghost use Rattle.rpg_compile_program.specs.Table.{key_number};
 
 use rpg_cards::shows_of;
-use rpg_compile_fields::FieldTable;
+use rpg_compile_program::FieldTable;
 use rpg_program::operation::{Action, Index, Operand, Operator, Side};
 use rpg_sheet_specs::{CalculationSpec, Entry, Factor, Operation};
 

@@ -9,7 +9,7 @@ ghost use Rattle.rpg_compile.specs.Marked.{IsMarked};
 use crate::action::action_of;
 use crate::numbers::NameNumbers;
 use crate::part::wanted_name;
-use rpg_compile_fields::FieldTable;
+use rpg_compile_program::FieldTable;
 use rpg_program::condition::Conditions;
 use rpg_program::operation::Instruction;
 use rpg_sheet_specs::{CalculationSpec, Operation};

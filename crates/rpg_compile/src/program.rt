@@ -15,8 +15,8 @@ use crate::{
 };
 use rpg_card_index::IndexedCards;
 use rpg_cards::FileUse;
-use rpg_compile_fields::{Fields, fields_of};
 use rpg_compile_layouts::{lines_of, types_of};
+use rpg_compile_program::{Fields, fields_of};
 use rpg_program::Program;
 use rpg_program::rows::{Rows, Version};
 use rpg_sheet_specs::FileSpec;

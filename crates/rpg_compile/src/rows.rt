@@ -21,7 +21,7 @@ use crate::numbers::NameNumbers;
 use crate::part::{Part, next_subroutine};
 use crate::section::push_section;
 use rpg_cards::SpecCard;
-use rpg_compile_fields::FieldTable;
+use rpg_compile_program::FieldTable;
 use rpg_program::operation::Instruction;
 use rpg_program::rows::Subroutine;
 use std::alloc::{AllocError, Global};

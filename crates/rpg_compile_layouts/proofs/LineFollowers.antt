@@ -17,7 +17,7 @@ use Rattle.rpg_program.specs.declared.line.Time.{Time}
 use Rattle.rpg_compile_layouts.specs.Rows.{alternatives_after, field_row, output_rows_after, row_after, row_in_table, rows_from}
 use Rattle.rpg_compile_layouts.specs.Within.{AreFew, IsLineWithin}
 use Rattle.rpg_program.specs.Kept.{IsConditionRow, IsLineFieldRow, IsLineRow, IsSpacingRow}
-use Rattle.rpg_effect_renaming.specs.Naming.{renamed_field}
+use Rattle.rpg_program.specs.Naming.{renamed_field}
 use Rattle.rpg_sheet_specs.specs.declared.indicator.ConditionSpec as card
 use Rattle.rpg_sheet_specs.specs.declared.indicator.Three.{Three}
 use Rattle.rpg_sheet_specs.specs.declared.output.OutputField.{OutputField}

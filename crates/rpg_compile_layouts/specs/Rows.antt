@@ -13,7 +13,7 @@ use Rattle.rpg_program.specs.declared.line.LineField.{LineField}
 use Rattle.rpg_program.specs.declared.line.Source.TheVariants as sources
 use Rattle.rpg_program.specs.declared.operation.Index.{Index}
 use Rattle.rpg_program.specs.Object.{LineRow}
-use Rattle.rpg_effect_renaming.specs.Naming.{renamed_field, renamed_line}
+use Rattle.rpg_program.specs.Naming.{renamed_field, renamed_line}
 use Rattle.rpg_sheet_specs.specs.declared.output.OutputField.{OutputField}
 use Rattle.rpg_sheet_specs.specs.declared.output.OutputRecord.{OutputRecord}
 use Rattle.rpg_compile_program.specs.Lines.{card_line, line_alternatives, line_field_of, line_of_file, lines_on, output_fields_in}

@@ -11,7 +11,7 @@ use crate::files::{own_or, put_on};
 use crate::output_fields::fields_of;
 use crate::spacing::spacing_of;
 use rpg_cards::{SpecCard, time_of};
-use rpg_compile_fields::FieldTable;
+use rpg_compile_program::FieldTable;
 use rpg_program::line::File;
 use rpg_program::rows::Line;
 use rpg_sheet_specs::OutputRecord;

@@ -6,12 +6,12 @@ ghost use Rattle.rpg_cards.specs.declared.constants.Constant.TheVariants.{Text};
 ghost use Rattle.rpg_compile_layouts.specs.Rows.{field_row, output_rows_after, unedited_row};
 ghost use Rattle.rpg_compile_layouts.specs.Within.{HasIndexRow};
 ghost use Rattle.rpg_program.specs.Kept.{AreConditions, IsEditingRow, IsIndexRow, IsLineFieldRow};
-ghost use Rattle.rpg_effect_renaming.specs.Naming.{renamed_editing, renamed_operand};
+ghost use Rattle.rpg_program.specs.Naming.{renamed_editing, renamed_operand};
 ghost use Rattle.rpg_compile_program.specs.Lines as lines;
 ghost use Rattle.rpg_compile_program.specs.Table.{key_number};
 
 use rpg_cards::{Constant, SpecCard, in_places};
-use rpg_compile_fields::FieldTable;
+use rpg_compile_program::FieldTable;
 use rpg_edit_marks::Fill;
 use rpg_program::condition::Conditions;
 use rpg_program::line::{Editing, LineField, Source};

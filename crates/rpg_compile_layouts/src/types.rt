@@ -5,7 +5,7 @@ ghost use Rattle.rpg_compile_layouts.specs.Parts.{inputs_after, type_following};
 ghost use Rattle.rpg_compile_layouts.specs.Within.{IsTypeWithin};
 ghost use Rattle.rpg_program.specs.Kept.{AreIndicators, IsInputRow, IsTypeRow};
 ghost use Rattle.rpg_program.specs.Object.{type_row};
-ghost use Rattle.rpg_effect_renaming.specs.Naming.{renamed_input, renamed_type};
+ghost use Rattle.rpg_program.specs.Naming.{renamed_input, renamed_type};
 ghost use Rattle.rpg_compile_program.specs.Table.{key_number};
 ghost use Rattle.rpg_compile_program.specs.Types as types;
 
@@ -13,7 +13,7 @@ use crate::codes::codes_of;
 use crate::files::{own_or, read_from};
 use crate::levels::levels_of;
 use rpg_cards::{SpecCard, number_of, shows_of};
-use rpg_compile_fields::FieldTable;
+use rpg_compile_program::FieldTable;
 use rpg_program::input::{InputField, InputFile};
 use rpg_program::operation::Shows;
 use rpg_program::rows::RecordType;

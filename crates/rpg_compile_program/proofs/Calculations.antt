@@ -50,7 +50,7 @@ use Rattle.rpg_compile_program.specs.Program.{key_numbers, program_of, sections,
 use Rattle.rpg_compile_program.specs.Ranges.{AreCards, IsCalculation, IsCard, IsControl, IsInRange}
 use Rattle.rpg_compile_program.specs.Table.{key_form, table_of}
 use Rattle.rpg_compile_program.proofs.Lists.{none_first}
-use Rattle.rpg_compile_program.proofs.Names.{following, constant_there, in_front, stands_in}
+use Rattle.rpg_compile_program.proofs.NameForms.{following, constant_there, in_front, stands_in}
 
 -- ---- what stands on a calculation card
 

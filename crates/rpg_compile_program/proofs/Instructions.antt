@@ -26,8 +26,8 @@ use Rattle.rpg_program.specs.ObjectInstructions.{columns}
 use Rattle.rpg_program.specs.Object.{Object}
 use Rattle.rpg_program.specs.declared.section.Section.{Section}
 use Rattle.rpg_program.specs.declared.section.Section.TheVariants as section
-use Rattle.rpg_effect_renaming.proofs.Rows.{right_same}
-use Rattle.rpg_effect_renaming.specs.Naming.{IsRenaming, renamed_action}
+use Rattle.rpg_program.proofs.Renaming.Rows.{right_same}
+use Rattle.rpg_program.specs.Naming.{IsRenaming, renamed_action}
 use Rattle.rpg_program.specs.declared.rows.Version.{Version}
 use Rattle.rpg_verify_rules.proofs.Columns.{columns_same, kinds_same, written_same}
 use Rattle.rpg_verify_rules.proofs.Kept.{NoneTrue}

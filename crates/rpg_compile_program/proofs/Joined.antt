@@ -13,7 +13,7 @@ use Rattle.rpg_cards.specs.declared.spec_card.SpecCard.{SpecCard}
 use Rattle.rpg_program.specs.Input.{TypeRow}
 use Rattle.rpg_program.specs.declared.input.ControlField.{ControlField}
 use Rattle.rpg_faults_places.specs.Places.{first_length, valid_length, has_bad, input_columns, joined_length, lengths_differ, level_length, levels}
-use Rattle.rpg_effect_renaming.specs.Naming.{renamed_type}
+use Rattle.rpg_program.specs.Naming.{renamed_type}
 use Rattle.rpg_verify_rules.specs.TypeRules.{all_measured, is_measured, measure, measures}
 use Rattle.rpg_verify_rules.specs.TypeRules as row
 use Rattle.rpg_sheet_specs.specs.declared.input.InputFieldSpec.{InputFieldSpec}

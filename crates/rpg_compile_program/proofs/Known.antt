@@ -17,7 +17,7 @@ use Rattle.rpg_sheet_specs.specs.declared.input.InputSpec.TheVariants as input
 use Rattle.rpg_compile_program.proofs.Definitions.{all_defined, is_turned}
 use Rattle.rpg_compile_program.specs.Defined.{AreDefined}
 use Rattle.rpg_compile_program.proofs.Lists.{Seen, or_first, or_second}
-use Rattle.rpg_compile_program.proofs.Names.{name_form, name_there}
+use Rattle.rpg_compile_program.proofs.NameForms.{name_form, name_there}
 use Rattle.rpg_compile_program.specs.Rules.{KeepsCardRules}
 use Rattle.rpg_compile_program.specs.Table.{key_form, table_of}
 

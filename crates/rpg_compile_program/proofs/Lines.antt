@@ -6,7 +6,7 @@ use Rattle.rpg_cards.specs.declared.spec_card.SpecCard.{SpecCard}
 use Rattle.rpg_program.specs.declared.line.File.{File}
 use Rattle.rpg_program.specs.declared.line.File.TheVariants.{Disk, Printer}
 use Rattle.rpg_program.specs.Object as program
-use Rattle.rpg_effect_renaming.specs.Naming.{renamed_line}
+use Rattle.rpg_program.specs.Naming.{renamed_line}
 use Rattle.rpg_sheet_specs.specs.declared.output.OutputRecord.{OutputRecord}
 use Rattle.rpg_sheet_specs.specs.declared.output.OutputSpec.{OutputSpec}
 use Rattle.rpg_compile_program.specs.Lines.{card_line, line_of_file, lines_on, output_file, put_length}

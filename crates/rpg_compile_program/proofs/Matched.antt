@@ -14,7 +14,7 @@ use Rattle.rpg_cards.specs.Levels.{is_at, is_match_field, match_level}
 use Rattle.rpg_cards.specs.Plain.{Each}
 use Rattle.rpg_cards.specs.declared.spec_card.SpecCard.{SpecCard}
 use Rattle.rpg_program.specs.declared.input.ControlField.{ControlField}
-use Rattle.rpg_effect_renaming.specs.Naming.{renamed_type}
+use Rattle.rpg_program.specs.Naming.{renamed_type}
 use Rattle.rpg_faults_places.specs.Places.{first_valid_matches, valid_matches, has_bad, has_twice, input_columns, levels, matched_fields, match_lengths, matches_differ, passes_matches, repeats}
 use Rattle.rpg_sheet_specs.specs.declared.input.InputFieldSpec.{InputFieldSpec}
 use Rattle.rpg_sheet_specs.specs.declared.input.InputSpec.{InputSpec}

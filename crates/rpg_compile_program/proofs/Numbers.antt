@@ -17,7 +17,7 @@ use Rattle.rpg_cards.specs.declared.constants.Constant.TheVariants.{Number, Text
 use Rattle.rpg_program.specs.Forms.{form_at, has_field}
 use Rattle.rpg_program.specs.declared.form.FieldForm.{FieldForm}
 use Rattle.rpg_sheet_specs.specs.Numeral.{Numeral}
-use Rattle.rpg_effect_renaming.specs.Naming.{IsRenaming}
+use Rattle.rpg_program.specs.Naming.{IsRenaming}
 use Rattle.rpg_symbols.specs.Fields.{NamedForms, defined_form}
 use Rattle.rpg_compile_program.specs.Table.{Table, constant_number, forms, key_form, key_number, name_forms, name_number}
 

@@ -38,8 +38,8 @@ use Rattle.rpg_edit_marks.specs.declared.code.Fill.{Fill}
 use Rattle.rpg_faults_places.specs.Places.{is_past, outside_line}
 use Rattle.rpg_program.specs.Constants.{word_at}
 use Rattle.rpg_program.specs.Object.{Object, file_length}
-use Rattle.rpg_effect_renaming.proofs.Lines.{keeps_same}
-use Rattle.rpg_effect_renaming.specs.Naming.{renamed_field}
+use Rattle.rpg_program.proofs.Renaming.Lines.{keeps_same}
+use Rattle.rpg_program.specs.Naming.{renamed_field}
 use Rattle.rpg_verify_rules.proofs.Kept.{NoneTrue}
 use Rattle.rpg_program.specs.declared.rows.Version.{Version}
 use Rattle.rpg_verify_rules.specs.Indicators.{all_testable, if_any, is_testable}
@@ -65,7 +65,7 @@ use Rattle.rpg_compile_program.specs.Ranges.{AreCards, InThree, IsCard, IsCondit
 use Rattle.rpg_compile_program.specs.Table.{key_form, key_word, table_of}
 use Rattle.rpg_compile_program.proofs.Each.{each_append, three_of, each_at, each_passes, none_passes}
 use Rattle.rpg_compile_program.proofs.Lists.{none_in_option}
-use Rattle.rpg_compile_program.proofs.Names.{constant_there, stands_in}
+use Rattle.rpg_compile_program.proofs.NameForms.{constant_there, stands_in}
 use Rattle.rpg_sheet_specs.specs.declared.output.Movement.{Movement}
 use Rattle.rpg_sheet_specs.specs.declared.file.FileSpec.{FileSpec}
 use Rattle.rpg_sheet_specs.specs.declared.indicator.ConditionSpec as sheet

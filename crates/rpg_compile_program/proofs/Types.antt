@@ -28,7 +28,7 @@ use Rattle.rpg_program.specs.declared.form.FieldForm.{FieldForm}
 use Rattle.rpg_faults_operands.specs.Indicators.{any_of, cannot_be_set}
 use Rattle.rpg_faults_places.specs.Places.{first_length, first_valid_matches, valid_matches, has_other_lengths, has_other_matches, input_columns, is_at_level, is_past, joined_length, joins_badly, lengths_differ, level_fields, level_length, levels, matched_fields, matches_badly, matches_differ, open_specs, outside_on_input, outside_record, own_file, passes_length, passes_matches, repeats}
 use Rattle.rpg_program.specs.Object.{Object, input_length}
-use Rattle.rpg_effect_renaming.specs.Naming.{renamed_input, renamed_type}
+use Rattle.rpg_program.specs.Naming.{renamed_input, renamed_type}
 use Rattle.rpg_verify_rules.proofs.Kept.{NoneTrue}
 use Rattle.rpg_verify_rules.specs.Rules.{broken}
 use Rattle.rpg_verify_rules.specs.TypeRules.{are_joined_as, are_matches, is_code_in, is_control_in, is_input_in, is_input_shown, is_measured, joined_widths, measure, shows_wrongly, type_breaks}

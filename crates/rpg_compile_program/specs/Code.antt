@@ -9,7 +9,7 @@ use Rattle.rpg_cards.specs.Keys.{Key, Name}
 use Rattle.rpg_cards.specs.Sections.{Subroutine}
 use Rattle.rpg_cards.specs.Sections.{is_same_name, label_on}
 use Rattle.rpg_cards.specs.Statements.{tests}
-use Rattle.rpg_effect_renaming.specs.Naming.{renamed_action}
+use Rattle.rpg_program.specs.Naming.{renamed_action}
 
 -- ---- how many instructions
 

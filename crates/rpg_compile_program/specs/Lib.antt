@@ -1,11 +1,17 @@
 pub mod Code
+pub mod Constants
 pub mod Data
 pub mod Defined
+pub mod Held
 pub mod Levels
 pub mod Lines
+pub mod Loaded
+pub mod Names
+pub mod Numbered
 pub mod Program
 pub mod Ranges
 pub mod Rules
 pub mod Table
+pub mod Tables
 pub mod Types
 pub mod Whole

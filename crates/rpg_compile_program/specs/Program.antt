@@ -15,7 +15,7 @@ use Rattle.rpg_program.specs.Lines.{Line}
 use Rattle.rpg_program.specs.Object.{LineRow, Object}
 use Rattle.rpg_program.specs.declared.rows.Version.{Version}
 use Rattle.rpg_program.specs.declared.rows.Version.TheVariants as versions
-use Rattle.rpg_effect_renaming.specs.Naming.{renamed_line, renamed_type}
+use Rattle.rpg_program.specs.Naming.{renamed_line, renamed_type}
 use Rattle.rpg_compile_program.specs.Data.{values_of}
 use Rattle.rpg_compile_program.specs.Lines.{lines_on, record_length_of}
 use Rattle.rpg_compile_program.specs.Table.{forms, key_number, key_word, table_of}

@@ -7,7 +7,7 @@ ghost use Rattle.rpg_cards.specs.declared.spec_card.SpecCard.{SpecCard};
 ghost use Rattle.rpg_program.specs.Forms.{form_at};
 ghost use Rattle.rpg_program.specs.Constants.{word_at};
 ghost use Rattle.rpg_program.specs.Object.{lines_of};
-ghost use Rattle.rpg_effect_renaming.specs.Naming.{IsRenaming, renamed_line};
+ghost use Rattle.rpg_program.specs.Naming.{IsRenaming, renamed_line};
 ghost use Rattle.rpg_compile_program.specs.Lines.{lines_on};
 ghost use Rattle.rpg_compile_program.specs.Program.{HasCodeOf, key_numbers, key_words, program_of};
 ghost use Rattle.rpg_verify_rules.specs.Accepted.{IsAccepted};

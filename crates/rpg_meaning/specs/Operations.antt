@@ -24,7 +24,7 @@ use Rattle.rpg_program.specs.declared.operation.Entry.{Entry}
 use Rattle.rpg_program.specs.declared.operation.Found.{Found}
 use Rattle.rpg_program.specs.declared.operation.Operand.{Operand}
 use Rattle.rpg_program.specs.declared.operation.Shows.{Shows}
-use Rattle.rpg_job.specs.Calculations.{done_by, entry_named, first_or, meant_factor, meant_indicators, meant_name, meant_result}
+use Rattle.rpg_meaning.specs.Sheets.Calculations.{done_by, entry_named, first_or, meant_factor, meant_indicators, meant_name, meant_result}
 use Rattle.rpg_machine.specs.Config.{no_output}
 use Rattle.rpg_meaning.specs.Calculations.Meaning.{MeantOutcome, On, Source, State, Stops, affected, at_next, statement_done}
 use Rattle.rpg_meaning.specs.Calculations.Parts.{InSubroutine, Part, calculations_in, label_position}

@@ -12,7 +12,7 @@ ghost use Rattle.rpg_meaning.specs.Calculations.Sources.{IsAcceptedSource, sourc
 ghost use Rattle.rpg_meaning.specs.Calculations.Translation.{IsTranslation};
 ghost use Rattle.rpg_program.specs.Kept.{IsProgram};
 ghost use Rattle.rpg_program.specs.Object.{Object};
-ghost use Rattle.rpg_effect_renaming.specs.Naming.{Agree};
+ghost use Rattle.rpg_program.specs.Naming.{Agree};
 ghost use Rattle.rpg_verify_rules.specs.Accepted.{IsAccepted};
 ghost use Rattle.rpg_compile_program.specs.Program.{key_numbers};
 

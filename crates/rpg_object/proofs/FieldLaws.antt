@@ -16,7 +16,7 @@ use Rattle.rpg_program.specs.Kept.{may_have_entries, length_limit, AreDecimals, 
 use Rattle.rpg_text.specs.Texts.{is_between}
 use Rattle.rpg_object.specs.Fields.{kind_number, kind_by_number, class_number, classes_of, class_of, shortest, longest_field, most_decimals, is_decimals, sequences_of, sequence_of, most_entries, entries_within, field, storage_after, fields}
 use Rattle.rpg_object.specs.FirstValues.{HasLength}
-use Rattle.rpg_object_instructions.proofs.Choices.{passed, within, taken, between}
+use Rattle.rpg_object_format.proofs.Choices.{passed, within, taken, between}
 use Rattle.rpg_object.proofs.Tables.{all_from_along, all_head, all_tail}
 
 -- ---- laws of the format

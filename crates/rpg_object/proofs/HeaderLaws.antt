@@ -10,17 +10,17 @@ use Rattle.rpg_object_format.proofs.Rules.{chosen, stands_for, value_is, guarded
 use Rattle.rpg_program.specs.Kept.{IsOverflowIndicator}
 use Rattle.rpg_program.specs.declared.rows.Version.{Version}
 use Rattle.rpg_program.specs.declared.rows.Version.TheVariants as versions
-use Rattle.rpg_object_instructions.specs.Shapes.{row_where, unused_number}
+use Rattle.rpg_object_format.specs.Shapes.{row_where, unused_number}
 use Rattle.rpg_object_rows.specs.Types.{is_two}
-use Rattle.rpg_object_instructions.proofs.ShapeLaws.{unused_number_law, where_used_law}
+use Rattle.rpg_object_format.proofs.ShapeLaws.{unused_number_law, where_used_law}
 use Rattle.rpg_text.specs.Texts.{is_between}
 use Rattle.rpg_object.specs.declared.header.Counts.{Counts}
 use Rattle.rpg_object.specs.declared.header.Header.{Header}
 use Rattle.rpg_object.specs.declared.header.Settings.{Settings}
 use Rattle.rpg_program.specs.Object.{version_number}
-use Rattle.rpg_object_instructions.specs.Indicators.{indicator_number}
+use Rattle.rpg_object_format.specs.Indicators.{indicator_number}
 use Rattle.rpg_object.specs.Header.{overflow_of, settings, most_instructions, counts, header_format, secondary_length, version_of}
-use Rattle.rpg_object_instructions.proofs.Choices.{within, counted, between, few}
+use Rattle.rpg_object_format.proofs.Choices.{within, counted, between, few}
 
 version_rule : IsRule version_of version_number
 version_rule n x e =

@@ -10,10 +10,10 @@ use Rattle.rpg_object_format.proofs.Laws.{IsBytes, IsBytes-rest, IsFormat, furth
 use Rattle.rpg_object_format.proofs.Rules.{chosen}
 use Rattle.rpg_program.specs.Object.{Object}
 use Rattle.rpg_program.specs.declared.rows.Version.{Version}
-use Rattle.rpg_object_instructions.specs.Instructions.{instruction}
+use Rattle.rpg_object_format.specs.Instructions.{instruction}
 use Rattle.rpg_object_rows.specs.Lines.{line}
 use Rattle.rpg_object_rows.specs.Types.{record_type_format}
-use Rattle.rpg_object_instructions.proofs.InstructionLaws.{instruction_law}
+use Rattle.rpg_object_format.proofs.InstructionLaws.{instruction_law}
 use Rattle.rpg_object_rows.proofs.LineLaws.{line_law}
 use Rattle.rpg_object_rows.proofs.TypeLaws.{record_type_law}
 use Rattle.rpg_object.specs.declared.header.Counts.{Counts}

@@ -4,17 +4,17 @@ use Rattle.rpg_object_format.specs.Format.{pair, row, table}
 use Rattle.rpg_program.specs.Kept.{IsInstructionRow, IsLineRow, IsPlain, IsPlainType, IsProgram, IsTypeRow}
 use Rattle.rpg_program.specs.Object.{Object}
 use Rattle.rpg_program.specs.declared.rows.Version.TheVariants as versions
-use Rattle.rpg_object_instructions.specs.Instructions.{instruction}
+use Rattle.rpg_object_format.specs.Instructions.{instruction}
 use Rattle.rpg_object_rows.specs.Lines.{line}
 use Rattle.rpg_object_rows.specs.Types.{record_type_format}
-use Rattle.rpg_object_instructions.proofs.InstructionKept.{instruction_kept, instruction_from}
+use Rattle.rpg_object_format.proofs.InstructionKept.{instruction_kept, instruction_from}
 use Rattle.rpg_object_rows.proofs.LineLaws.{line_kept, line_from}
 use Rattle.rpg_object_rows.proofs.TypeLaws.{plain_kept, type_kept, type_from}
 use Rattle.rpg_object.specs.Program.{body, counts_of, header_of, settings_of, tables}
 use Rattle.rpg_object.proofs.FieldLaws.{fields_kept, storage_kept, fields_from}
 use Rattle.rpg_object.proofs.HeaderLaws.{AreSettings, AreCounts, IsHeader, header_kept, header_from}
 use Rattle.rpg_object.proofs.SubroutineLaws.{subroutines_kept, instructions_within, subroutines_from}
-use Rattle.rpg_object_instructions.proofs.Choices.{all_from_table, table_from_all}
+use Rattle.rpg_object_format.proofs.Choices.{all_from_table, table_from_all}
 use Rattle.rpg_object.proofs.ValueLaws.{values_kept, values_from}
 
 -- in version 1 there is neither a secondary file nor a match field

@@ -9,11 +9,11 @@ use Rattle.rpg_object_format.proofs.Rules.{any_number_law, count_law}
 use Rattle.rpg_program.specs.Kept.{IsInstructionRow, IsSubroutineRow}
 use Rattle.rpg_program.specs.Object.{SubroutineRow}
 use Rattle.rpg_program.specs.Sections.{instructions_in}
-use Rattle.rpg_object_instructions.specs.Instructions.{instruction}
-use Rattle.rpg_object_instructions.proofs.InstructionLaws.{instruction_law}
-use Rattle.rpg_object_instructions.proofs.InstructionKept.{instruction_kept, instruction_from}
+use Rattle.rpg_object_format.specs.Instructions.{instruction}
+use Rattle.rpg_object_format.proofs.InstructionLaws.{instruction_law}
+use Rattle.rpg_object_format.proofs.InstructionKept.{instruction_kept, instruction_from}
 use Rattle.rpg_object.specs.Subroutines.{subroutine, left_after, subroutines}
-use Rattle.rpg_object_instructions.proofs.Choices.{all_from_table, table_from_all, counted, few}
+use Rattle.rpg_object_format.proofs.Choices.{all_from_table, table_from_all, counted, few}
 use Rattle.rpg_object.proofs.Tables.{all_from_along, all_head, all_tail}
 
 abbrev with_count : ℕ × (ℕ × List (Instruction ℕ)) → ℕ → ℕ × (ℕ × List (Instruction ℕ))

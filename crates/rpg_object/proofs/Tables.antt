@@ -6,7 +6,7 @@ use Rattle.rpg_object_format.specs.Format.{Format, AllAlong, keep, table, times_
 use Rattle.rpg_object_format.specs.Numbers.{up_to}
 use Rattle.rpg_object_format.proofs.Laws.{bind_ok, ok_is, ruled_ok}
 use Rattle.rpg_object_format.proofs.Rules.{up_to_rule}
-use Rattle.rpg_object_instructions.proofs.Choices.{counted}
+use Rattle.rpg_object_format.proofs.Choices.{counted}
 
 -- what each row keeps, all rows keep
 pub all_from_along : {S X : Type 0} (P : S → X → Type 0) (Q : X → Type 0) (next : S → X → S) → ((s : S) (x : X) → P s x → Q x) → (s : S) (xs : List X) → AllAlong P next s xs → All Q xs

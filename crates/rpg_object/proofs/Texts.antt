@@ -2,7 +2,7 @@
 use Rattle.std.proofs.Common.{◌≡◌, ℕ, List, ◌++◌, length, sym, ap, ◌∙◌, append_assoc}
 use Rattle.rpg_object_format.specs.Format.{pair, row, table}
 use Rattle.rpg_program.specs.Object.{Object}
-use Rattle.rpg_object_instructions.specs.Instructions.{instruction}
+use Rattle.rpg_object_format.specs.Instructions.{instruction}
 use Rattle.rpg_object_rows.specs.Lines.{line}
 use Rattle.rpg_object_rows.specs.Types.{record_type_format}
 use Rattle.rpg_object.specs.Fields.{fields}

@@ -23,7 +23,7 @@ use Rattle.rpg_object_format.proofs.Rules.{chosen, stands_for, value_is}
 use Rattle.rpg_program.specs.Kept.{IsCharacter, IsFieldRow, IsValueOf, AreEntriesOf, AreValuesOf}
 use Rattle.rpg_text.specs.Texts.{is_character}
 use Rattle.rpg_object.specs.FirstValues.{as_written, as_value, first_value_in, read_value, value_text, IsWrittenValue, value, entries_format, next_entries, later_fields, values_format}
-use Rattle.rpg_object_instructions.proofs.Choices.{all_from_table, table_from_all}
+use Rattle.rpg_object_format.proofs.Choices.{all_from_table, table_from_all}
 use Rattle.rpg_object.proofs.Tables.{all_head, all_tail}
 use Rattle.rpg_object.proofs.ZonedTexts.{number_in-zoned, number_in-below}
 

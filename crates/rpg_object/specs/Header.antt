@@ -7,8 +7,8 @@ use Rattle.rpg_object_format.specs.Numbers.{number_where, count}
 use Rattle.rpg_program.specs.Object.{version_number}
 use Rattle.rpg_program.specs.declared.rows.Version.{Version}
 use Rattle.rpg_program.specs.declared.rows.Version.TheVariants as versions
-use Rattle.rpg_object_instructions.specs.Indicators.{indicator_number}
-use Rattle.rpg_object_instructions.specs.Shapes.{unused_number, where_used}
+use Rattle.rpg_object_format.specs.Indicators.{indicator_number}
+use Rattle.rpg_object_format.specs.Shapes.{unused_number, where_used}
 use Rattle.rpg_object_rows.specs.Types.{is_two}
 use Rattle.rpg_text.specs.Texts.{is_between}
 use Rattle.rpg_object.specs.declared.header.Counts.{Counts}

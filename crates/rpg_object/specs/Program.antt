@@ -10,7 +10,7 @@ use Rattle.rpg_object_format.specs.declared.fault.Fault.{Fault}
 use Rattle.rpg_object_format.specs.Format.{Format, pair, row, table, fault_at, ◌>>=◌}
 use Rattle.rpg_program.specs.Object.{LineRow, Object, SubroutineRow}
 use Rattle.rpg_program.specs.declared.rows.Version.{Version}
-use Rattle.rpg_object_instructions.specs.Instructions.{instruction}
+use Rattle.rpg_object_format.specs.Instructions.{instruction}
 use Rattle.rpg_object_rows.specs.Lines.{line}
 use Rattle.rpg_object_rows.specs.Types.{record_type_format}
 use Rattle.rpg_object.specs.declared.header.Counts.{Counts}

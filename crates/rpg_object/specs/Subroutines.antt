@@ -3,7 +3,7 @@ use Rattle.std.specs.Prelude.{ℕ, ◌-◌, List, length}
 use Rattle.rpg_object_format.specs.Format.{Format, pair, row, table, times_with}
 use Rattle.rpg_object_format.specs.Numbers.{any_number, count}
 use Rattle.rpg_program.specs.Object.{SubroutineRow}
-use Rattle.rpg_object_instructions.specs.Instructions.{instruction}
+use Rattle.rpg_object_format.specs.Instructions.{instruction}
 
 -- level, count, instructions, within the instructions that the earlier sections leave
 unfoldable pub subroutine : ℕ → Format SubroutineRow

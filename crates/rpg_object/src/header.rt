@@ -9,10 +9,10 @@ ghost use Rattle.rpg_object.specs.Header as spec;
 ghost use Rattle.rpg_object.specs.Header.{overflow_of, version_of};
 
 use rpg_object_format::fault::{Code, ReadFault};
+use rpg_object_format::indicator::indicator_number;
 use rpg_object_format::number::{
     count_at, number_at, number_between_at, only_number_at, put_numbers,
 };
-use rpg_object_instructions::indicator::indicator_number;
 use rpg_program::rows::Version;
 use std::alloc::AllocError;
 
@@ -67,7 +67,7 @@ fn version_at(bytes: &[u8]) -> Result<(Version, &[u8]), ReadFault>
     number_at(bytes, version_of)
 }
 
-#[tactic(auto, unfolding(rpg_object_format::specs::Format::two_bytes, rpg_object_instructions::specs::Shapes::row_where))]
+#[tactic(auto, unfolding(rpg_object_format::specs::Format::two_bytes, rpg_object_format::specs::Shapes::row_where))]
 fn secondary_length_at(version: Version, bytes: &[u8]) -> Result<(u16, &[u8]), ReadFault>
     ensures { ReadsAs (λ x. (x.0, x.1.now)) result ((spec.secondary_length version).reading bytes.now) }
 {

@@ -1,3 +1,11 @@
+pub mod Choices
+pub mod IndicatorLaws
+pub mod IndicatorsKept
+pub mod InstructionKept
+pub mod InstructionLaws
+pub mod InstructionTexts
 pub mod Laws
 pub mod Loop
+pub mod OperandLaws
 pub mod Rules
+pub mod ShapeLaws

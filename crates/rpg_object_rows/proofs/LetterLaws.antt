@@ -12,7 +12,7 @@ use Rattle.rpg_object_format.proofs.Rules.{chosen, stands_for, value_is}
 use Rattle.rpg_object_rows.specs.declared.letter.Letter.{Letter}
 use Rattle.rpg_object_rows.specs.declared.letter.Letter.TheVariants.{Plain, Code, Word}
 use Rattle.rpg_object_rows.specs.Lines.{editing_by_letter, is_word_field, known_edit_code, letter_in, letter_number, letter_of, word_in}
-use Rattle.rpg_object_instructions.proofs.Choices.{decided, some_is}
+use Rattle.rpg_object_format.proofs.Choices.{decided, some_is}
 
 -- each code with its character
 abbrev AreNumbered : List (ℕ × EditCode) → Type 0

@@ -21,14 +21,14 @@ use Rattle.rpg_object_format.proofs.Rules.{any_number_law, choice_rule, chosen, 
 use Rattle.rpg_program.specs.Kept.{IsAlternativeRow, IsEditingRow, IsLineFieldRow, IsLineRow, IsSpacingRow}
 use Rattle.rpg_program.specs.Object.{LineRow}
 use Rattle.rpg_object_rows.specs.declared.letter.Letter.{Letter}
-use Rattle.rpg_object_instructions.specs.Indicators.{alternative}
+use Rattle.rpg_object_format.specs.Indicators.{alternative}
 use Rattle.rpg_object_rows.specs.Lines.{LineFieldParts, LineParts, allowed_alternatives, editing_by_letter, file_by_number, file_number, fill_by_number, fill_number, is_word_field, letter_in, line, line_field, line_field_parts, line_parts, source_by_number, source_number, spacing, time_by_number, time_number, word_in}
-use Rattle.rpg_object_instructions.proofs.Choices.{all_from_table, counted, few, flag_from, passed, table_from_all, taken}
-use Rattle.rpg_object_instructions.proofs.IndicatorLaws.{alternative_law, conditions_law}
-use Rattle.rpg_object_instructions.proofs.IndicatorsKept.{alternative_from, alternative_kept, conditions_from, conditions_kept}
+use Rattle.rpg_object_format.proofs.Choices.{all_from_table, counted, few, flag_from, passed, table_from_all, taken}
+use Rattle.rpg_object_format.proofs.IndicatorLaws.{alternative_law, conditions_law}
+use Rattle.rpg_object_format.proofs.IndicatorsKept.{alternative_from, alternative_kept, conditions_from, conditions_kept}
 use Rattle.rpg_object_rows.proofs.LetterLaws.{editing_back, letter_read, letter_rule, letter_there, word_allowed, word_there}
-use Rattle.rpg_object_instructions.proofs.OperandLaws.{operand_from, operand_kept, operand_law}
-use Rattle.rpg_object_instructions.proofs.ShapeLaws.{any_byte_law, unused_number_law}
+use Rattle.rpg_object_format.proofs.OperandLaws.{operand_from, operand_kept, operand_law}
+use Rattle.rpg_object_format.proofs.ShapeLaws.{any_byte_law, unused_number_law}
 
 -- ---- fields of lines
 

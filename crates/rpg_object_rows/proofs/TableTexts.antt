@@ -7,9 +7,9 @@ use Rattle.rpg_program.specs.Kept.{IsPlainType}
 use Rattle.rpg_program.specs.Object.{LineRow}
 use Rattle.rpg_program.specs.declared.rows.Version.{Version}
 use Rattle.rpg_program.specs.declared.rows.Version.TheVariants as versions
-use Rattle.rpg_object_instructions.specs.Indicators.{alternative}
+use Rattle.rpg_object_format.specs.Indicators.{alternative}
 use Rattle.rpg_object_rows.specs.Lines.{line, line_field, line_head, line_parts, spacing}
-use Rattle.rpg_object_instructions.specs.Shapes.{no_number, row_where}
+use Rattle.rpg_object_format.specs.Shapes.{no_number, row_where}
 use Rattle.rpg_object_rows.specs.Types.{control_field_format, input_field_format, record_code_format, record_type_format, type_head, type_parts}
 
 -- the bytes of rows

@@ -14,11 +14,11 @@ use Rattle.rpg_program.specs.declared.rows.Version.{Version}
 use Rattle.rpg_program.specs.declared.rows.Version.TheVariants as versions
 use Rattle.rpg_text.specs.Texts.{is_between}
 use Rattle.rpg_object_rows.specs.Types.{TypeParts, control_field_format, input_field_format, input_file_format, input_file_by_number, input_file_number, is_two, match_count, record_code_format, record_type_format, type_parts}
-use Rattle.rpg_object_instructions.proofs.Choices.{all_from_table, between, counted, few, flag_from, table_from_all, within}
-use Rattle.rpg_object_instructions.proofs.IndicatorLaws.{indicator_law, shows_law}
-use Rattle.rpg_object_instructions.proofs.IndicatorsKept.{indicator_from, indicator_kept, shows_from, shows_kept}
-use Rattle.rpg_object_instructions.specs.Shapes.{no_number, row_where, unused_byte}
-use Rattle.rpg_object_instructions.proofs.ShapeLaws.{no_number_law, unused_byte_law, where_used_law}
+use Rattle.rpg_object_format.proofs.Choices.{all_from_table, between, counted, few, flag_from, table_from_all, within}
+use Rattle.rpg_object_format.proofs.IndicatorLaws.{indicator_law, shows_law}
+use Rattle.rpg_object_format.proofs.IndicatorsKept.{indicator_from, indicator_kept, shows_from, shows_kept}
+use Rattle.rpg_object_format.specs.Shapes.{no_number, row_where, unused_byte}
+use Rattle.rpg_object_format.proofs.ShapeLaws.{no_number_law, unused_byte_law, where_used_law}
 
 record_code_law : IsFormat record_code_format
 unfolding record_code_format

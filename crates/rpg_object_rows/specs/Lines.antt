@@ -24,9 +24,9 @@ use Rattle.rpg_object_format.specs.Numbers.{any_number, choice, count, number_wh
 use Rattle.rpg_program.specs.Object.{LineRow}
 use Rattle.rpg_object_rows.specs.declared.letter.Letter.{Letter}
 use Rattle.rpg_object_rows.specs.declared.letter.Letter.TheVariants as letters
-use Rattle.rpg_object_instructions.specs.Indicators.{alternative, conditions_format}
-use Rattle.rpg_object_instructions.specs.Operands.{operand}
-use Rattle.rpg_object_instructions.specs.Shapes.{any_byte, unused_number}
+use Rattle.rpg_object_format.specs.Indicators.{alternative, conditions_format}
+use Rattle.rpg_object_format.specs.Operands.{operand}
+use Rattle.rpg_object_format.specs.Shapes.{any_byte, unused_number}
 
 -- ---- single numbers
 

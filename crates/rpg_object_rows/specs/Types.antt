@@ -12,8 +12,8 @@ use Rattle.rpg_object_format.specs.Numbers.{any_number, byte_where, choice, yes_
 use Rattle.rpg_program.specs.declared.rows.Version.{Version}
 use Rattle.rpg_program.specs.declared.rows.Version.TheVariants as versions
 use Rattle.rpg_text.specs.Texts.{is_between}
-use Rattle.rpg_object_instructions.specs.Indicators.{indicator_format, indicator_number, shows_format}
-use Rattle.rpg_object_instructions.specs.Shapes.{no_number, unused_byte, where_used}
+use Rattle.rpg_object_format.specs.Indicators.{indicator_format, indicator_number, shows_format}
+use Rattle.rpg_object_format.specs.Shapes.{no_number, unused_byte, where_used}
 
 -- ---- additions of version 2
 

@@ -4,7 +4,7 @@ ghost use Rattle.std.specs.Prelude.{◌≡◌, ◌++◌};
 ghost use Rattle.rpg_program.specs.declared.condition.Condition as spec;
 ghost use Rattle.rpg_object_format.specs.Reading.{ReadsAs};
 ghost use Rattle.rpg_program.specs.Kept.{IsConditionRow};
-ghost use Rattle.rpg_object_instructions.specs.Indicators.{condition_format};
+ghost use Rattle.rpg_object_format.specs.Indicators.{condition_format};
 
 use crate::table::Row;
 use rpg_object_format::fault::ReadFault;
@@ -12,7 +12,7 @@ use rpg_object_format::number::{byte_between_at, flag_at, flag_number};
 use rpg_program::condition::Condition;
 use std::alloc::{AllocError, Global};
 
-#[tactic(auto, unfolding(rpg_object_format::specs::Format::byte, rpg_object_format::specs::Format::pair, rpg_object_format::specs::Format::row, rpg_object_instructions::specs::Indicators::condition_format))]
+#[tactic(auto, unfolding(rpg_object_format::specs::Format::byte, rpg_object_format::specs::Format::pair, rpg_object_format::specs::Format::row, rpg_object_format::specs::Indicators::condition_format))]
 fn condition_at(bytes: &[u8]) -> Result<(Condition, &[u8]), ReadFault>
     ensures { ReadsAs (λ x. (x.0, x.1.now)) result (condition_format.reading bytes.now) }
 {
@@ -42,7 +42,7 @@ impl Row for Condition {
         condition_at(bytes)
     }
 
-    #[tactic(auto, unfolding(rpg_object_format::specs::Format::byte, rpg_object_format::specs::Format::pair, rpg_object_format::specs::Format::row, rpg_object_instructions::specs::Indicators::condition_format))]
+    #[tactic(auto, unfolding(rpg_object_format::specs::Format::byte, rpg_object_format::specs::Format::pair, rpg_object_format::specs::Format::row, rpg_object_format::specs::Indicators::condition_format))]
     fn put_row(&self, out: &mut Vec<u8>) -> Result<(), AllocError> {
         let row = [flag_number(self.is_negated), self.indicator];
         out.extend_from_slice(&row)?;

@@ -5,11 +5,11 @@ ghost use Rattle.rpg_program.specs.declared.operation.Instruction as spec;
 ghost use Rattle.rpg_object_format.specs.Format.{table};
 ghost use Rattle.rpg_object_format.specs.Reading.{ReadsAs};
 ghost use Rattle.rpg_program.specs.Kept.{IsInstructionRow};
-ghost use Rattle.rpg_object_instructions.specs.Instructions as rows;
+ghost use Rattle.rpg_object_format.specs.Instructions as rows;
 
 use crate::table::{Row, put_rows, rows_at};
 use rpg_object_format::fault::ReadFault;
-use rpg_object_instructions::{instruction_at, put_instruction};
+use rpg_object_format::{instruction_at, put_instruction};
 use rpg_program::operation::Instruction;
 use std::alloc::{AllocError, Global};
 

@@ -10,11 +10,11 @@ ghost use Rattle.rpg_object_rows.specs.Lines as rows;
 use crate::letter::{editing_of, letter_at, letter_in, letter_number, word_field_at, word_in};
 use crate::table::Row;
 use rpg_edit_marks::Fill;
+use rpg_object_format::condition::{conditions_at, indicators_of, negations_of};
 use rpg_object_format::fault::{Code, ReadFault};
+use rpg_object_format::indicator::indicator_number;
 use rpg_object_format::number::{any_number_at, byte_at, flag_at, flag_number, high, low};
-use rpg_object_instructions::condition::{conditions_at, indicators_of, negations_of};
-use rpg_object_instructions::indicator::indicator_number;
-use rpg_object_instructions::operand::{index_number, operand_at};
+use rpg_object_format::operand::{index_number, operand_at};
 use rpg_program::line::{LineField, Source};
 use std::alloc::{AllocError, Global};
 
@@ -113,7 +113,7 @@ impl Row for LineField<u16> {
         line_field_at(bytes)
     }
 
-    #[tactic(auto, unfolding(rpg_object_format::specs::Format::byte, rpg_object_format::specs::Format::two_bytes, rpg_object_format::specs::Format::pair, rpg_object_format::specs::Format::row, rpg_object_instructions::specs::Indicators::shows_format, rpg_object_instructions::specs::Indicators::conditions_format, rpg_object_instructions::specs::Operands::operand, crate::specs::Lines::line_field_parts, crate::specs::Lines::line_field))]
+    #[tactic(auto, unfolding(rpg_object_format::specs::Format::byte, rpg_object_format::specs::Format::two_bytes, rpg_object_format::specs::Format::pair, rpg_object_format::specs::Format::row, rpg_object_format::specs::Indicators::shows_format, rpg_object_format::specs::Indicators::conditions_format, rpg_object_format::specs::Operands::operand, crate::specs::Lines::line_field_parts, crate::specs::Lines::line_field))]
     fn put_row(&self, out: &mut Vec<u8>) -> Result<(), AllocError> {
         let index = index_number(self.operand.index);
         let word = word_in(self.editing);

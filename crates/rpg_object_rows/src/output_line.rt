@@ -7,7 +7,7 @@ ghost use Rattle.rpg_object_format.specs.Numbers.{allowed, is_any_number};
 ghost use Rattle.rpg_object_format.specs.Reading.{ReadsAs};
 ghost use Rattle.rpg_program.specs.Kept.{IsAlternativeRow, IsLineRow};
 ghost use Rattle.rpg_program.specs.Object.{LineRow, line_row};
-ghost use Rattle.rpg_object_instructions.specs.Indicators.{alternative};
+ghost use Rattle.rpg_object_format.specs.Indicators.{alternative};
 ghost use Rattle.rpg_object_rows.specs.Lines as rows;
 
 use crate::table::{Row, put_rows, rows_at};
@@ -131,13 +131,13 @@ impl Row for Vec<Condition> {
 
     ghost spell = { alternative.spelling };
 
-    #[tactic(auto, unfolding(rpg_object_format::specs::Format::two_bytes, rpg_object_format::specs::Format::pair, rpg_object_format::specs::Format::row, rpg_object_format::specs::Format::times_with, rpg_object_instructions::specs::Indicators::alternative))]
+    #[tactic(auto, unfolding(rpg_object_format::specs::Format::two_bytes, rpg_object_format::specs::Format::pair, rpg_object_format::specs::Format::row, rpg_object_format::specs::Format::times_with, rpg_object_format::specs::Indicators::alternative))]
     fn read_row(alloc: Global, bytes: &[u8]) -> Result<(Self, &[u8]), ReadFault> {
         let (count, rest) = count_at(bytes, 60)?;
         rows_at(alloc, count, rest)
     }
 
-    #[tactic(auto, unfolding(rpg_object_format::specs::Format::two_bytes, rpg_object_format::specs::Format::pair, rpg_object_format::specs::Format::row, rpg_object_format::specs::Format::times_with, rpg_object_instructions::specs::Indicators::alternative))]
+    #[tactic(auto, unfolding(rpg_object_format::specs::Format::two_bytes, rpg_object_format::specs::Format::pair, rpg_object_format::specs::Format::row, rpg_object_format::specs::Format::times_with, rpg_object_format::specs::Indicators::alternative))]
     fn put_row(&self, out: &mut Vec<u8>) -> Result<(), AllocError> {
         let count = self.len() as u16;
         out.extend_from_slice(&[high(count), low(count)])?;

@@ -14,11 +14,11 @@ ghost use Rattle.rpg_object_rows.specs.Types.{control_field_format, input_field_
 
 use crate::table::{Row, put_rows, rows_at};
 use rpg_object_format::fault::{Code, ReadFault};
+use rpg_object_format::indicator::{indicator_at, indicator_number, shows_at};
 use rpg_object_format::number::{
     any_number_at, byte_at, byte_between_at, count_at, flag_at, flag_number, high, low,
     only_byte_at, put_numbers,
 };
-use rpg_object_instructions::indicator::{indicator_at, indicator_number, shows_at};
 use rpg_program::input::{ControlField, InputField, InputFile, RecordCode};
 use rpg_program::rows::{RecordType, Version};
 use std::alloc::{AllocError, Global};
@@ -152,7 +152,7 @@ impl Row for InputField<u16> {
         input_field_at(bytes)
     }
 
-    #[tactic(auto, unfolding(rpg_object_format::specs::Format::byte, rpg_object_format::specs::Format::two_bytes, rpg_object_format::specs::Format::pair, rpg_object_format::specs::Format::row, rpg_object_instructions::specs::Indicators::shows_format, crate::specs::Types::input_field_format))]
+    #[tactic(auto, unfolding(rpg_object_format::specs::Format::byte, rpg_object_format::specs::Format::two_bytes, rpg_object_format::specs::Format::pair, rpg_object_format::specs::Format::row, rpg_object_format::specs::Indicators::shows_format, crate::specs::Types::input_field_format))]
     fn put_row(&self, out: &mut Vec<u8>) -> Result<(), AllocError> {
         let row = [
             high(self.from),
@@ -190,7 +190,7 @@ fn input_file_number(file: InputFile) -> u8
     }
 }
 
-#[tactic(auto, unfolding(rpg_object_format::specs::Format::read_byte, rpg_object_format::specs::Format::byte, rpg_object_instructions::specs::Shapes::row_where))]
+#[tactic(auto, unfolding(rpg_object_format::specs::Format::read_byte, rpg_object_format::specs::Format::byte, rpg_object_format::specs::Shapes::row_where))]
 fn input_file_at(version: Version, bytes: &[u8]) -> Result<(InputFile, &[u8]), ReadFault>
     ensures { ReadsAs (λ x. (x.0, x.1.now)) result ((rows.input_file_format version).reading bytes.now) }
 {
@@ -203,7 +203,7 @@ fn input_file_at(version: Version, bytes: &[u8]) -> Result<(InputFile, &[u8]), R
     }
 }
 
-#[tactic(auto, unfolding(rpg_object_format::specs::Format::two_bytes, rpg_object_instructions::specs::Shapes::row_where, rpg_object_instructions::specs::Shapes::no_number))]
+#[tactic(auto, unfolding(rpg_object_format::specs::Format::two_bytes, rpg_object_format::specs::Shapes::row_where, rpg_object_format::specs::Shapes::no_number))]
 fn match_count_at(version: Version, bytes: &[u8]) -> Result<(u16, &[u8]), ReadFault>
     ensures { ReadsAs (λ x. (x.0, x.1.now)) result ((rows.match_count version).reading bytes.now) }
 {
@@ -213,7 +213,7 @@ fn match_count_at(version: Version, bytes: &[u8]) -> Result<(u16, &[u8]), ReadFa
     }
 }
 
-#[tactic(auto, unfolding(rpg_object_format::specs::Format::two_bytes, rpg_object_instructions::specs::Shapes::row_where, rpg_object_instructions::specs::Shapes::no_number))]
+#[tactic(auto, unfolding(rpg_object_format::specs::Format::two_bytes, rpg_object_format::specs::Shapes::row_where, rpg_object_format::specs::Shapes::no_number))]
 fn put_match_count(out: &mut Vec<u8>, version: Version, count: u16) -> Result<(), AllocError>
     ensures { OnOk result (out.new.items ≡ out.old.items ++ (rows.match_count version).spelling count) }
 {

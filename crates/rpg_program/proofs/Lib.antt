@@ -3,6 +3,7 @@ pub mod Fronts
 pub mod PlaceLaws
 pub mod Printing
 pub mod Putting
+pub mod Renaming
 pub mod Rules
 pub mod Searches
 pub mod TextConstants

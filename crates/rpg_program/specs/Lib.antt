@@ -14,11 +14,13 @@ pub mod Instructions
 pub mod Kept
 pub mod LineFaults
 pub mod Lines
+pub mod Naming
 pub mod Object
 pub mod ObjectInstructions
 pub mod Operate
 pub mod Places
 pub mod Put
+pub mod RenamingLaws
 pub mod Right
 pub mod Rows
 pub mod Search

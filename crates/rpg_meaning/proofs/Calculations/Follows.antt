@@ -37,9 +37,9 @@ use Rattle.rpg_meaning.specs.Calculations.Translation.{IsFilled, IsTranslation}
 use Rattle.rpg_program.specs.Constants.{word_at}
 use Rattle.rpg_program.specs.Object.{Object}
 use Rattle.rpg_program.specs.Sections.{first_place, instruction_at, section_instructions}
-use Rattle.rpg_effect_renaming.proofs.Lines.{data_same, lines_same}
-use Rattle.rpg_effect_renaming.proofs.Operations.{operate_same}
-use Rattle.rpg_effect_renaming.specs.Naming.{SameEffect, renamed_action, renamed_line}
+use Rattle.rpg_program.proofs.Renaming.Lines.{data_same, lines_same}
+use Rattle.rpg_program.proofs.Renaming.Operations.{operate_same}
+use Rattle.rpg_program.specs.Naming.{SameEffect, renamed_action, renamed_line}
 
 at_end : {X : Type 0} (before : List X) (x : X) (following : List X) → slice_get (before ++ x ∷ following) (length before) ≡ Some x
 at_end [] x following = refl

@@ -5,8 +5,8 @@ use Rattle.std.proofs.lemmas.Option.{same_Some}
 use Rattle.std.specs.Ordering.{nat_cmp}
 use Rattle.rpg_program.specs.Forms.{has_field}
 use Rattle.rpg_program.specs.World.{World}
-use Rattle.rpg_effect_renaming.proofs.Worlds.{by_names, names_agree}
-use Rattle.rpg_effect_renaming.specs.Naming.{Agree}
+use Rattle.rpg_program.proofs.Renaming.Worlds.{by_names, names_agree}
+use Rattle.rpg_program.specs.Naming.{Agree}
 use Rattle.rpg_compile_program.proofs.Numbers.{Missing, Standing, There, all_keys, numbers_rename, standing}
 use Rattle.rpg_cards.specs.Keys.{Key, key_cmp}
 use Rattle.rpg_compile_program.specs.Table.{Table, key_form, key_number}

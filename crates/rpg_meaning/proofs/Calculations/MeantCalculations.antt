@@ -25,7 +25,7 @@ use Rattle.rpg_sheet_specs.specs.declared.indicator.ConditionSpec as written
 use Rattle.rpg_sheet_specs.specs.declared.literal.Factor.{Factor}
 use Rattle.rpg_sheet_specs.specs.declared.literal.Factor.TheVariants as factor
 use Rattle.rpg_sheet_specs.specs.declared.literal.Literal.TheVariants as literal
-use Rattle.rpg_job.specs.Calculations.{tested_else, tested_further, filled_conditions_on, meant_calculation, meant_calculations, done_by, entry_named, meant_factor, first_or, is_continuation, is_or_calculation, joined_after, meant_level, meant_name, meant_result, meant_from}
+use Rattle.rpg_meaning.specs.Sheets.Calculations.{tested_else, tested_further, filled_conditions_on, meant_calculation, meant_calculations, done_by, entry_named, meant_factor, first_or, is_continuation, is_or_calculation, joined_after, meant_level, meant_name, meant_result, meant_from}
 
 append_none : {X : Type 0} (xs : List X) → xs ++ [] ≡ xs
 append_none [] = refl

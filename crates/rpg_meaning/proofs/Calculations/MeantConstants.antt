@@ -14,7 +14,7 @@ use Rattle.rpg_sheet_specs.specs.declared.literal.Literal.TheVariants as literal
 use Rattle.rpg_sheet_specs.specs.declared.output.OutputSpec.TheVariants as output
 use Rattle.rpg_sheet_specs.specs.declared.spec.Spec.{Spec}
 use Rattle.rpg_sheet_specs.specs.declared.spec.Spec.TheVariants as spec
-use Rattle.rpg_job.specs.Forms.{is_in_factor, is_in_field, is_literal, is_on_card, is_constant_of_text, stands_on}
+use Rattle.rpg_meaning.specs.Sheets.Forms.{is_in_factor, is_in_field, is_literal, is_on_card, is_constant_of_text, stands_on}
 
 or_none : (b : Bool) → (b || false) ≡ b
 or_none true = refl

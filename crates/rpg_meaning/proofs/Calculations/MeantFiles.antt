@@ -15,9 +15,9 @@ use Rattle.rpg_sheet_specs.specs.declared.file.FileRole.TheVariants as role
 use Rattle.rpg_sheet_specs.specs.declared.file.FileSpec.{FileSpec}
 use Rattle.rpg_compile_program.specs.Lines.{file_put, output_file, put_length}
 use Rattle.rpg_compile_program.specs.Types.{file_read, input_file}
-use Rattle.rpg_job.specs.Files.{is_disk, is_disk_by, is_primary, is_primary_by, is_printer, is_printer_by, is_secondary, is_secondary_by, file_record_length, the_file, the_file_named}
-use Rattle.rpg_job.specs.Lines.{is_on_disk, length_on}
-use Rattle.rpg_job.specs.RecordTypes.{is_from_secondary}
+use Rattle.rpg_meaning.specs.Sheets.Files.{is_disk, is_disk_by, is_primary, is_primary_by, is_printer, is_printer_by, is_secondary, is_secondary_by, file_record_length, the_file, the_file_named}
+use Rattle.rpg_meaning.specs.Sheets.Lines.{is_on_disk, length_on}
+use Rattle.rpg_meaning.specs.Sheets.RecordTypes.{is_from_secondary}
 
 primary_by : (r : FileRole) (d : Device) → same_use uses.Primary (use_by r d) ≡ is_primary_by r
 primary_by role.Primary d = refl

@@ -28,7 +28,7 @@ use Rattle.rpg_symbols.specs.Fields.{NamedForms, defined_form, given}
 use Rattle.rpg_text.specs.Texts.{is_between}
 use Rattle.rpg_compile_program.specs.Table.{key_form, key_word, table_of, with_definition, with_definitions, with_form}
 use Rattle.rpg_meaning.proofs.Calculations.MeantConstants.{constants_are_meant}
-use Rattle.rpg_job.specs.Forms.{meant_field_form, form_given, form_of_constant, form_of_named, meant_forms, given_by_result, given_by_table, given_on, sized_as, meant_words}
+use Rattle.rpg_meaning.specs.Sheets.Forms.{meant_field_form, form_given, form_of_constant, form_of_named, meant_forms, given_by_result, given_by_table, given_on, sized_as, meant_words}
 
 -- ---- the definitions of a card
 

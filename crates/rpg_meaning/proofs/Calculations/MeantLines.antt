@@ -26,8 +26,8 @@ use Rattle.rpg_sheet_specs.specs.declared.output.OutputSpec.TheVariants as outpu
 use Rattle.rpg_sheet_specs.specs.declared.spec.Spec.{Spec}
 use Rattle.rpg_sheet_specs.specs.declared.spec.Spec.TheVariants as spec
 use Rattle.rpg_compile_program.specs.Lines.{card_line, line_alternatives, line_field_of, lines_on, output_file, spacing_of}
-use Rattle.rpg_job.specs.Lines.{begins_line, meant_condition, meant_conditions, meant_field, meant_line_file, further, meant_index, length_on, line_with, lines_after, meant_lines, moves_by, meant_moves, others, meant_places, meant_time}
-use Rattle.rpg_job.specs.Cards.{cards_before}
+use Rattle.rpg_meaning.specs.Sheets.Lines.{begins_line, meant_condition, meant_conditions, meant_field, meant_line_file, further, meant_index, length_on, line_with, lines_after, meant_lines, moves_by, meant_moves, others, meant_places, meant_time}
+use Rattle.rpg_meaning.specs.Sheets.Cards.{cards_before}
 use Rattle.rpg_meaning.proofs.Calculations.MeantFiles.{length_is_meant, put_on_is_meant}
 use Rattle.rpg_meaning.proofs.Calculations.MeantLists.{filled_is_meant}
 

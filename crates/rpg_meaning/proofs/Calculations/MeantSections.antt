@@ -5,7 +5,7 @@ use Rattle.rpg_cards.specs.Keys.{Key}
 use Rattle.rpg_cards.specs.Sections.{Subroutine, begun_by, is_detail, is_subroutine, is_total, of_control, sections_of, subroutines_of, unless_begun, up_to_begin, with_begun}
 use Rattle.rpg_sheet_specs.specs.declared.calculation.ControlLevel.{ControlLevel}
 use Rattle.rpg_sheet_specs.specs.declared.calculation.ControlLevel.TheVariants as control
-use Rattle.rpg_job.specs.Sections.{begun_before, is_at_detail_time, is_at_total_time, is_begin, has_sr, meant_body, meant_sections, meant_subroutines}
+use Rattle.rpg_meaning.specs.Sheets.Sections.{begun_before, is_at_detail_time, is_at_total_time, is_begin, has_sr, meant_body, meant_sections, meant_subroutines}
 
 -- ---- times
 

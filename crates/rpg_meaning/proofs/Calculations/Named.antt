@@ -18,10 +18,10 @@ use Rattle.rpg_program.specs.Constants.{word_at}
 use Rattle.rpg_program.specs.Object.{Object, program_line}
 use Rattle.rpg_program.specs.Sections.{first_place, instruction_at}
 use Rattle.rpg_program.specs.declared.section.Place.{Place}
-use Rattle.rpg_effect_renaming.proofs.Lines.{fault_same}
-use Rattle.rpg_effect_renaming.proofs.Rows.{right_before}
-use Rattle.rpg_effect_renaming.proofs.Used.{field_named, right_uses}
-use Rattle.rpg_effect_renaming.specs.Naming.{AreNamed, IsNamed, Uses, renamed_action, renamed_field, renamed_line}
+use Rattle.rpg_program.proofs.Renaming.Lines.{fault_same}
+use Rattle.rpg_program.proofs.Renaming.Rows.{right_before}
+use Rattle.rpg_program.proofs.Renaming.Used.{field_named, right_uses}
+use Rattle.rpg_program.specs.Naming.{AreNamed, IsNamed, Uses, renamed_action, renamed_field, renamed_line}
 
 -- of a list's element
 pub all_at : {A : Type 0} (P : A → Type 0) (xs : List A) (n : ℕ) (x : A) → All P xs → slice_get xs n ≡ Some x → P x

@@ -25,7 +25,7 @@ use Rattle.rpg_program.specs.Object.{Object}
 use Rattle.rpg_program.specs.Sections as places
 use Rattle.rpg_program.specs.Sections.{first_place}
 use Rattle.rpg_program.specs.declared.section.Section.{Section}
-use Rattle.rpg_effect_renaming.specs.Naming.{Agree}
+use Rattle.rpg_program.specs.Naming.{Agree}
 
 same_end : (c : Sections Key) (part : Part) → part_has_end part ≡ true → places.has_end (part_section c part) ≡ true
 same_end c InDetail h = refl

@@ -13,12 +13,12 @@ use Rattle.rpg_compile_program.specs.Levels.{subroutine_level}
 use Rattle.rpg_compile_program.specs.Lines.{lines_on}
 use Rattle.rpg_compile_program.specs.Program.{key_numbers, program_of, sections}
 use Rattle.rpg_compile_program.specs.Table.{key_form, key_word, table_of}
-use Rattle.rpg_effect_renaming.specs.Naming.{Agree}
+use Rattle.rpg_program.specs.Naming.{Agree}
 use Rattle.rpg_program.specs.World.{World}
 use Rattle.rpg_faults_flow.specs.Columns.{bad_calculation_columns}
 use Rattle.rpg_faults_flow.specs.Kept.{KeepsRule}
-use Rattle.rpg_job.specs.Calculations.{meant_calculations}
-use Rattle.rpg_job.specs.Forms.{meant_forms}
+use Rattle.rpg_meaning.specs.Sheets.Calculations.{meant_calculations}
+use Rattle.rpg_meaning.specs.Sheets.Forms.{meant_forms}
 use Rattle.rpg_meaning.proofs.Calculations.Filled.{filled_in}
 use Rattle.rpg_meaning.proofs.Calculations.Keys.{named_world}
 use Rattle.rpg_meaning.proofs.Calculations.MeantCalculations.{calculations_are_meant}

@@ -17,9 +17,9 @@ use Rattle.rpg_program.specs.Forms.{form_at, has_field, is_constant}
 use Rattle.rpg_program.specs.Values.{Number}
 use Rattle.rpg_program.specs.World.{World}
 use Rattle.rpg_program.specs.declared.form.FieldForm.{FieldForm}
-use Rattle.rpg_effect_renaming.specs.Naming.{Agree}
-use Rattle.rpg_job.specs.FirstValues.{meant_constant}
-use Rattle.rpg_job.specs.Forms.{form_of_constant, meant_forms, stands_on}
+use Rattle.rpg_program.specs.Naming.{Agree}
+use Rattle.rpg_meaning.specs.Sheets.FirstValues.{meant_constant}
+use Rattle.rpg_meaning.specs.Sheets.Forms.{form_of_constant, meant_forms, stands_on}
 use Rattle.rpg_meaning.proofs.Jobs.Meant.{has_start}
 use Rattle.rpg_meaning.proofs.Jobs.MeantStart.{start_agrees}
 use Rattle.rpg_meaning.specs.Jobs.Start.{ConstantsStand, IsStart, takes_date}

@@ -31,7 +31,7 @@ use Rattle.rpg_program.specs.Object.{Object}
 use Rattle.rpg_program.specs.declared.section.Section.TheVariants as sections
 use Rattle.rpg_cycle_records.specs.Earlier.{Selected, is_any, left_by, with_record}
 use Rattle.rpg_cycle_records.specs.Waiting.{Inputs, has_match}
-use Rattle.rpg_effect_renaming.specs.Naming.{Agree}
+use Rattle.rpg_program.specs.Naming.{Agree}
 use Rattle.rpg_cycle_safety.proofs.Working.{IsTaken}
 
 -- what is selected may be anything

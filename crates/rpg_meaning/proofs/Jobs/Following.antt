@@ -16,7 +16,7 @@ use Rattle.rpg_machine.specs.Config.{Config, Output}
 use Rattle.rpg_machine.specs.Outputs.{ByEffect}
 use Rattle.rpg_program.specs.Object.{Object}
 use Rattle.rpg_cycle_records.specs.Earlier.{Selected}
-use Rattle.rpg_effect_renaming.specs.Naming.{Agree, SameEffect}
+use Rattle.rpg_program.specs.Naming.{Agree, SameEffect}
 
 -- nothing is wrong
 abbrev pub IsFine : PhaseEnd → Type 0

@@ -6,7 +6,7 @@ use Rattle.rpg_cycle.specs.Job.{first_fields}
 use Rattle.rpg_cycle.specs.Runs as machine
 use Rattle.rpg_cycle.specs.Starting.{date_in, job_first_world, job_start}
 use Rattle.rpg_program.specs.World.{World}
-use Rattle.rpg_effect_renaming.specs.Naming.{renamed_type}
+use Rattle.rpg_program.specs.Naming.{renamed_type}
 use Rattle.rpg_faults_flow.specs.Columns.{bad_calculation_columns}
 use Rattle.rpg_faults_flow.specs.Kept.{KeepsRule}
 use Rattle.rpg_cycle_safety.proofs.Accepting.{accepted_orderly}
@@ -15,7 +15,7 @@ use Rattle.rpg_cycle_safety.proofs.Starting.{first_holds}
 use Rattle.rpg_cycle_records.specs.Waiting.{unread}
 use Rattle.rpg_cycle_safety.specs.Holding.{Holds}
 use Rattle.rpg_meaning.proofs.Jobs.Cycling.{runs_follow}
-use Rattle.rpg_job.specs.Files.{file_record_length}
+use Rattle.rpg_meaning.specs.Sheets.Files.{file_record_length}
 use Rattle.rpg_meaning.proofs.Jobs.MeantStart.{agrees_start, start_agrees}
 use Rattle.rpg_meaning.proofs.Jobs.MeantTypes.{types_are_meant}
 use Rattle.rpg_meaning.proofs.Jobs.ProgramOf.{IsProgramOf}

@@ -26,8 +26,8 @@ use Rattle.rpg_sheet_specs.specs.declared.spec.Spec.{Spec}
 use Rattle.rpg_sheet_specs.specs.declared.spec.Spec.TheVariants as spec
 use Rattle.rpg_compile_program.specs.Data.{Loaded, all_loaded, constant_value, decks, entry_value, extensions, field_values, first_of_kind, loaded, tables_loaded, with_deck}
 use Rattle.rpg_faults_data.specs.Data.{data_entries, entries_on, entry_on}
-use Rattle.rpg_job.specs.FirstValues.{Stored, all_stored, begins_deck, meant_blank, meant_constant, data_cards, meant_decks, entry_by, meant_entry, entry_text, meant_named_value, stored_on, wanting}
-use Rattle.rpg_job.specs.Cards.{cards_before}
+use Rattle.rpg_meaning.specs.Sheets.FirstValues.{Stored, all_stored, begins_deck, meant_blank, meant_constant, data_cards, meant_decks, entry_by, meant_entry, entry_text, meant_named_value, stored_on, wanting}
+use Rattle.rpg_meaning.specs.Sheets.Cards.{cards_before}
 use Rattle.rpg_meaning.proofs.Calculations.MeantLists.{map_append}
 
 -- ---- lists

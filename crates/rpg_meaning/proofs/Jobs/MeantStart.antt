@@ -16,9 +16,9 @@ use Rattle.rpg_program.specs.Forms.{has_field, is_table_form}
 use Rattle.rpg_program.specs.Values.{Number, Value}
 use Rattle.rpg_program.specs.World.{World, value_in}
 use Rattle.rpg_program.specs.declared.form.FieldForm.{FieldForm}
-use Rattle.rpg_effect_renaming.specs.Naming.{Agree}
-use Rattle.rpg_job.specs.FirstValues.{meant_named_value}
-use Rattle.rpg_job.specs.Forms.{meant_forms}
+use Rattle.rpg_program.specs.Naming.{Agree}
+use Rattle.rpg_meaning.specs.Sheets.FirstValues.{meant_named_value}
+use Rattle.rpg_meaning.specs.Sheets.Forms.{meant_forms}
 use Rattle.rpg_meaning.proofs.Jobs.MeantFirst.{constant_same, named_same}
 use Rattle.rpg_meaning.proofs.Jobs.Starting.{agrees_taken, taken_agrees}
 use Rattle.rpg_meaning.proofs.Jobs.TakenStart.{IsTakenStart, first_value_at, first_values, taken_value, takes_date}

@@ -12,8 +12,8 @@ use Rattle.rpg_sheet_specs.specs.declared.input.RecordType.{RecordType}
 use Rattle.rpg_sheet_specs.specs.declared.spec.Spec.{Spec}
 use Rattle.rpg_sheet_specs.specs.declared.spec.Spec.TheVariants as spec
 use Rattle.rpg_compile_program.specs.Types.{and_card_codes, card_type, codes_of, control_field_of, input_row, match_field_of, types_on}
-use Rattle.rpg_job.specs.Cards.{filled_values, cards_before}
-use Rattle.rpg_job.specs.RecordTypes.{tested_for, begins_type, codes_on, meant_type_file, types_after, type_with, meant_types}
+use Rattle.rpg_meaning.specs.Sheets.Cards.{filled_values, cards_before}
+use Rattle.rpg_meaning.specs.Sheets.RecordTypes.{tested_for, begins_type, codes_on, meant_type_file, types_after, type_with, meant_types}
 use Rattle.rpg_meaning.proofs.Calculations.MeantFiles.{read_from_is_meant}
 use Rattle.rpg_meaning.proofs.Calculations.MeantLists.{filled_is_meant, map_append}
 

@@ -1,7 +1,7 @@
 -- What the proofs need of a program that stands for a job.
 use Rattle.std.specs.Prelude.{◌≡◌, ℕ, map}
 use Rattle.rpg_cards.specs.Keys.{Key}
-use Rattle.rpg_effect_renaming.specs.Naming.{renamed_type}
+use Rattle.rpg_program.specs.Naming.{renamed_type}
 use Rattle.rpg_meaning.specs.Jobs.Job.{Job}
 use Rattle.rpg_meaning.specs.Calculations.Translation.{IsTranslation}
 use Rattle.rpg_program.specs.Object.{Object}

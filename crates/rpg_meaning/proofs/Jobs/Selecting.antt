@@ -31,7 +31,7 @@ use Rattle.rpg_cycle_records.specs.Identifying.{IsOf, IsOfNone, Misplaced, Trial
 use Rattle.rpg_cycle_records.specs.Levels.{differs, highest_broken, is_in_record, level_bytes}
 use Rattle.rpg_cycle_records.specs.Matching.{agrees, exceeds, match_value_in}
 use Rattle.rpg_cycle_records.specs.Waiting.{Inputs, chosen, first_of, has_match, input_at, other_file, with_file_over, takes_in, waiting_in, with_waiting}
-use Rattle.rpg_effect_renaming.specs.Naming.{Agree, renamed_type}
+use Rattle.rpg_program.specs.Naming.{Agree, renamed_type}
 use Rattle.rpg_cycle_safety.proofs.Selecting.{Picks, levels_alone, selects, takes}
 use Rattle.rpg_cycle_safety.proofs.Working.{IsTaken}
 use Rattle.rpg_cycle_safety.proofs.Writing.{same_fields}

@@ -20,7 +20,7 @@ use Rattle.rpg_program.specs.declared.form.FieldForm.{FieldForm}
 use Rattle.rpg_meaning.proofs.Jobs.TakenStart.{IsTakenStart, first_value_at, first_values, taken_value, takes_date}
 use Rattle.rpg_program.specs.Kept.{AreValuesOf}
 use Rattle.rpg_program.specs.Object.{Object}
-use Rattle.rpg_effect_renaming.specs.Naming.{Agree}
+use Rattle.rpg_program.specs.Naming.{Agree}
 use Rattle.rpg_store.proofs.ByEntry.{before, entries_total, same_entry, stands, there, value_here}
 use Rattle.rpg_store.proofs.Places.{entry_place, in_first, in_second}
 use Rattle.rpg_store.specs.First.{first_contents, first_currents, joined_values, tables_from}

@@ -45,10 +45,10 @@ use Rattle.rpg_program.specs.Constants.{word_at}
 use Rattle.rpg_program.specs.Object.{Object, lines_of}
 use Rattle.rpg_program.specs.Sections as places
 use Rattle.rpg_cycle_records.specs.Earlier.{Selected}
-use Rattle.rpg_effect_renaming.proofs.Inputs.{record_same}
-use Rattle.rpg_effect_renaming.proofs.Lines.{data_same}
-use Rattle.rpg_effect_renaming.proofs.Outputs.{detail_same, overflow_same, total_same}
-use Rattle.rpg_effect_renaming.specs.Naming.{Agree, SameEffect, renamed_input, renamed_line, renamed_type}
+use Rattle.rpg_program.proofs.Renaming.Inputs.{record_same}
+use Rattle.rpg_program.proofs.Renaming.Lines.{data_same}
+use Rattle.rpg_program.proofs.Renaming.Outputs.{detail_same, overflow_same, total_same}
+use Rattle.rpg_program.specs.Naming.{Agree, SameEffect, renamed_input, renamed_line, renamed_type}
 use Rattle.rpg_cycle_safety.proofs.Working.{IsTaken}
 
 -- ---- indicators

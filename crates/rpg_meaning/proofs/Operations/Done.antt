@@ -30,7 +30,7 @@ use Rattle.rpg_meaning.specs.Operations.{Compares, Computes, Divides, TransfersC
 use Rattle.rpg_sheet_specs.specs.declared.calculation.CalculationSpec.{CalculationSpec}
 use Rattle.rpg_sheet_specs.specs.declared.calculation.Operation.TheVariants as op
 use Rattle.rpg_sheet_specs.specs.declared.entry.Entry as card
-use Rattle.rpg_job.specs.Calculations.{entry_named}
+use Rattle.rpg_meaning.specs.Sheets.Calculations.{entry_named}
 
 module _ (source : Source) (s : State) (k : CalculationSpec) where
   -- what comes of what is done to the data

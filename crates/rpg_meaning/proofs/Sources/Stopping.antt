@@ -11,7 +11,7 @@ use Rattle.rpg_engine.specs.Reporting.{Reports, SendsFirstParts, SendsParts}
 use Rattle.rpg_engine.specs.declared.fault.RunFault.{RunFault}
 use Rattle.rpg_engine.specs.declared.report.Report.{Report}
 use Rattle.rpg_faults.specs.Source.{cards_in}
-use Rattle.rpg_job.specs.Files.{file_record_length}
+use Rattle.rpg_meaning.specs.Sheets.Files.{file_record_length}
 use Rattle.rpg_meaning.proofs.Calculations.MeantFiles.{secondary_is_meant}
 use Rattle.rpg_program.specs.Object.{Object}
 use Rattle.rpg_meaning.specs.Sources.Printing.{PrintsAsMeant, SendsPartsAsMeant}

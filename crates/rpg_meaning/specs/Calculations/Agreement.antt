@@ -16,7 +16,7 @@ use Rattle.rpg_program.specs.Object.{Object}
 use Rattle.rpg_program.specs.Sections.{first_place}
 use Rattle.rpg_program.specs.declared.section.Section.{Section}
 use Rattle.rpg_program.specs.declared.section.Section.TheVariants as sections
-use Rattle.rpg_effect_renaming.specs.Naming.{Agree}
+use Rattle.rpg_program.specs.Naming.{Agree}
 
 -- the section that a part compiles to
 abbrev pub part_section : Sections Key → Part → Section

@@ -16,7 +16,7 @@ use Rattle.rpg_meaning.specs.Calculations.Parts.{Part, calculations_in}
 use Rattle.rpg_meaning.specs.Calculations.Sections.{AreOpen, Meets}
 use Rattle.rpg_meaning.specs.Calculations.Sources.{source_of}
 use Rattle.rpg_program.specs.Object.{Object}
-use Rattle.rpg_effect_renaming.specs.Naming.{Agree}
+use Rattle.rpg_program.specs.Naming.{Agree}
 
 -- every statement but EXSR and ENDSR
 abbrev pub stays_in_part : Statement Key → Bool

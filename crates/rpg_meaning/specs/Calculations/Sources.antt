@@ -4,12 +4,12 @@ use Rattle.rpg_cards.specs.declared.spec_card.SpecCard.{SpecCard}
 use Rattle.rpg_compile_program.specs.Program.{program_of}
 use Rattle.rpg_faults_flow.specs.Columns.{bad_calculation_columns}
 use Rattle.rpg_faults_flow.specs.Kept.{KeepsRule}
-use Rattle.rpg_job.specs.Calculations.{meant_calculations}
-use Rattle.rpg_job.specs.Files.{overflow_indicator}
-use Rattle.rpg_job.specs.Forms.{meant_forms, meant_words}
-use Rattle.rpg_job.specs.Lines.{meant_lines}
-use Rattle.rpg_job.specs.Sections.{meant_sections}
 use Rattle.rpg_meaning.specs.Calculations.Meaning.{Source}
+use Rattle.rpg_meaning.specs.Sheets.Calculations.{meant_calculations}
+use Rattle.rpg_meaning.specs.Sheets.Files.{overflow_indicator}
+use Rattle.rpg_meaning.specs.Sheets.Forms.{meant_forms, meant_words}
+use Rattle.rpg_meaning.specs.Sheets.Lines.{meant_lines}
+use Rattle.rpg_meaning.specs.Sheets.Sections.{meant_sections}
 use Rattle.rpg_program.specs.Kept.{IsProgram}
 use Rattle.rpg_verify_rules.specs.Accepted.{IsAccepted}
 

@@ -10,7 +10,7 @@ use Rattle.rpg_meaning.specs.Calculations.Meaning.{Source}
 use Rattle.rpg_meaning.specs.Calculations.Parts.{Part, calculations_in}
 use Rattle.rpg_program.specs.Constants.{word_at}
 use Rattle.rpg_program.specs.Object.{Object, lines_of}
-use Rattle.rpg_effect_renaming.specs.Naming.{IsRenaming, renamed_line}
+use Rattle.rpg_program.specs.Naming.{IsRenaming, renamed_line}
 
 -- there is an alternative, and each before the last has conditions
 abbrev pub AreFilled : List (List Conditions) → Type 0

@@ -14,7 +14,7 @@ use Rattle.rpg_meaning.specs.Calculations.Laws.{KeepsMeaning}
 use Rattle.rpg_meaning.specs.Calculations.Sources.{source_of}
 use Rattle.rpg_memory.specs.Fits.{KeepsConstants}
 use Rattle.rpg_program.specs.Object.{Object}
-use Rattle.rpg_effect_renaming.specs.Naming.{Agree}
+use Rattle.rpg_program.specs.Naming.{Agree}
 use Rattle.rpg_compile_program.specs.Program.{key_numbers}
 
 -- each run of the program over records on a date is the run of the cards, from the values that they start with

@@ -7,8 +7,8 @@ use Rattle.rpg_cycle.specs.Runs as machine
 use Rattle.rpg_cycle.specs.Starting.{date_in}
 use Rattle.rpg_program.specs.Put.{Bytes}
 use Rattle.rpg_program.specs.World.{World}
-use Rattle.rpg_job.specs.Files.{is_primary, is_secondary, file_record_length, the_file}
-use Rattle.rpg_job.specs.RecordTypes.{meant_types}
+use Rattle.rpg_meaning.specs.Sheets.Files.{is_primary, is_secondary, file_record_length, the_file}
+use Rattle.rpg_meaning.specs.Sheets.RecordTypes.{meant_types}
 use Rattle.rpg_meaning.specs.Jobs.Job.{Job}
 use Rattle.rpg_meaning.specs.Jobs.Runs.{IsMeantRun, MeantCourse}
 use Rattle.rpg_meaning.specs.Jobs.Start.{IsStart}

@@ -12,8 +12,8 @@ use Rattle.rpg_program.specs.Forms.{has_field, is_date, is_table_form}
 use Rattle.rpg_program.specs.Values.{Number, Value}
 use Rattle.rpg_program.specs.World.{World, value_in}
 use Rattle.rpg_program.specs.declared.form.FieldForm.{FieldForm}
-use Rattle.rpg_job.specs.FirstValues.{meant_constant, meant_named_value}
-use Rattle.rpg_job.specs.Forms.{meant_forms, stands_on}
+use Rattle.rpg_meaning.specs.Sheets.FirstValues.{meant_constant, meant_named_value}
+use Rattle.rpg_meaning.specs.Sheets.Forms.{meant_forms, stands_on}
 
 -- a name has its data, otherwise zeros or blanks; a constant its own value. Entries are counted from 1
 abbrev pub meant_first_value : List SpecCard → Key → ℕ → Option Value

@@ -10,7 +10,7 @@ use Rattle.rpg_engine.specs.declared.files.Writers.{Writers}
 use Rattle.rpg_engine.specs.declared.report.Report.{Report}
 use Rattle.rpg_faults.specs.Faults.{Faultless}
 use Rattle.rpg_faults.specs.Source.{cards_in}
-use Rattle.rpg_job.specs.Files.{is_secondary, file_record_length, the_file}
+use Rattle.rpg_meaning.specs.Sheets.Files.{is_secondary, file_record_length, the_file}
 use Rattle.rpg_sheet.specs.Sheet.{first_sheet_fault, source}
 use Rattle.rpg_meaning.specs.Sources.Printing.{PrintsAsMeant, SendsPartsAsMeant}
 use Rattle.rpg_meaning.specs.declared.source.CompiledSource.{CompiledSource}

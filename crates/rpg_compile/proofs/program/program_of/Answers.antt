@@ -12,7 +12,7 @@ use Rattle.rpg_compile.specs.Walk.{subroutines_in}
 use Rattle.rpg_compile_layouts.specs.Rows.{rows_of}
 use Rattle.rpg_program.specs.Kept.{IsLineRow, IsProgram, IsTypeRow}
 use Rattle.rpg_program.specs.Object.{LineRow, SubroutineRow}
-use Rattle.rpg_effect_renaming.specs.Naming.{renamed_type}
+use Rattle.rpg_program.specs.Naming.{renamed_type}
 use Rattle.rpg_compile_program.specs.Lines.{record_length_of}
 use Rattle.rpg_compile_program.specs.Program.{version_with}
 use Rattle.rpg_compile_program.specs.Table.{Table, forms, key_number, table_of}

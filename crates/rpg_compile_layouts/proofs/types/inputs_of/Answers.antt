@@ -8,8 +8,8 @@ use Rattle.rpg_compile_layouts.proofs.types.inputs_of.Goals as goal
 use Rattle.rpg_compile_layouts.specs.Parts.{inputs_after}
 use Rattle.rpg_compile_program.specs.Table.{key_number}
 use Rattle.rpg_compile_program.specs.Types.{input_row}
-use Rattle.rpg_effect_renaming.specs.Naming.{renamed_input}
 use Rattle.rpg_program.specs.Kept.{IsInputRow}
+use Rattle.rpg_program.specs.Naming.{renamed_input}
 use Rattle.rpg_sheet_specs.specs.declared.input.InputSpec.TheVariants as input
 
 pub loop-card-preserved : goal.loop-card-preserved

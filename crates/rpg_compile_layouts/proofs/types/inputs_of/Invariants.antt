@@ -2,7 +2,7 @@ use Rattle.std.proofs.Common.{◌≡◌, ◌++◌, drop, map}
 use Rattle.std.specs.Prelude.{All}
 use Rattle.rpg_compile_layouts.specs.Parts.{inputs_after}
 use Rattle.rpg_program.specs.Kept.{IsInputRow}
-use Rattle.rpg_effect_renaming.specs.Naming.{renamed_input}
+use Rattle.rpg_program.specs.Naming.{renamed_input}
 use Rattle.rpg_compile_program.specs.Table.{key_number}
 use Rattle.rpg_compile_layouts.proofs.types.inputs_of.Given as goal
 

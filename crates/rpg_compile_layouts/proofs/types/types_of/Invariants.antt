@@ -4,7 +4,7 @@ use Rattle.rpg_compile_layouts.specs.Parts.{types_from}
 use Rattle.rpg_compile_layouts.specs.Within.{IsTypeWithin}
 use Rattle.rpg_program.specs.Kept.{IsTypeRow}
 use Rattle.rpg_program.specs.Object.{type_row}
-use Rattle.rpg_effect_renaming.specs.Naming.{renamed_type}
+use Rattle.rpg_program.specs.Naming.{renamed_type}
 use Rattle.rpg_compile_program.specs.Table.{key_number}
 use Rattle.rpg_compile_program.specs.Types.{types_on}
 use Rattle.rpg_compile_layouts.proofs.types.types_of.Given as goal

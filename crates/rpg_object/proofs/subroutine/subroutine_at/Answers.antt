@@ -1,5 +1,5 @@
 use Rattle.std.proofs.Common.{◌≡◌, ◌≤◌, length, arith}
-use Rattle.rpg_object_instructions.specs.Instructions.{instruction}
+use Rattle.rpg_object_format.specs.Instructions.{instruction}
 use Rattle.rpg_object.proofs.Tables.{count_read, table_read}
 use Rattle.rpg_object.proofs.subroutine.subroutine_at.Goals as goal
 

@@ -1,5 +1,0 @@
-pub mod FieldLemmas
-pub mod FormedLemmas
-pub mod LoadedLemmas
-pub mod PlaceLemmas
-pub mod TableLemmas

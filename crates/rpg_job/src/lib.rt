@@ -1,2 +1,0 @@
-//! The meaning of a source's cards, card by card: only definitions (in specs/).
-#![tactic(auto)]

@@ -1,4 +1,0 @@
-pub mod Indicators
-pub mod Instructions
-pub mod Operands
-pub mod Shapes
