@@ -2,18 +2,7 @@
 //! they end with.
 #![tactic(auto)]
 
-mod checking;
-mod colours;
-mod dates;
-mod decks;
-mod explaining;
-mod files;
-mod listing;
-mod naming;
-mod outlet;
 mod program;
-mod reported;
-mod reporting;
 
 use crate::program::main_with;
 use std::fs;

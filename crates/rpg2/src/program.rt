@@ -1,54 +1,20 @@
 //! Carries out the command of the arguments, or explains why they are rejected.
 
-ghost use Rattle.std.specs.Prelude.{◌≡◌, ◌≤◌};
-ghost use Rattle.rpg2.specs.Saying.{PrintsALine, Says, SaysOrIsQuiet, WritesLine};
+ghost use Rattle.rpg_cli_reports.specs.Saying.{PrintsALine};
 
-use crate::checking::check_files;
-use crate::dates::{JobDate, warn_of_date};
-use crate::decks::cards_file;
-use crate::explaining::explain;
-use crate::files::{compile_files, show_file, verify_file};
-use crate::listing::list_file;
-use crate::naming::files_of;
-use crate::outlet::Outlet;
-use crate::reported::{StandardError, StandardStreams};
-use crate::reporting::{report_answer, report_unwritten};
-use rpg_cli_answers::{Answer, CommandStop, FormedListener, Listener, Reasons, json_line, line};
+use rpg_cli_answers::{Answer, CommandStop, FormedListener, Listener, Reasons};
 use rpg_cli_conversions::{fit_file, records_file};
-use rpg_cli_files::{Reason, send_line};
-use rpg_cli_run::{go_files, run_files};
-use rpg_cli_words::{
-    AnswerArguments, Format, GoArguments, Refusal, Request, RunArguments, refuse_bytes,
-    refuse_same_file, request_of,
+use rpg_cli_programs::{cards_file, check_files, compile_files, list_file, show_file, verify_file};
+use rpg_cli_reports::{
+    Outlet, StandardError, StandardStreams, conclude, explain, files_of, refuse, report_unwritten,
+    say,
 };
-use std::alloc::Global;
+use rpg_cli_run::{go_files, run_files};
+use rpg_cli_words::{Format, Request, refuse_bytes, refuse_same_file, request_of};
 use std::io::{Error, ErrorKind, Write};
 use std::process::ExitCode;
 use std::rt::{Clock, Env, Files};
 use std::{env, io};
-
-/// Runs an object program on the date of the arguments.
-fn run_on_date<R: Clock + Env + Files + Input + Print + AllocGlobal, L: Listener>(
-    rt: &R,
-    arguments: &RunArguments,
-    listener: &mut L,
-) -> Result<Answer, CommandStop> {
-    let date = JobDate::of(rt, arguments)?;
-    warn_of_date(rt.alloc(), arguments, listener);
-    Ok(run_files(rt, &date.arguments(arguments), listener)?.into())
-}
-
-/// Runs a source on the date of the arguments.
-fn go_on_date<R: Clock + Env + Files + Input + Print + AllocGlobal, L: Listener>(
-    rt: &R,
-    arguments: &GoArguments,
-    listener: &mut L,
-) -> Result<Answer, CommandStop> {
-    let date = JobDate::of(rt, &arguments.run)?;
-    warn_of_date(rt.alloc(), &arguments.run, listener);
-    let arguments = arguments.with(date.arguments(&arguments.run));
-    Ok(go_files(rt, &arguments, listener)?.into())
-}
 
 fn answer_to<R: Clock + Env + Files + Input + Print + AllocGlobal, L: Listener>(
     rt: &R,
@@ -56,149 +22,18 @@ fn answer_to<R: Clock + Env + Files + Input + Print + AllocGlobal, L: Listener>(
     listener: &mut L,
 ) -> Result<Answer, CommandStop> {
     match request {
-        Request::Compile(arguments) => {
-            compile_files(rt, arguments, listener)?;
-            Ok(Answer::Compiled)
-        }
+        Request::Compile(arguments) => compile_files(rt, arguments, listener),
         Request::Check(arguments) => check_files(rt, arguments, listener),
-        Request::List(arguments) => {
-            list_file(rt, arguments, listener)?;
-            Ok(Answer::Faultless)
-        }
-        Request::Cards(arguments) => {
-            cards_file(rt, arguments, listener)?;
-            Ok(Answer::Deck)
-        }
+        Request::List(arguments) => list_file(rt, arguments, listener),
+        Request::Cards(arguments) => cards_file(rt, arguments, listener),
         Request::Records(arguments) => records_file(rt, arguments, listener),
         Request::Fit(arguments) => fit_file(rt, arguments, listener),
-        Request::Verify(arguments) => {
-            let bound = verify_file(rt, arguments, listener)?;
-            Ok(Answer::Accepted { bound })
-        }
-        Request::Show(arguments) => {
-            let bound = show_file(rt, arguments, listener)?;
-            Ok(Answer::Accepted { bound })
-        }
-        Request::Run(arguments) => run_on_date(rt, arguments, listener),
-        Request::Go(arguments) => go_on_date(rt, arguments, listener),
+        Request::Verify(arguments) => verify_file(rt, arguments, listener),
+        Request::Show(arguments) => show_file(rt, arguments, listener),
+        Request::Run(arguments) => run_files(rt, arguments, listener),
+        Request::Go(arguments) => go_files(rt, arguments, listener),
         Request::Explain(arguments) => explain(rt.alloc(), arguments, listener),
     }
-}
-
-/// Writes a line, and returns the status, or reports that it can't be written and returns 1.
-fn send<W: Write, L: Listener>(
-    out: &mut W,
-    outlet: Outlet,
-    text: &[u8],
-    status: u8,
-    listener: &mut L,
-) -> u8
-    ensures { WritesLine (W.contents out.old) (W.contents out.new) text.now status result }
-{
-    match send_line(out, text) {
-        Ok(()) => status,
-        Err(reason) => {
-            report_unwritten(outlet, reason, listener);
-            1
-        }
-    }
-}
-
-/// Prints the line or the object of an answer, and returns the exit status. Reports it if that can't be written.
-fn say<W: Write, L: Listener>(
-    out: &mut W,
-    outlet: Outlet,
-    format: Format,
-    answer: &Answer,
-    listener: &mut L,
-) -> u8
-    ensures { Says format (W.contents out.old) (W.contents out.new) result answer.now }
-{
-    match format {
-        Format::Text => {
-            let said = line(answer);
-            send(out, outlet, said.text.as_slice(), said.status, listener)
-        }
-        Format::Json => {
-            let said = json_line(answer);
-            send(out, outlet, said.text.as_slice(), said.status, listener)
-        }
-    }
-}
-
-/// Prints the line of an answer, except that of a success if the command is quiet, and returns the exit status.
-fn say_if_wanted<W: Write, L: Listener>(
-    out: &mut W,
-    outlet: Outlet,
-    is_quiet: bool,
-    format: Format,
-    answer: &Answer,
-    listener: &mut L,
-) -> u8
-    ensures { SaysOrIsQuiet is_quiet format (W.contents out.old) (W.contents out.new) result answer.now }
-{
-    if is_quiet && line(answer).status == 0 {
-        0
-    } else {
-        say(out, outlet, format, answer, listener)
-    }
-}
-
-/// Prints clap's text, or reports why help couldn't be written, and returns the exit status.
-fn explain_refusal<R: Print + Eprint + AllocGlobal, L: Listener>(
-    rt: &R,
-    refusal: &Refusal,
-    listener: &mut L,
-) -> u8
-    ensures { result ≤ 2 }
-{
-    match refusal.explain(rt) {
-        Ok(status) => status,
-        Err(error) => {
-            report_unwritten(Outlet::PAGES, Reason::of(error.kind()), listener);
-            1
-        }
-    }
-}
-
-/// Reports a fault of the command line, or prints the requested help, and returns the exit status.
-fn refuse<R: Print + Eprint + AllocGlobal, W: Write, L: Listener>(
-    rt: &R,
-    refusal: &Refusal,
-    out: &mut W,
-    listener: &mut L,
-) -> u8
-    ensures { PrintsALine (W.contents out.old) (W.contents out.new) result }
-{
-    if refusal.is_no_memory() {
-        say(
-            out,
-            Outlet::STANDARD_OUTPUT,
-            Format::Text,
-            &Answer::NoMemory,
-            listener,
-        )
-    } else {
-        explain_refusal(rt, refusal, listener)
-    }
-}
-
-/// Prints the line of an answer, unless the command is quiet, adds the diagnostic, and returns the exit status.
-fn conclude<W: Write, L: Listener>(
-    alloc: Global,
-    request: &Request,
-    answer: &Answer,
-    reasons: Reasons,
-    out: &mut W,
-    listener: &mut L,
-) -> u8
-    ensures { PrintsALine (W.contents out.old) (W.contents out.new) result }
-{
-    let outlet = Outlet::of(request);
-    let AnswerArguments { is_quiet, format } = request.answer();
-    let status = say_if_wanted(out, outlet, is_quiet, format, answer, listener);
-    report_answer(alloc, request, answer, reasons, listener);
-    status
 }
 
 /// Runs a command, prints one line to `out`, and returns the exit status. If the arguments ask for JSON, diagnostics are objects.

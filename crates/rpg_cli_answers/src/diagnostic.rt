@@ -1,6 +1,6 @@
 //! Diagnostics, parsed from their lines of text.
 
-use rpg_cli_explain::{Topic, topic_of};
+use rpg_cli_text::{Topic, topic_of};
 use rpg_text::shown;
 
 /// What a diagnostic says, and where it points.

@@ -1,14 +1,14 @@
 //! The command that compiles a source and runs it.
 
 use crate::jobs::run_own;
-use crate::refusing::report_wanted;
-use crate::sources::{OwnSource, report_faults};
-use crate::warned::deny_warnings;
 use rpg_cli_answers::{Answer, CommandStop, Listener, named, source_bytes};
+use rpg_cli_jobs::{JobDate, report_wanted, warn_of_date};
+use rpg_cli_programs::{OwnSource, report_faults};
+use rpg_cli_warnings::deny_warnings;
 use rpg_cli_words::{FileArgument, GoArguments};
 use rpg_engine::Report;
 use rpg_meaning::CompiledSource;
-use std::rt::Files;
+use std::rt::{Clock, Env, Files};
 
 /// Runs a compiled source, unless a warning rejects it. The diagnostic of a halt has cards and names.
 fn run_compiled<R: Files + Input + Print + AllocGlobal, L: Listener>(
@@ -30,7 +30,7 @@ fn run_compiled<R: Files + Input + Print + AllocGlobal, L: Listener>(
 }
 
 /// Compiles a source and runs its program over its files, which are opened only if the source has no faults.
-pub fn go_files<R: Files + Input + Print + AllocGlobal, L: Listener>(
+fn go_dated<R: Files + Input + Print + AllocGlobal, L: Listener>(
     rt: &R,
     arguments: &GoArguments,
     listener: &mut L,
@@ -47,4 +47,16 @@ pub fn go_files<R: Files + Input + Print + AllocGlobal, L: Listener>(
             Err(Answer::Source(fault).into())
         }
     }
+}
+
+/// Compiles a source and runs its program over its files, on the date of the arguments or today's.
+pub fn go_files<R: Clock + Env + Files + Input + Print + AllocGlobal, L: Listener>(
+    rt: &R,
+    arguments: &GoArguments,
+    listener: &mut L,
+) -> Result<Answer, CommandStop> {
+    let date = JobDate::of(rt, &arguments.run)?;
+    warn_of_date(rt.alloc(), &arguments.run, listener);
+    let arguments = arguments.with(date.arguments(&arguments.run));
+    Ok(go_dated(rt, &arguments, listener)?.into())
 }

@@ -1,263 +1,24 @@
 //! The command that runs an object program over its files.
 
-ghost use Rattle.std.specs.Prelude.{◌≤◌, IfErr, IfOk, IfSome, OnOk};
-ghost use Rattle.rpg_cli_run.specs.Judging.{BreaksBound, BreaksLimit};
-ghost use Rattle.rpg_engine.specs.Bound.{bound};
 ghost use Rattle.rpg_engine.specs.Devices.{CanCountFaults};
-ghost use Rattle.rpg_engine.specs.Objects.{HasObjectFault, SpellsProgram};
 
-use crate::dating::has_date;
 use crate::halting::report_halt;
-use crate::keeping::Kept;
 use crate::looking::run_as_asked;
-use crate::refusing::report_refused;
-use crate::running::{run_over, run_source_over};
-use crate::sources::{OwnSource, own_source};
-use rpg_cli_answers::{
-    Answer, CommandStop, Listener, NamedFile, Reasons, named, refuse_same_file, system_path,
-};
-use rpg_cli_files::{
-    KeptFile, LineTarget, Opened, Pending, RecordSource, file_bytes, input_file, kept_file, lines,
-    output_file, records,
-};
+use rpg_cli_answers::{Answer, CommandStop, Listener, Reasons, named};
+use rpg_cli_files::file_bytes;
 use rpg_cli_halts::HaltedSource;
-use rpg_cli_show_fields::SourceRows;
-use rpg_cli_values::are_six_digits;
-use rpg_cli_words::{FileArgument, RunArguments, is_standard};
-use rpg_engine::{
-    ObjectFault, Program, Readers, Report, RunFault, Verified, Watcher, Writers, accept,
-    decode_object, has_disk_file, has_secondary_file,
+use rpg_cli_jobs::{
+    Devices, JobDate, Kept, WantedFiles, devices_of, empty_files, open_files, program_of,
+    report_wanted, run_over, run_source_over, source_files, warn_of_date,
 };
-use rpg_meaning::CompiledSource;
+use rpg_cli_programs::{OwnSource, own_source, report_object};
+use rpg_cli_show_fields::SourceRows;
+use rpg_cli_words::{FileArgument, RunArguments};
+use rpg_engine::{ObjectFault, Readers, Report, Verified, Watcher, Writers, decode_object};
 use std::alloc::Global;
 use std::fs::OpenFile;
-use std::io::{Printer, Read, Write};
-use std::rt::Files;
-
-/// Returns the path of a file that the program has. A path that the program doesn't need is ignored.
-fn wanted_path<'a>(
-    is_wanted: bool,
-    named: Option<&'a str>,
-    missing: Answer,
-) -> Result<Option<&'a str>, Answer> {
-    match named {
-        _ if !is_wanted => Ok(None),
-        None => Err(missing),
-        named => Ok(named),
-    }
-}
-
-/// The files that only some runs have, if the program needs them.
-#[derive(Clone, Copy)]
-struct WantedFiles<'a> {
-    secondary: Option<&'a str>,
-    disk: Option<&'a str>,
-}
-
-impl<'a> WantedFiles<'a> {
-    /// Returns those that the arguments name. The disk file is checked first, then the secondary file, and the date last.
-    fn of(program: &Program, arguments: &RunArguments<'a>) -> Result<WantedFiles<'a>, Answer> {
-        let disk = wanted_path(
-            has_disk_file(program),
-            arguments.disk,
-            Answer::DiskFileWanted,
-        )?;
-        let has_secondary = has_secondary_file(program);
-        let secondary = wanted_path(
-            has_secondary,
-            arguments.secondary,
-            Answer::SecondaryFileWanted,
-        )?;
-        has_date(program, arguments.date)?;
-        Ok(WantedFiles { secondary, disk })
-    }
-}
-
-/// Checks whether an accepted program may run: first the date, then its bound.
-fn keeps_bound(program: &Verified, date: &str, most: u64) -> Result<(), Answer>
-    ensures kept { OnOk result (bound program.now ≤ most) }
-    ensures refused { IfErr result (λ answer. BreaksBound answer program.now most) }
-{
-    if !are_six_digits(date) {
-        return Err(Answer::Run(RunFault::BadDate));
-    }
-    if program.bound() > most {
-        return Err(Answer::OverLimit {
-            bound: program.bound(),
-        });
-    }
-    Ok(())
-}
-
-/// Checks whether a program may run: first the rules and the date, then its bound.
-fn keeps_limit(
-    accepted: &Result<Verified, ObjectFault>,
-    date: &str,
-    most: u64,
-) -> Result<(), Answer>
-    ensures kept { OnOk result (IfOk accepted.now (λ program. bound program ≤ most)) }
-    ensures refused { IfErr result (λ answer. BreaksLimit answer accepted.now most) }
-{
-    match accepted {
-        Err(fault) => Err(Answer::Object(*fault)),
-        Ok(program) => keeps_bound(program, date, most),
-    }
-}
-
-/// Checks whether a program may run, if this must happen before the other files are opened.
-fn keeps_asked_limit(
-    accepted: &Result<Verified, ObjectFault>,
-    arguments: &RunArguments,
-) -> Result<(), Answer>
-    ensures { OnOk result (IfSome arguments.now.most (λ most. IfOk accepted.now (λ program. bound program ≤ most))) }
-{
-    if let Some(most) = arguments.most {
-        keeps_limit(accepted, arguments.date_text(), most)
-    } else if arguments.keeps {
-        keeps_limit(accepted, arguments.date_text(), u64::MAX)
-    } else {
-        Ok(())
-    }
-}
-
-/// The open files of a run. Output files aren't emptied yet.
-#[derive(Drop)]
-struct RunFiles<F> {
-    input: Opened<F>,
-    secondary: Opened<F>,
-    print: Opened<F>,
-    disk: Opened<F>,
-}
-
-/// Opens the inputs, then the outputs. Those that are written beside their places go into `kept`.
-fn open_files<'a, R: Files + AllocGlobal>(
-    rt: &R,
-    arguments: &RunArguments<'a>,
-    wanted: WantedFiles<'a>,
-    kept: &mut Kept<'a>,
-) -> Result<RunFiles<R::File>, Answer> {
-    let input = read_file(rt, FileArgument::Input, Some(arguments.input))?;
-    let secondary = read_file(rt, FileArgument::Secondary, wanted.secondary)?;
-    let print = written_file(
-        rt,
-        arguments,
-        FileArgument::Print,
-        Some(arguments.print),
-        &mut kept.print,
-    )?;
-    let disk = written_file(
-        rt,
-        arguments,
-        FileArgument::Disk,
-        wanted.disk,
-        &mut kept.disk,
-    )?;
-    Ok(RunFiles {
-        input,
-        secondary,
-        print,
-        disk,
-    })
-}
-
-/// Opens a file for reading, if there is one.
-fn read_file<R: Files>(
-    rt: &R,
-    argument: FileArgument,
-    path: Option<&str>,
-) -> Result<Opened<R::File>, Answer> {
-    match path {
-        None => Ok(Opened::Nothing),
-        Some(path) if is_standard(path) => Ok(Opened::Standard),
-        Some(path) => Ok(Opened::File(named(argument, input_file(rt, path))?)),
-    }
-}
-
-/// Opens a file for writing, if there is one, or creates a new one beside it, which goes into `new`.
-fn written_file<'a, R: Files + AllocGlobal>(
-    rt: &R,
-    arguments: &RunArguments,
-    argument: FileArgument,
-    path: Option<&'a str>,
-    new: &mut Option<Pending<'a>>,
-) -> Result<Opened<R::File>, Answer> {
-    match path {
-        None => Ok(Opened::Nothing),
-        Some(path) if is_standard(path) => Ok(Opened::Standard),
-        Some(path) if arguments.keeps => {
-            let KeptFile { opened, pending } = named(argument, kept_file(rt, path))?;
-            *new = pending;
-            Ok(opened)
-        }
-        Some(path) => Ok(Opened::File(named(argument, output_file(rt, path))?)),
-    }
-}
-
-/// Returns the files that a run reads: the object, its source and both inputs.
-fn read_files<R: Files>(
-    rt: &R,
-    arguments: &RunArguments,
-    files: &RunFiles<R::File>,
-) -> [NamedFile; 4] {
-    let stream = "/dev/stdin";
-    [
-        NamedFile::at(rt, arguments.program, system_path(arguments.object)),
-        NamedFile::named(rt, FileArgument::OwnSource, arguments.source),
-        NamedFile::opened(rt, FileArgument::Input, &files.input, stream),
-        NamedFile::opened(rt, FileArgument::Secondary, &files.secondary, stream),
-    ]
-}
-
-/// Refuses to empty or replace a file that another argument names too.
-fn refuse_shared<R: Files + AllocGlobal>(
-    rt: &R,
-    arguments: &RunArguments,
-    files: &RunFiles<R::File>,
-    kept: &Kept<'_>,
-) -> Result<(), CommandStop> {
-    let stream = "/dev/stdout";
-    let [object, source, primary, secondary] = read_files(rt, arguments, files);
-    let print = NamedFile::written(rt, FileArgument::Print, &files.print, &kept.print, stream);
-    let disk = NamedFile::written(rt, FileArgument::Disk, &files.disk, &kept.disk, stream);
-    let all = [object, source, primary, secondary, print, disk];
-    refuse_same_file(print, &all[..4])?;
-    refuse_same_file(disk, &all[..5])?;
-    kept.refuse_shared(rt, &all)
-}
-
-/// Empties the output files, unless another argument names one of them.
-fn empty_files<R: Files + AllocGlobal>(
-    rt: &R,
-    arguments: &RunArguments,
-    files: &RunFiles<R::File>,
-    kept: &Kept<'_>,
-) -> Result<(), CommandStop> {
-    refuse_shared(rt, arguments, files, kept)?;
-    named(FileArgument::Print, files.print.empty())?;
-    Ok(named(FileArgument::Disk, files.disk.empty())?)
-}
-
-/// What a run reads and writes.
-#[derive(Drop)]
-pub(crate) struct Devices<F: Drop, S: Drop, P: Drop> {
-    input: RecordSource<F, S>,
-    secondary: RecordSource<F, S>,
-    print: LineTarget<F, P>,
-    disk: LineTarget<F, P>,
-}
-
-/// Returns the readers and writers of a run's files.
-fn devices_of<R: Files + Input + Print>(
-    rt: &R,
-    files: RunFiles<R::File>,
-) -> Devices<R::File, R::Reader, Printer<'_, R>> {
-    Devices {
-        input: records(rt, files.input),
-        secondary: records(rt, files.secondary),
-        print: lines(rt, files.print),
-        disk: lines(rt, files.disk),
-    }
-}
+use std::io::{Read, Write};
+use std::rt::{Clock, Env, Files};
 
 /// What can be run.
 #[derive(Clone, Copy)]
@@ -288,7 +49,11 @@ impl<'a> Runnable<'a> {
     fn halted(self) -> Option<HaltedSource<'a>> {
         match self {
             Runnable::Object(_) => None,
-            Runnable::Source(source) => Some(source.halted()),
+            Runnable::Source(source) => Some(HaltedSource {
+                path: source.path,
+                text: source.compiled.text(),
+                rows: &source.rows,
+            }),
         }
     }
 }
@@ -386,44 +151,6 @@ fn run_accepted<R: Files + Input + Print + AllocGlobal, L: Listener>(
     kept.finish(rt, ran, listener)
 }
 
-/// Returns the program of a run, accepted or rejected, and the files that it needs besides those of every run.
-///
-/// The object is decoded first; a disk file, a secondary file or a date that it needs and the arguments don't name is reported. If the
-/// arguments name a limit, or output files keep their contents, the rules, the date and the limit are checked next, before the other files.
-fn program_of<'a>(
-    alloc: Global,
-    arguments: &RunArguments<'a>,
-    object: &[u8],
-) -> Result<(Result<Verified, ObjectFault>, WantedFiles<'a>), Answer>
-    ensures spelled { IfOk result (λ reported. IfOk reported.0 (λ program. SpellsProgram object.now program)) }
-    ensures refused { IfOk result (λ reported. IfErr reported.0 (λ fault. HasObjectFault fault object.now)) }
-    ensures limit { IfOk result (λ reported. IfSome arguments.now.most (λ most. IfOk reported.0 (λ program. bound program ≤ most))) }
-{
-    let program = decode_object(alloc, object)?;
-    let wanted = WantedFiles::of(&program, arguments)?;
-    let accepted = accept(alloc, program);
-    keeps_asked_limit(&accepted, arguments)?;
-    Ok((accepted, wanted))
-}
-
-/// Returns the files that the program of a compiled source needs besides those of every run. A missing date, the date and the limit are
-/// checked next, as for an object.
-fn source_files<'a>(
-    arguments: &RunArguments<'a>,
-    compiled: &CompiledSource,
-) -> Result<WantedFiles<'a>, Answer>
-    ensures limit { OnOk result (IfSome arguments.now.most (λ most. bound compiled.now.program ≤ most)) }
-{
-    let program = compiled.program();
-    let wanted = WantedFiles::of(program.program(), arguments)?;
-    if let Some(most) = arguments.most {
-        keeps_bound(program, arguments.date_text(), most)?;
-    } else if arguments.keeps {
-        keeps_bound(program, arguments.date_text(), u64::MAX)?;
-    }
-    Ok(wanted)
-}
-
 /// Runs a compiled source over its files.
 pub(crate) fn run_own<R: Files + Input + Print + AllocGlobal, L: Listener>(
     rt: &R,
@@ -465,8 +192,23 @@ fn run_named<R: Files + Input + Print + AllocGlobal, L: Listener>(
     }
 }
 
+/// Reports what is wrong with the bytes of a rejected object program, or what it needs.
+fn report_refused<L: Listener>(
+    alloc: Global,
+    arguments: &RunArguments,
+    object: &[u8],
+    answer: Answer,
+    listener: &mut L,
+) {
+    if let Answer::Object(fault) = answer {
+        report_object(alloc, arguments.object, object, fault, listener);
+    } else if let Ok(program) = decode_object(alloc, object) {
+        report_wanted(alloc, arguments, &program, answer, listener);
+    }
+}
+
 /// Runs an object program over its files. Reports why it is rejected, or where its job halted.
-pub fn run_files<R: Files + Input + Print + AllocGlobal, L: Listener>(
+fn run_dated<R: Files + Input + Print + AllocGlobal, L: Listener>(
     rt: &R,
     arguments: &RunArguments,
     listener: &mut L,
@@ -480,4 +222,15 @@ pub fn run_files<R: Files + Input + Print + AllocGlobal, L: Listener>(
         report_refused(rt.alloc(), arguments, &object, answer, listener);
     }
     ran
+}
+
+/// Runs an object program over its files, on the date of the arguments or today's.
+pub fn run_files<R: Clock + Env + Files + Input + Print + AllocGlobal, L: Listener>(
+    rt: &R,
+    arguments: &RunArguments,
+    listener: &mut L,
+) -> Result<Answer, CommandStop> {
+    let date = JobDate::of(rt, arguments)?;
+    warn_of_date(rt.alloc(), arguments, listener);
+    Ok(run_dated(rt, &date.arguments(arguments), listener)?.into())
 }

@@ -1,7 +1,8 @@
 //! Runs a job, and watches its cycles if the arguments ask for it.
 
-use crate::jobs::{Devices, Runnable, run_devices};
+use crate::jobs::{Runnable, run_devices};
 use rpg_cli_answers::{CommandStop, Listener};
+use rpg_cli_jobs::Devices;
 use rpg_cli_trace::{JobNames, Looking};
 use rpg_cli_words::RunArguments;
 use rpg_engine::Report;

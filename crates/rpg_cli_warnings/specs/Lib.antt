@@ -5,4 +5,5 @@ pub mod Indicators
 pub mod Marks
 pub mod Overlaps
 pub mod Pages
+pub mod Warned
 pub mod Warnings

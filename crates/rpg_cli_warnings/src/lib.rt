@@ -12,9 +12,11 @@ mod overlaps;
 mod pages;
 mod testing;
 mod turning;
+mod warned;
 mod warning;
 mod warnings;
 
 pub use messages::warning_messages;
+pub use warned::{deny_warnings, judge_warnings};
 pub use warning::{Warning, WarningKind};
 pub use warnings::{source_warnings, wanted_warnings};

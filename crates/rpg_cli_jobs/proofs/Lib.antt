@@ -1,0 +1,2 @@
+-- Lemmas on runs whose writers are flushed.
+pub mod Flushing

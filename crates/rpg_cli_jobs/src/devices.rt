@@ -1,0 +1,151 @@
+//! The files of a run: opened, compared with one another, emptied, and read and written as devices.
+
+use crate::keeping::Kept;
+use crate::wanted::WantedFiles;
+use rpg_cli_answers::{Answer, CommandStop, NamedFile, named, refuse_same_file, system_path};
+use rpg_cli_files::{
+    KeptFile, LineTarget, Opened, Pending, RecordSource, input_file, kept_file, lines, output_file,
+    records,
+};
+use rpg_cli_words::{FileArgument, RunArguments, is_standard};
+use std::io::Printer;
+use std::rt::Files;
+
+/// The open files of a run. Output files aren't emptied yet.
+#[derive(Drop)]
+pub struct RunFiles<F> {
+    input: Opened<F>,
+    secondary: Opened<F>,
+    print: Opened<F>,
+    disk: Opened<F>,
+}
+
+/// Opens the inputs, then the outputs. Those that are written beside their places go into `kept`.
+pub fn open_files<'a, R: Files + AllocGlobal>(
+    rt: &R,
+    arguments: &RunArguments<'a>,
+    wanted: WantedFiles<'a>,
+    kept: &mut Kept<'a>,
+) -> Result<RunFiles<R::File>, Answer> {
+    let input = read_file(rt, FileArgument::Input, Some(arguments.input))?;
+    let secondary = read_file(rt, FileArgument::Secondary, wanted.secondary)?;
+    let print = written_file(
+        rt,
+        arguments,
+        FileArgument::Print,
+        Some(arguments.print),
+        &mut kept.print,
+    )?;
+    let disk = written_file(
+        rt,
+        arguments,
+        FileArgument::Disk,
+        wanted.disk,
+        &mut kept.disk,
+    )?;
+    Ok(RunFiles {
+        input,
+        secondary,
+        print,
+        disk,
+    })
+}
+
+/// Opens a file for reading, if there is one.
+fn read_file<R: Files>(
+    rt: &R,
+    argument: FileArgument,
+    path: Option<&str>,
+) -> Result<Opened<R::File>, Answer> {
+    match path {
+        None => Ok(Opened::Nothing),
+        Some(path) if is_standard(path) => Ok(Opened::Standard),
+        Some(path) => Ok(Opened::File(named(argument, input_file(rt, path))?)),
+    }
+}
+
+/// Opens a file for writing, if there is one, or creates a new one beside it, which goes into `new`.
+fn written_file<'a, R: Files + AllocGlobal>(
+    rt: &R,
+    arguments: &RunArguments,
+    argument: FileArgument,
+    path: Option<&'a str>,
+    new: &mut Option<Pending<'a>>,
+) -> Result<Opened<R::File>, Answer> {
+    match path {
+        None => Ok(Opened::Nothing),
+        Some(path) if is_standard(path) => Ok(Opened::Standard),
+        Some(path) if arguments.keeps => {
+            let KeptFile { opened, pending } = named(argument, kept_file(rt, path))?;
+            *new = pending;
+            Ok(opened)
+        }
+        Some(path) => Ok(Opened::File(named(argument, output_file(rt, path))?)),
+    }
+}
+
+/// Returns the files that a run reads: the object, its source and both inputs.
+fn read_files<R: Files>(
+    rt: &R,
+    arguments: &RunArguments,
+    files: &RunFiles<R::File>,
+) -> [NamedFile; 4] {
+    let stream = "/dev/stdin";
+    [
+        NamedFile::at(rt, arguments.program, system_path(arguments.object)),
+        NamedFile::named(rt, FileArgument::OwnSource, arguments.source),
+        NamedFile::opened(rt, FileArgument::Input, &files.input, stream),
+        NamedFile::opened(rt, FileArgument::Secondary, &files.secondary, stream),
+    ]
+}
+
+/// Refuses to empty or replace a file that another argument names too.
+fn refuse_shared<R: Files + AllocGlobal>(
+    rt: &R,
+    arguments: &RunArguments,
+    files: &RunFiles<R::File>,
+    kept: &Kept<'_>,
+) -> Result<(), CommandStop> {
+    let stream = "/dev/stdout";
+    let [object, source, primary, secondary] = read_files(rt, arguments, files);
+    let print = NamedFile::written(rt, FileArgument::Print, &files.print, &kept.print, stream);
+    let disk = NamedFile::written(rt, FileArgument::Disk, &files.disk, &kept.disk, stream);
+    let all = [object, source, primary, secondary, print, disk];
+    refuse_same_file(print, &all[..4])?;
+    refuse_same_file(disk, &all[..5])?;
+    kept.refuse_shared(rt, &all)
+}
+
+/// Empties the output files, unless another argument names one of them.
+pub fn empty_files<R: Files + AllocGlobal>(
+    rt: &R,
+    arguments: &RunArguments,
+    files: &RunFiles<R::File>,
+    kept: &Kept<'_>,
+) -> Result<(), CommandStop> {
+    refuse_shared(rt, arguments, files, kept)?;
+    named(FileArgument::Print, files.print.empty())?;
+    Ok(named(FileArgument::Disk, files.disk.empty())?)
+}
+
+/// What a run reads and writes.
+#[derive(Drop)]
+pub struct Devices<F: Drop, S: Drop, P: Drop> {
+    pub input: RecordSource<F, S>,
+    pub secondary: RecordSource<F, S>,
+    pub print: LineTarget<F, P>,
+    pub disk: LineTarget<F, P>,
+}
+
+/// Returns the readers and writers of a run's files.
+pub fn devices_of<R: Files + Input + Print>(
+    rt: &R,
+    files: RunFiles<R::File>,
+) -> Devices<R::File, R::Reader, Printer<'_, R>> {
+    Devices {
+        input: records(rt, files.input),
+        secondary: records(rt, files.secondary),
+        print: lines(rt, files.print),
+        disk: lines(rt, files.disk),
+    }
+}

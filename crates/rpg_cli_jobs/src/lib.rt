@@ -1,0 +1,16 @@
+//! What a job has from the arguments: its date, its limit and its files, and the run over them.
+#![tactic(auto)]
+
+mod dating;
+mod devices;
+mod keeping;
+mod limits;
+mod running;
+mod wanted;
+
+pub use dating::{JobDate, warn_of_date};
+pub use devices::{Devices, RunFiles, devices_of, empty_files, open_files};
+pub use keeping::Kept;
+pub use limits::{program_of, source_files};
+pub use running::{run_over, run_source_over};
+pub use wanted::{WantedFiles, report_wanted};

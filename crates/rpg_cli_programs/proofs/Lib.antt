@@ -1,0 +1,2 @@
+-- Lemmas on spelled programs.
+pub mod Spelled

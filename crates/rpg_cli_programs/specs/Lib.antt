@@ -1,0 +1,3 @@
+-- The answers for sources and objects, given their bytes.
+pub mod Judging
+pub mod Spelling

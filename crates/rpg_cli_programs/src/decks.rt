@@ -1,0 +1,110 @@
+//! The command that converts shorthand to cards, and cards to shorthand.
+
+use rpg_cli_answers::{Answer, CommandStop, Listener, named, report_message, source_bytes};
+use rpg_cli_messages::{card_message, is_object, object_message};
+use rpg_cli_shorthand::{RULER, ShorthandFault, deck_of, line_message, shorthand_of};
+use rpg_cli_words::{CardsArguments, CardsWanted, FileArgument};
+use rpg_faults::{CardFault, SourceFault};
+use std::alloc::Global;
+use std::rt::Files;
+
+/// Converts shorthand to cards. Reports the first line that isn't a card.
+fn deck_text<L: Listener>(
+    alloc: Global,
+    path: &str,
+    shorthand: &[u8],
+    listener: &mut L,
+) -> Result<String, Answer> {
+    match deck_of(alloc, shorthand) {
+        Ok(text) => Ok(text),
+        Err(ShorthandFault::At { line, fault }) => {
+            let message = if is_object(shorthand) {
+                object_message(alloc, path)
+            } else {
+                line_message(alloc, path, line, fault)
+            };
+            report_message(listener, message);
+            Err(Answer::NoCard { line })
+        }
+        Err(ShorthandFault::NoMemory) => Err(Answer::NoMemory),
+    }
+}
+
+/// Converts cards to shorthand. Reports the first one that isn't a card.
+fn shorthand_text<L: Listener>(
+    alloc: Global,
+    path: &str,
+    source: &[u8],
+    listener: &mut L,
+) -> Result<String, Answer> {
+    match shorthand_of(alloc, source) {
+        Ok(text) => Ok(text),
+        Err(fault) => {
+            report_card(alloc, path, source, fault, listener);
+            Err(fault.into())
+        }
+    }
+}
+
+fn report_card<L: Listener>(
+    alloc: Global,
+    path: &str,
+    source: &[u8],
+    fault: SourceFault,
+    listener: &mut L,
+) {
+    let SourceFault::At {
+        card,
+        code,
+        columns,
+    } = fault
+    else {
+        return;
+    };
+    let fault = CardFault {
+        card,
+        code,
+        columns,
+        cause: None,
+    };
+    report_message(listener, card_message(alloc, path, source, &fault));
+}
+
+/// Converts a file to cards or shorthand, as the arguments ask.
+fn wanted_text<L: Listener>(
+    alloc: Global,
+    arguments: &CardsArguments,
+    source: &[u8],
+    listener: &mut L,
+) -> Result<String, Answer> {
+    match arguments.wanted {
+        CardsWanted::Cards | CardsWanted::RuledCards => {
+            deck_text(alloc, arguments.source, source, listener)
+        }
+        CardsWanted::Shorthand => shorthand_text(alloc, arguments.source, source, listener),
+    }
+}
+
+/// Prints cards, below a ruler if the arguments ask for one, or shorthand.
+fn show_text<L: Listener>(
+    arguments: &CardsArguments,
+    text: &str,
+    listener: &mut L,
+) -> Result<Answer, CommandStop> {
+    if let CardsWanted::RuledCards = arguments.wanted {
+        listener.show(RULER)?;
+    }
+    listener.show(text)?;
+    Ok(Answer::Deck)
+}
+
+/// Prints the cards of a shorthand file, or the shorthand of a file of cards.
+pub fn cards_file<R: Files + Input + AllocGlobal, L: Listener>(
+    rt: &R,
+    arguments: &CardsArguments,
+    listener: &mut L,
+) -> Result<Answer, CommandStop> {
+    let source = named(FileArgument::Source, source_bytes(rt, arguments.source))?;
+    let text = wanted_text(rt.alloc(), arguments, &source, listener)?;
+    show_text(arguments, text.as_str(), listener)
+}

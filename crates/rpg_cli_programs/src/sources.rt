@@ -1,0 +1,84 @@
+//! The source of an object program that is shown or run, if the arguments name it.
+
+use crate::judging::matched;
+use rpg_cli_answers::{Answer, Listener, named, report_message};
+use rpg_cli_files::file_bytes;
+use rpg_cli_messages::source_messages;
+use rpg_cli_show_fields::SourceRows;
+use rpg_cli_words::FileArgument;
+use rpg_faults::{faultless_cards, source_faults};
+use rpg_meaning::CompiledSource;
+use std::alloc::Global;
+use std::rt::Files;
+
+/// The most faults of the source that are listed.
+const MAX_LISTED: u16 = 20;
+
+/// The source of the program: its path, what it compiles to, and the cards of its rows.
+#[derive(Drop)]
+pub struct OwnSource<'a> {
+    pub path: &'a str,
+    pub compiled: CompiledSource,
+    pub rows: SourceRows,
+}
+
+impl<'a> OwnSource<'a> {
+    /// Returns the source's cards by row.
+    pub fn of(
+        alloc: Global,
+        path: &'a str,
+        compiled: CompiledSource,
+    ) -> Result<OwnSource<'a>, Answer> {
+        let rows = rows_of(alloc, compiled.text())?;
+        Ok(OwnSource {
+            path,
+            compiled,
+            rows,
+        })
+    }
+}
+
+fn rows_of(alloc: Global, text: &[u8]) -> Result<SourceRows, Answer> {
+    let source = faultless_cards(alloc, text)?;
+    Ok(SourceRows::of_cards(alloc, &source.cards)?)
+}
+
+/// Returns the source that an argument names, if it compiles to the object. Reports its faults, if it has any.
+pub fn own_source<'a, R: Files + AllocGlobal, L: Listener>(
+    rt: &R,
+    path: Option<&'a str>,
+    object: &[u8],
+    listener: &mut L,
+) -> Result<Option<OwnSource<'a>>, Answer> {
+    let Some(path) = path else {
+        return Ok(None);
+    };
+    let text = named(FileArgument::OwnSource, file_bytes(rt, path))?;
+    match matched(rt.alloc(), text, object) {
+        Ok(compiled) => Ok(Some(OwnSource::of(rt.alloc(), path, compiled)?)),
+        Err((text, answer)) => {
+            if let Answer::Source(_) = answer {
+                report_faults(rt.alloc(), path, &text, MAX_LISTED, listener);
+            }
+            Err(answer)
+        }
+    }
+}
+
+/// Reports the faults of a source, if it has any. If memory runs out for the messages, only the line says what is wrong.
+pub fn report_faults<L: Listener>(
+    alloc: Global,
+    path: &str,
+    source: &[u8],
+    most: u16,
+    listener: &mut L,
+) {
+    let Ok(judged) = source_faults(alloc, source) else {
+        return;
+    };
+    if judged.faults.is_empty() {
+        return;
+    }
+    let messages = source_messages(alloc, path, source, &judged, most);
+    report_message(listener, messages);
+}

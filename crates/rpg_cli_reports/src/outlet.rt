@@ -1,0 +1,38 @@
+//! Where the line of an answer goes.
+
+use rpg_cli_words::Request;
+
+/// Where the line of an answer and the text before it go.
+#[derive(Clone, Copy)]
+pub struct Outlet {
+    pub name: &'static str,
+    /// Whether its reader may close it early, as `head` does.
+    pub may_close: bool,
+}
+
+impl Outlet {
+    pub const STANDARD_OUTPUT: Outlet = Outlet {
+        name: "standard output",
+        may_close: false,
+    };
+
+    pub const PAGES: Outlet = Outlet {
+        name: "standard output",
+        may_close: true,
+    };
+
+    const STANDARD_ERROR: Outlet = Outlet {
+        name: "standard error",
+        may_close: false,
+    };
+
+    pub fn of(request: &Request) -> Outlet {
+        match request {
+            Request::List(_) | Request::Cards(_) | Request::Show(_) | Request::Explain(_) => {
+                Outlet::PAGES
+            }
+            _ if request.writes_standard_output() => Outlet::STANDARD_ERROR,
+            _ => Outlet::STANDARD_OUTPUT,
+        }
+    }
+}

@@ -1,0 +1,128 @@
+//! Prints the line of an answer, with its diagnostic, or explains why the arguments are rejected.
+
+ghost use Rattle.std.specs.Prelude.{◌≤◌};
+ghost use Rattle.rpg_cli_reports.specs.Saying.{PrintsALine, Says, SaysOrIsQuiet, WritesLine};
+
+use crate::outlet::Outlet;
+use crate::reporting::{report_answer, report_unwritten};
+use rpg_cli_answers::{Answer, Listener, Reasons, json_line, line};
+use rpg_cli_files::{Reason, send_line};
+use rpg_cli_words::{AnswerArguments, Format, Refusal, Request};
+use std::alloc::Global;
+use std::io::Write;
+
+/// Writes a line, and returns the status, or reports that it can't be written and returns 1.
+fn send<W: Write, L: Listener>(
+    out: &mut W,
+    outlet: Outlet,
+    text: &[u8],
+    status: u8,
+    listener: &mut L,
+) -> u8
+    ensures { WritesLine (W.contents out.old) (W.contents out.new) text.now status result }
+{
+    match send_line(out, text) {
+        Ok(()) => status,
+        Err(reason) => {
+            report_unwritten(outlet, reason, listener);
+            1
+        }
+    }
+}
+
+/// Prints the line or the object of an answer, and returns the exit status. Reports it if that can't be written.
+pub fn say<W: Write, L: Listener>(
+    out: &mut W,
+    outlet: Outlet,
+    format: Format,
+    answer: &Answer,
+    listener: &mut L,
+) -> u8
+    ensures { Says format (W.contents out.old) (W.contents out.new) result answer.now }
+{
+    match format {
+        Format::Text => {
+            let said = line(answer);
+            send(out, outlet, said.text.as_slice(), said.status, listener)
+        }
+        Format::Json => {
+            let said = json_line(answer);
+            send(out, outlet, said.text.as_slice(), said.status, listener)
+        }
+    }
+}
+
+/// Prints the line of an answer, except that of a success if the command is quiet, and returns the exit status.
+fn say_if_wanted<W: Write, L: Listener>(
+    out: &mut W,
+    outlet: Outlet,
+    is_quiet: bool,
+    format: Format,
+    answer: &Answer,
+    listener: &mut L,
+) -> u8
+    ensures { SaysOrIsQuiet is_quiet format (W.contents out.old) (W.contents out.new) result answer.now }
+{
+    if is_quiet && line(answer).status == 0 {
+        0
+    } else {
+        say(out, outlet, format, answer, listener)
+    }
+}
+
+/// Prints clap's text, or reports why help couldn't be written, and returns the exit status.
+fn explain_refusal<R: Print + Eprint + AllocGlobal, L: Listener>(
+    rt: &R,
+    refusal: &Refusal,
+    listener: &mut L,
+) -> u8
+    ensures { result ≤ 2 }
+{
+    match refusal.explain(rt) {
+        Ok(status) => status,
+        Err(error) => {
+            report_unwritten(Outlet::PAGES, Reason::of(error.kind()), listener);
+            1
+        }
+    }
+}
+
+/// Reports a fault of the command line, or prints the requested help, and returns the exit status.
+pub fn refuse<R: Print + Eprint + AllocGlobal, W: Write, L: Listener>(
+    rt: &R,
+    refusal: &Refusal,
+    out: &mut W,
+    listener: &mut L,
+) -> u8
+    ensures { PrintsALine (W.contents out.old) (W.contents out.new) result }
+{
+    if refusal.is_no_memory() {
+        say(
+            out,
+            Outlet::STANDARD_OUTPUT,
+            Format::Text,
+            &Answer::NoMemory,
+            listener,
+        )
+    } else {
+        explain_refusal(rt, refusal, listener)
+    }
+}
+
+/// Prints the line of an answer, unless the command is quiet, adds the diagnostic, and returns the exit status.
+pub fn conclude<W: Write, L: Listener>(
+    alloc: Global,
+    request: &Request,
+    answer: &Answer,
+    reasons: Reasons,
+    out: &mut W,
+    listener: &mut L,
+) -> u8
+    ensures { PrintsALine (W.contents out.old) (W.contents out.new) result }
+{
+    let outlet = Outlet::of(request);
+    let AnswerArguments { is_quiet, format } = request.answer();
+    let status = say_if_wanted(out, outlet, is_quiet, format, answer, listener);
+    report_answer(alloc, request, answer, reasons, listener);
+    status
+}
