@@ -3,7 +3,7 @@
 
 usage, at the top of the repository:
     bench/gate.py                           runs tests/all.py, whose own lines come through as it prints them
-    bench/gate.py make run                  measures another command in the same way
+    bench/gate.py make prove                measures another command in the same way
 
 After the command's own lines it prints a table, a line for each crate, in seconds of a processor:
     proof   the check of the crate from nothing

@@ -1,5 +1,5 @@
 #!/usr/bin/env python3
-"""Tries wrong definitions: the proofs that the compiler's agree with those of rpg_job, and the equations of operations, must refuse each of them.
+"""Tries wrong definitions: the proofs that the compiler's agree with those of what cards mean, and the equations of operations, must refuse each of them.
 
 usage, at the top of the repository, once the libraries stand (`rt ci`, or `rt all check`):
     bench/wrong_definitions.py [--libraries FOLDER ..] [NAME..]
@@ -26,8 +26,8 @@ KIT = Path(os.path.realpath(shutil.which("rt") or sys.exit("there is no rt"))).p
 CRATE = "wrong_definitions"
 # the definitions that may be wrong, or that stand above such a one
 DEFINITIONS = (
-    "rpg_program", "rpg_cards", "rpg_symbols", "rpg_faults_flow", "rpg_faults_operands", "rpg_faults_limits", "rpg_faults_data", "rpg_faults_tree", "rpg_faults",
-    "rpg_compile_program", "rpg_job", "rpg_meaning",
+    "rpg_program", "rpg_cards", "rpg_symbols", "rpg_faults_flow", "rpg_faults_operands", "rpg_faults_limits", "rpg_faults_data", "rpg_faults",
+    "rpg_compile_program", "rpg_meaning",
 )
 # the proofs of the equations
 EQUATIONS = {

@@ -1,7 +1,9 @@
+pub mod Bits
 pub mod Carried
-pub mod Groups
+pub mod Flowing
 pub mod LabelLemmas
+pub mod Listing
 pub mod Options
 pub mod OrderLemmas
 pub mod StrayLemmas
-pub mod Tests
+pub mod TargetRules

@@ -12,8 +12,9 @@ use Rattle.rpg_cards.specs.Labels.{begins_subroutine, brackets, ends, is_begsr, 
 use Rattle.rpg_cards.specs.Sections.{is_subroutine}
 use Rattle.rpg_cards.specs.declared.spec_card.SpecCard.{SpecCard}
 use Rattle.rpg_causes_flow.proofs.Options.{or_none, some_if, some_or, unless_some}
-use Rattle.rpg_causes_flow.specs.Order.{begun_name, bracket_card, closes, first_later, if_later, if_outside, last_bracket, next_bracket, of_end, of_group, opens, order_cause}
+use Rattle.rpg_causes_flow.specs.Order.{begun_name, bracket_card, closes, first_above, first_later, if_above, if_outside, last_bracket, next_bracket, of_end, of_group, opens, order_cause}
 use Rattle.rpg_causes_flow.specs.declared.brackets.Bracket.{Bracket}
+use Rattle.rpg_causes_flow.specs.declared.flow.Later.{Later}
 use Rattle.rpg_causes_flow.specs.declared.order.OrderCause.{OrderCause}
 use Rattle.rpg_causes_flow.specs.declared.order.OrderCause.TheVariants.{Early, NoBegsr, NoEndsr, Outside, OutsideSection, Unjoined}
 use Rattle.rpg_faults_flow.proofs.Ending.{group_at-is}
@@ -24,10 +25,11 @@ use Rattle.rpg_faults_flow.specs.Order.{breaks_calculation, breaks_group, breaks
 use Rattle.rpg_causes_flow.specs.ByCard.{level_of_group}
 use Rattle.rpg_sheet_specs.specs.declared.calculation.CalculationSpec.{CalculationSpec}
 use Rattle.rpg_sheet_specs.specs.declared.calculation.ControlLevel.{ControlLevel}
+use Rattle.rpg_sheet_specs.specs.declared.calculation.ControlLevel.TheVariants as control
 
 -- ---- the last bracket before
 
-never_both : (d : Statement Key) → (is_begsr d && is_endsr d) ≡ false
+pub never_both : (d : Statement Key) → (is_begsr d && is_endsr d) ≡ false
 never_both (Begins n) = refl
 never_both (Ends l) = refl
 never_both (Acts a) = refl
@@ -44,10 +46,10 @@ one_of_two true true false never one = refl
 one_of_two true false true never one = refl
 one_of_two true false false never one = absurd cc
 
-abbrev mark_at : ℕ → Bool → Bracket
+abbrev pub mark_at : ℕ → Bool → Bracket
 mark_at n is_end = record { card = n; is_end = is_end }
 
-abbrev mark : SpecCard → Bool → Bracket
+abbrev pub mark : SpecCard → Bool → Bracket
 mark c is_end = mark_at c.number is_end
 
 -- a subroutine is open after a bracket, or else as before
@@ -103,20 +105,44 @@ closed_is o (c ∷ cs) =
 
 -- ---- on the first card of a group
 
+above_is : (r : ℕ) (cards : List SpecCard) → is_some (first_above r cards) ≡ list_any (λ (j : CalculationSpec). nat_lt r (section_rank j.control_level)) (calculation_specs_in cards)
+above_is r [] = refl
+above_is r (c ∷ cs) = by (calculation_on c.spec) (above_is r cs)
+  where
+    test : (j : CalculationSpec) → is_some (option_or (if_above r c j) (first_above r cs)) ≡ (nat_lt r (section_rank j.control_level) || is_some (first_above r cs))
+    test j = some_or (if_above r c j) (first_above r cs) ∙ ap (λ b. b || is_some (first_above r cs)) (some_if {X = Later} (record { level = j.control_level; card = c.number }) (nat_lt r (section_rank j.control_level)))
+
+    by : (x : Option CalculationSpec) → is_some (first_above r cs) ≡ list_any (λ (j : CalculationSpec). nat_lt r (section_rank j.control_level)) (calculation_specs_in cs)
+        → is_some (option_or (option_and_then (if_above r c) x) (first_above r cs)) ≡ list_any (λ (j : CalculationSpec). nat_lt r (section_rank j.control_level)) (cons_option x (calculation_specs_in cs))
+    by None e = e
+    by (Some j) e = test j ∙ ap (λ b. nat_lt r (section_rank j.control_level) || b) e
+
 later_is : (own : ControlLevel) (cards : List SpecCard)
     → is_some (first_later own cards) ≡ list_any (λ (j : CalculationSpec). nat_lt (section_rank own) (section_rank j.control_level)) (calculation_specs_in cards)
-later_is own [] = refl
-later_is own (c ∷ cs) = by (calculation_on c.spec) (later_is own cs)
+later_is own cards = by (first_above (section_rank own) cards) ∙ above_is (section_rank own) cards
   where
-    test : (j : CalculationSpec) → is_some (option_or (if_later own c j) (first_later own cs)) ≡ (nat_lt (section_rank own) (section_rank j.control_level) || is_some (first_later own cs))
-    test j = some_or (if_later own c j) (first_later own cs) ∙ ap (λ b. b || is_some (first_later own cs)) (some_if (Early own j.control_level c.number) (nat_lt (section_rank own) (section_rank j.control_level)))
+    by : (l : Option Later) → is_some (option_map (λ (x : Later). Early own x.level x.card) l) ≡ is_some l
+    by None = refl
+    by (Some x) = refl
 
-    by : (x : Option CalculationSpec)
-        → is_some (first_later own cs) ≡ list_any (λ (j : CalculationSpec). nat_lt (section_rank own) (section_rank j.control_level)) (calculation_specs_in cs)
-        → is_some (option_or (option_and_then (if_later own c) x) (first_later own cs))
-        ≡ list_any (λ (j : CalculationSpec). nat_lt (section_rank own) (section_rank j.control_level)) (cons_option x (calculation_specs_in cs))
+-- no section is later than that of subroutines
+not_above : (l : ControlLevel) → nat_lt 2 (section_rank l) ≡ false
+not_above control.Detail = refl
+not_above (control.Total i) = refl
+not_above control.Subroutine = refl
+not_above control.And = refl
+not_above control.Or = refl
+
+abbrev later_at : ControlLevel → ℕ → Later
+later_at l n = record { level = l; card = n }
+
+pub none_above : (cards : List SpecCard) → first_above 2 cards ≡ None
+none_above [] = refl
+none_above (c ∷ cs) = by (calculation_on c.spec) (none_above cs)
+  where
+    by : (x : Option CalculationSpec) → first_above 2 cs ≡ None → option_or (option_and_then (if_above 2 c) x) (first_above 2 cs) ≡ None
     by None e = e
-    by (Some j) e = test j ∙ ap (λ b. nat_lt (section_rank own) (section_rank j.control_level) || b) e
+    by (Some j) e = ap (λ b. option_or (cond b (Some (later_at j.control_level c.number)) None) (first_above 2 cs)) (not_above j.control_level) ∙ e
 
 first_completed : (g : CalculationGroup) (after : List SpecCard) → (completed g after).first ≡ g.first
 first_completed g [] = refl

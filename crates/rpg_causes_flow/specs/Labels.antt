@@ -16,9 +16,12 @@ use Rattle.rpg_causes_flow.specs.declared.labels.NowhereCause.{NowhereCause}
 use Rattle.rpg_causes_flow.specs.declared.labels.NowhereCause.TheVariants.{Absent, Other}
 use Rattle.rpg_causes_flow.specs.declared.labels.Target.{Target}
 use Rattle.rpg_causes_flow.specs.declared.labels.TwiceCause.{TwiceCause}
+use Rattle.rpg_causes_flow.specs.declared.labels.TwiceFault.{TwiceFault}
 use Rattle.rpg_causes_flow.specs.declared.labels.TwiceCause.TheVariants.{EveryProgram, Field, Given}
-use Rattle.rpg_faults_flow.specs.Flow.{alike}
+use Rattle.rpg_faults_flow.specs.Flow.{alike, calls_itself, leaves_its_section}
 use Rattle.rpg_sheet_specs.specs.declared.calculation.CalculationSpec.{CalculationSpec}
+use Rattle.rpg_sheet_specs.specs.declared.column_range.ColumnRange.{ColumnRange}
+use Rattle.rpg_sheet_specs.specs.declared.column_range.ColumnRange.TheVariants as range
 
 -- ---- the card that defines a name
 
@@ -75,11 +78,15 @@ of_definition before c after d = if_given before c after d.name
 abbrev pub any_given : List SpecCard → SpecCard → List SpecCard → List Definition → Bool
 any_given before c after ds = list_any (λ (d : Definition). is_some (label_named d.name (labels (calculations_before before (c ∷ after))))) ds
 
--- F11 of a card
-abbrev pub twice : List SpecCard → SpecCard → List SpecCard → Option TwiceCause
+-- a cause, with its columns
+abbrev pub twice_at : ColumnRange → TwiceCause → TwiceFault
+twice_at at cause = record { at = at; cause = cause }
+
+-- F11 of a card: the label or the subroutine that it defines, otherwise a field that is already one
+abbrev pub twice : List SpecCard → SpecCard → List SpecCard → Option TwiceFault
 twice before c after =
-    option_or (option_and_then (of_given before c after) (name_given_on c after))
-    (first_some (of_definition before c after) (definitions_on c.spec))
+    option_or (option_map (twice_at range.FirstFactor) (option_and_then (of_given before c after) (name_given_on c after)))
+    (option_map (twice_at range.ResultName) (first_some (of_definition before c after) (definitions_on c.spec)))
 
 -- ---- F13, F14: the label or the subroutine that a card names
 
@@ -94,3 +101,11 @@ target_of cards k = option_and_then (target_by cards) (target_name (statement_of
 -- that of a card
 abbrev pub card_target : List SpecCard → SpecCard → List SpecCard → Option Target
 card_target cards c after = option_and_then (target_of cards) (card_ending c after)
+
+-- F13: the label that the calculation goes to, if that is in another section
+abbrev pub apart : List SpecCard → List SpecCard → SpecCard → List SpecCard → Option Target
+apart cards before c after = if leaves_its_section cards before c after then card_target cards c after else None
+
+-- F14: the subroutine that the calculation calls, if that one reaches the one it is in
+abbrev pub recursion : List SpecCard → List SpecCard → SpecCard → List SpecCard → Option Target
+recursion cards before c after = if calls_itself cards before c after then card_target cards c after else None

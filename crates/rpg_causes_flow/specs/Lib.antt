@@ -1,6 +1,6 @@
 pub mod ByCard
-pub mod Columns
+pub mod Flow
+pub mod Index
 pub mod Labels
 pub mod Order
-pub mod Rounding
 pub mod Strays

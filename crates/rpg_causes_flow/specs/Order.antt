@@ -10,12 +10,15 @@ use Rattle.rpg_cards.specs.Sections.{is_subroutine}
 use Rattle.rpg_cards.specs.declared.labels.Named.{Named}
 use Rattle.rpg_cards.specs.declared.spec_card.SpecCard.{SpecCard}
 use Rattle.rpg_causes_flow.specs.declared.brackets.Bracket.{Bracket}
+use Rattle.rpg_causes_flow.specs.declared.flow.Later.{Later}
 use Rattle.rpg_causes_flow.specs.declared.order.OrderCause.{OrderCause}
 use Rattle.rpg_causes_flow.specs.declared.order.OrderCause.TheVariants.{Early, NoBegsr, NoEndsr, Outside, OutsideSection, Unjoined}
 use Rattle.rpg_causes_flow.specs.ByCard.{bracket_at, calculation_level, level_with}
 use Rattle.rpg_faults_flow.specs.Order.{is_bracket, section_rank}
 use Rattle.rpg_causes_flow.specs.ByCard.{level_of_group}
 use Rattle.rpg_sheet_specs.specs.declared.calculation.CalculationSpec.{CalculationSpec}
+use Rattle.rpg_sheet_specs.specs.declared.column_range.ColumnRange.{ColumnRange}
+use Rattle.rpg_sheet_specs.specs.declared.column_range.ColumnRange.TheVariants as range
 use Rattle.rpg_sheet_specs.specs.declared.calculation.ControlLevel.{ControlLevel}
 
 -- ---- BEGSR and ENDSR of SR groups, by the cards on which their groups end
@@ -48,14 +51,18 @@ bracket_card b = option_map (λ (x : Bracket). x.card) b
 
 -- ---- on the first card of a group
 
--- the card is of a later section
-abbrev pub if_later : ControlLevel → SpecCard → CalculationSpec → Option OrderCause
-if_later own c j = if nat_lt (section_rank own) (section_rank j.control_level) then Some (Early own j.control_level c.number) else None
+-- the card is of a section with a higher rank
+abbrev pub if_above : ℕ → SpecCard → CalculationSpec → Option Later
+if_above r c j = if nat_lt r (section_rank j.control_level) then Some (record { level = j.control_level; card = c.number }) else None
+
+-- the first of the cards that is
+abbrev pub first_above : ℕ → List SpecCard → Option Later
+first_above r [] = None
+first_above r (c ∷ cs) = option_or (option_and_then (if_above r c) (calculation_on c.spec)) (first_above r cs)
 
 -- the first of the cards that is of a later section
 abbrev pub first_later : ControlLevel → List SpecCard → Option OrderCause
-first_later own [] = None
-first_later own (c ∷ cs) = option_or (option_and_then (if_later own c) (calculation_on c.spec)) (first_later own cs)
+first_later own cards = option_map (λ (l : Later). Early own l.level l.card) (first_above (section_rank own) cards)
 
 -- SR in no subroutine, with the last BEGSR or ENDSR before
 abbrev pub if_outside : CalculationSpec → List SpecCard → Option Bracket → Option OrderCause
@@ -110,3 +117,11 @@ abbrev pub order_cause : List SpecCard → SpecCard → List SpecCard → Option
 order_cause before c after =
     option_or (option_and_then (first_card before c after) (calculation_on c.spec))
     (option_and_then (of_end before c after) (card_ending c after))
+
+-- the columns of a calculation that is out of order: BEGSR or ENDSR, otherwise those of the section or of AN and OR
+abbrev pub bracket_range : CalculationSpec → ColumnRange
+bracket_range k = if is_bracket (statement_of k) then range.Operation else range.ControlLevel
+
+-- those of a card, if it is a C card
+abbrev pub order_range : SpecCard → Option ColumnRange
+order_range c = option_map bracket_range (calculation_on c.spec)

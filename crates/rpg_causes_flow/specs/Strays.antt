@@ -7,6 +7,8 @@ use Rattle.rpg_cards.specs.declared.spec_card.SpecCard.{SpecCard}
 use Rattle.rpg_causes_flow.specs.declared.strays.StrayCause.{StrayCause}
 use Rattle.rpg_causes_flow.specs.declared.strays.StrayCause.TheVariants.{NoLine, NoType, OtherThanLine, OtherThanType}
 use Rattle.rpg_faults_flow.specs.Strays.{card_right_before, follows_codes, follows_conditions}
+use Rattle.rpg_sheet_specs.specs.declared.column_range.ColumnRange.{ColumnRange}
+use Rattle.rpg_sheet_specs.specs.declared.column_range.ColumnRange.TheVariants as range
 use Rattle.rpg_sheet_specs.specs.declared.input.InputSpec.{InputSpec}
 use Rattle.rpg_sheet_specs.specs.declared.input.InputSpec.TheVariants as input
 use Rattle.rpg_sheet_specs.specs.declared.output.OutputSpec.{OutputSpec}
@@ -38,3 +40,10 @@ abbrev pub stray_cause : List SpecCard → SpecCard → Option StrayCause
 stray_cause before c =
     option_or (option_and_then (input_stray_cause (is_some (open_group input_role before)) before) (input_on c.spec))
     (option_and_then (output_stray_cause (is_some (open_group output_role before)) before) (output_on c.spec))
+
+-- the name of the field that belongs to no type or line; none for the card as a whole
+abbrev pub stray_range : StrayCause → Option ColumnRange
+stray_range NoType = Some range.InputName
+stray_range (OtherThanType card) = None
+stray_range NoLine = Some range.OutputName
+stray_range (OtherThanLine card) = None

@@ -6,14 +6,17 @@ ghost use Rattle.rpg_cards.specs.Calculations.{calculation_ending, calculations_
 ghost use Rattle.rpg_cards.specs.Labels as known;
 ghost use Rattle.rpg_cards.specs.Names as names;
 ghost use Rattle.rpg_cards.specs.declared.spec_card.SpecCard.{SpecCard};
+ghost use Rattle.rpg_causes_flow.specs.Flow.{IsFlow};
 ghost use Rattle.rpg_causes_flow.specs.Labels as causes;
 ghost use Rattle.rpg_causes_operands.specs.Names as defined;
 ghost use Rattle.rpg_faults_flow.specs.Flow as rules;
 
+use crate::flow::Flow;
+use crate::index::Labels;
 use rpg_card_index::IndexedCards;
 use rpg_cards::{Definition, Named, SpecCard, defined_name, last_card, target_name};
 use rpg_causes_operands::first_defining;
-use rpg_sheet_specs::{CalculationSpec, Word};
+use rpg_sheet_specs::{CalculationSpec, ColumnRange, Word};
 use rpg_symbols::Name;
 
 /// The card that defines a label or a subroutine.
@@ -43,6 +46,13 @@ pub enum TwiceCause {
     EveryProgram(Name),
 }
 
+/// A name that is defined twice, with its columns.
+#[derive(Drop)]
+pub struct TwiceFault {
+    pub at: ColumnRange,
+    pub cause: TwiceCause,
+}
+
 /// A label or a subroutine that a card names, with the card that defines it.
 #[derive(Drop)]
 pub struct Target {
@@ -59,69 +69,37 @@ fn given_on(card: &SpecCard, after: &[SpecCard]) -> Option<Named>
     defined_name(last_card(card, after)?)
 }
 
-fn giver_on(name: &Name, card: &SpecCard, after: &[SpecCard]) -> Option<Giver>
-    ensures { result ≡ option_and_then (causes.giver_if name.now card.now.number) (causes.name_given_on card.now after.now) }
-{
-    let named = given_on(card, after)?;
-    if *name == named.name {
-        return Some(Giver {
-            card: card.number,
-            is_subroutine: named.is_subroutine,
-        });
-    }
-    None
-}
-
-/// Returns the first of the `front` cards that defines a name.
-fn first_giver(name: &Name, front: &[SpecCard], cards: &[SpecCard]) -> Option<Giver>
-    ensures { (after : List SpecCard) → cards.now ≡ front.now ++ after → result ≡ causes.giver name.now front.now after }
-{
-    let mut front = front;
-    let mut cards = cards;
-    while let Some((card, left)) = front.split_first() {
-        let (_, following) = cards.split_first()?;
-        let found = giver_on(name, card, following);
-        if found.is_some() {
-            return found;
-        }
-        front = left;
-        cards = following;
-    }
-    None
-}
-
 // ---- F10
 
 /// F10: the label or the subroutine that isn't defined, or is the other of the two.
 pub fn nowhere_cause(
-    source: &IndexedCards,
+    labels: &Labels,
     before: &[SpecCard],
     card: &SpecCard,
     after: &[SpecCard],
 ) -> Option<NowhereCause>
-    ensures cause { result ≡ causes.nowhere_cause source.now card.now after.now }
-    ensures rule { is_some result ≡ rules.lacks_target source.now before.now card.now after.now }
+    ensures cause { result ≡ causes.nowhere_cause labels.now card.now after.now }
+    ensures rule { is_some result ≡ rules.lacks_target labels.now before.now card.now after.now }
 {
-    of_ending(source, card, after)
+    of_ending(labels, card, after)
 }
 
-fn of_ending(source: &IndexedCards, card: &SpecCard, after: &[SpecCard]) -> Option<NowhereCause>
-    ensures { result ≡ causes.nowhere_cause source.now card.now after.now }
+fn of_ending(labels: &Labels, card: &SpecCard, after: &[SpecCard]) -> Option<NowhereCause>
+    ensures { result ≡ causes.nowhere_cause labels.now card.now after.now }
 {
-    of_target(source, last_card(card, after)?)
+    of_target(labels, last_card(card, after)?)
 }
 
-fn of_target(source: &IndexedCards, calculation: &CalculationSpec) -> Option<NowhereCause>
-    ensures { result ≡ causes.of_target source.now calculation.now }
+fn of_target(labels: &Labels, calculation: &CalculationSpec) -> Option<NowhereCause>
+    ensures { result ≡ causes.of_target labels.now calculation.now }
 {
-    of_wanted(source, target_name(calculation)?)
+    of_wanted(labels, target_name(calculation)?)
 }
 
-fn of_wanted(source: &IndexedCards, wanted: Named) -> Option<NowhereCause>
-    ensures { result ≡ causes.of_wanted source.now wanted }
+fn of_wanted(labels: &Labels, wanted: Named) -> Option<NowhereCause>
+    ensures { result ≡ causes.of_wanted labels.now wanted }
 {
-    let cards = source.as_slice();
-    match first_giver(&wanted.name, cards, cards) {
+    match labels.giver(&wanted.name) {
         None => Some(NowhereCause::Absent(wanted)),
         Some(giver) if giver.is_subroutine == wanted.is_subroutine => None,
         Some(giver) => Some(NowhereCause::Other {
@@ -136,52 +114,63 @@ fn of_wanted(source: &IndexedCards, wanted: Named) -> Option<NowhereCause>
 /// F11: what defined a name before.
 pub fn twice_cause(
     source: &IndexedCards,
+    labels: &Labels,
+    flow: &Flow,
     before: &[SpecCard],
     card: &SpecCard,
     after: &[SpecCard],
-) -> Option<TwiceCause>
-    requires { source.now ≡ before.now ++ card.now ∷ after.now }
+) -> Option<TwiceFault>
+    requires split { source.now ≡ before.now ++ card.now ∷ after.now }
+    requires same { labels.now ≡ source.now }
+    requires flow { IsFlow before.now (card.now ∷ after.now) flow.now }
     ensures cause { result ≡ causes.twice before.now card.now after.now }
     ensures rule { is_some result ≡ rules.repeats_name before.now card.now after.now }
 {
-    match of_given_on(source, before, card, after) {
-        Some(cause) => Some(cause),
-        None => of_definitions(source, before, card, after),
+    if let Some(cause) = of_given_on(source, labels, flow, before, card, after) {
+        let at = ColumnRange::FirstFactor;
+        return Some(TwiceFault { at, cause });
     }
+    let cause = of_definitions(labels, before, card, after)?;
+    let at = ColumnRange::ResultName;
+    Some(TwiceFault { at, cause })
 }
 
 #[tactic(auto, using(crate::proofs::LabelLemmas::again_is))]
 fn of_given_on(
     source: &IndexedCards,
+    labels: &Labels,
+    flow: &Flow,
     before: &[SpecCard],
     card: &SpecCard,
     after: &[SpecCard],
 ) -> Option<TwiceCause>
-    requires { source.now ≡ before.now ++ card.now ∷ after.now }
+    requires split { source.now ≡ before.now ++ card.now ∷ after.now }
+    requires same { labels.now ≡ source.now }
+    requires flow { IsFlow before.now (card.now ∷ after.now) flow.now }
     ensures cause { result ≡ option_and_then (causes.of_given before.now card.now after.now) (causes.name_given_on card.now after.now) }
     ensures rule { is_some result ≡ option_map_or (rules.defines_again before.now card.now after.now) (calculation_ending before.now card.now after.now) false }
 {
     let named = given_on(card, after)?;
-    match if_given(source, before, card, after, &named.name) {
+    match if_given(labels, before, card, after, &named.name) {
         Some(cause) => Some(cause),
-        None => if_field(source, before, card, after, &named.name),
+        None => if_field(source, flow, before, card, after, &named.name),
     }
 }
 
 /// Returns the cause if a label or a subroutine before a card has the name.
 #[tactic(auto, using(crate::proofs::LabelLemmas::is_given_is))]
 fn if_given(
-    source: &IndexedCards,
+    labels: &Labels,
     before: &[SpecCard],
     card: &SpecCard,
     after: &[SpecCard],
     name: &Name,
 ) -> Option<TwiceCause>
-    requires { source.now ≡ before.now ++ card.now ∷ after.now }
+    requires { labels.now ≡ before.now ++ card.now ∷ after.now }
     ensures cause { result ≡ causes.if_given before.now card.now after.now name.now }
     ensures rule { is_some result ≡ is_some (known.label_named name.now (known.labels (calculations_before before.now (card.now ∷ after.now)))) }
 {
-    let giver = first_giver(name, before, source.as_slice())?;
+    let giver = labels.giver_before(name, before.len())?;
     Some(TwiceCause::Given {
         name: Word::new(name.as_slice()),
         giver,
@@ -191,15 +180,21 @@ fn if_given(
 /// Returns the cause if a field up to a card has the name.
 fn if_field(
     source: &IndexedCards,
+    flow: &Flow,
     before: &[SpecCard],
     card: &SpecCard,
     after: &[SpecCard],
     name: &Name,
 ) -> Option<TwiceCause>
-    requires { source.now ≡ before.now ++ card.now ∷ after.now }
+    requires split { source.now ≡ before.now ++ card.now ∷ after.now }
+    requires flow { IsFlow before.now (card.now ∷ after.now) flow.now }
     ensures cause { result ≡ causes.if_names_field (before.now ++ card.now ∷ []) name.now }
     ensures rule { is_some result ≡ rules.is_defined name.now (names.definitions (before.now ++ card.now ∷ [])) }
 {
+    let definitions = usize::from(flow.definitions) + card.definition_count();
+    if source.is_new_name(definitions, name) {
+        return None;
+    }
     of_field(source, source.up_to(before, card, after), name)
 }
 
@@ -215,33 +210,33 @@ fn of_field(source: &IndexedCards, cards: &[SpecCard], name: &Name) -> Option<Tw
 }
 
 fn of_definitions(
-    source: &IndexedCards,
+    labels: &Labels,
     before: &[SpecCard],
     card: &SpecCard,
     after: &[SpecCard],
 ) -> Option<TwiceCause>
-    requires { source.now ≡ before.now ++ card.now ∷ after.now }
+    requires { labels.now ≡ before.now ++ card.now ∷ after.now }
     ensures cause { result ≡ defined.first_some (causes.of_definition before.now card.now after.now) (names.definitions_on card.now.spec) }
     ensures rule { is_some result ≡ rules.defines_label (known.labels (calculations_before before.now (card.now ∷ after.now))) card.now }
 {
     let definitions = card.definitions();
-    of_definitions_among(source, before, card, after, definitions.as_slice())
+    of_definitions_among(labels, before, card, after, definitions.as_slice())
 }
 
 /// Returns the first of these whose name is defined before the card.
 fn of_definitions_among(
-    source: &IndexedCards,
+    labels: &Labels,
     before: &[SpecCard],
     card: &SpecCard,
     after: &[SpecCard],
     items: &[Definition],
 ) -> Option<TwiceCause>
-    requires { source.now ≡ before.now ++ card.now ∷ after.now }
+    requires { labels.now ≡ before.now ++ card.now ∷ after.now }
     ensures cause { result ≡ defined.first_some (causes.of_definition before.now card.now after.now) items.now }
     ensures rule { is_some result ≡ causes.any_given before.now card.now after.now items.now }
 {
     for definition in items {
-        let cause = if_given(source, before, card, after, &definition.name);
+        let cause = if_given(labels, before, card, after, &definition.name);
         if cause.is_some() {
             return cause;
         }
@@ -252,23 +247,22 @@ fn of_definitions_among(
 // ---- F13, F14
 
 /// Returns the label or the subroutine that a card names.
-pub fn target_on(source: &IndexedCards, card: &SpecCard, after: &[SpecCard]) -> Option<Target>
-    ensures { result ≡ causes.card_target source.now card.now after.now }
+pub fn target_on(labels: &Labels, card: &SpecCard, after: &[SpecCard]) -> Option<Target>
+    ensures { result ≡ causes.card_target labels.now card.now after.now }
 {
-    target_of(source, last_card(card, after)?)
+    target_of(labels, last_card(card, after)?)
 }
 
-fn target_of(source: &IndexedCards, calculation: &CalculationSpec) -> Option<Target>
-    ensures { result ≡ causes.target_of source.now calculation.now }
+fn target_of(labels: &Labels, calculation: &CalculationSpec) -> Option<Target>
+    ensures { result ≡ causes.target_of labels.now calculation.now }
 {
-    target_by(source, target_name(calculation)?)
+    target_by(labels, target_name(calculation)?)
 }
 
-fn target_by(source: &IndexedCards, wanted: Named) -> Option<Target>
-    ensures { result ≡ causes.target_by source.now wanted }
+fn target_by(labels: &Labels, wanted: Named) -> Option<Target>
+    ensures { result ≡ causes.target_by labels.now wanted }
 {
-    let cards = source.as_slice();
-    let giver = first_giver(&wanted.name, cards, cards)?;
+    let giver = labels.giver(&wanted.name)?;
     Some(Target {
         name: Word::new(wanted.name.as_slice()),
         card: giver.card,

@@ -1,21 +1,21 @@
 //! F12 of calculation cards: sections out of order, unpaired BEGSR and ENDSR, and AN and OR cards without a card to continue.
 
-ghost use Rattle.std.specs.Prelude.{◌≡◌, ◌∷◌, ◌++◌, is_some, option_and_then};
+ghost use Rattle.std.specs.Prelude.{◌≡◌, List, ◌∷◌, is_some, option_and_then};
 ghost use Rattle.rpg_cards.specs.Calculations.{card_ending};
 ghost use Rattle.rpg_cards.specs.Cards.{calculation_on};
 ghost use Rattle.rpg_cards.specs.Groups as groups;
+ghost use Rattle.rpg_cards.specs.declared.spec_card.SpecCard.{SpecCard};
+ghost use Rattle.rpg_causes_flow.specs.Flow as flows;
 ghost use Rattle.rpg_causes_flow.specs.Order as causes;
 ghost use Rattle.rpg_faults_flow.specs.Order as rules;
 
-use crate::brackets::{
-    Bracket, is_bracket, last_bracket, level_in, next_bracket, open_level, opens,
-};
-use crate::columns::is_in_group;
+use crate::brackets::{Bracket, is_bracket, level_in, next_bracket, opens};
+use crate::flow::Flow;
 use rpg_cards::{
     SpecCard, begins_subroutine, defined_name, ends_subroutine, group_end, is_subroutine, joins,
     last_card,
 };
-use rpg_sheet_specs::{CalculationSpec, ControlLevel};
+use rpg_sheet_specs::{CalculationSpec, ColumnRange, ControlLevel};
 use rpg_symbols::Name;
 
 /// What is wrong with the order of calculation cards.
@@ -44,116 +44,111 @@ pub enum OrderCause {
     },
 }
 
+/// Returns the columns of a card that is out of order: BEGSR or ENDSR, otherwise columns 7 and 8.
+pub fn order_range(card: &SpecCard) -> Option<ColumnRange>
+    ensures { result ≡ causes.order_range card.now }
+{
+    Some(bracket_range(card.calculation()?))
+}
+
+fn bracket_range(calculation: &CalculationSpec) -> ColumnRange
+    ensures { result ≡ causes.bracket_range calculation.now }
+{
+    if is_bracket(calculation) {
+        ColumnRange::Operation
+    } else {
+        ColumnRange::ControlLevel
+    }
+}
+
 /// F12 of a calculation card: what it needs before it, or after it.
 pub fn order_cause(
-    source: &[SpecCard],
+    flow: &Flow,
     before: &[SpecCard],
     card: &SpecCard,
     after: &[SpecCard],
 ) -> Option<OrderCause>
-    requires { source.now ≡ before.now ++ card.now ∷ after.now }
+    requires { flows.IsFlow before.now (card.now ∷ after.now) flow.now }
     ensures cause { result ≡ causes.order_cause before.now card.now after.now }
     ensures rule { is_some result ≡ rules.breaks_order before.now card.now after.now }
 {
-    of_card(source, before, card, after)
+    of_card(flow, before, card, after)
 }
 
 fn of_card(
-    source: &[SpecCard],
+    flow: &Flow,
     before: &[SpecCard],
     card: &SpecCard,
     after: &[SpecCard],
 ) -> Option<OrderCause>
-    requires { source.now ≡ before.now ++ card.now ∷ after.now }
+    requires { flows.IsFlow before.now (card.now ∷ after.now) flow.now }
     ensures { result ≡ causes.order_cause before.now card.now after.now }
 {
-    match on_first(source, before, card, after) {
+    match on_first(flow, before, card, after) {
         Some(cause) => Some(cause),
-        None => on_last(source, before, card, after),
+        None => on_last(flow, before, card, after),
     }
 }
 
 // ---- on the first card of a group
 
 fn on_first(
-    source: &[SpecCard],
+    flow: &Flow,
     before: &[SpecCard],
     card: &SpecCard,
     after: &[SpecCard],
 ) -> Option<OrderCause>
-    requires { source.now ≡ before.now ++ card.now ∷ after.now }
+    requires { flows.IsFlow before.now (card.now ∷ after.now) flow.now }
     ensures { result ≡ option_and_then (causes.first_card before.now card.now after.now) (calculation_on card.now.spec) }
 {
-    of_group(source, before, card, card.calculation()?, after)
+    of_group(flow, before, card, card.calculation()?, after)
 }
 
 fn of_group(
-    source: &[SpecCard],
+    flow: &Flow,
     before: &[SpecCard],
     card: &SpecCard,
     calculation: &CalculationSpec,
     after: &[SpecCard],
 ) -> Option<OrderCause>
-    requires { source.now ≡ before.now ++ card.now ∷ after.now }
+    requires { flows.IsFlow before.now (card.now ∷ after.now) flow.now }
     ensures { result ≡ causes.of_group (groups.joins calculation.now.control_level) before.now card.now calculation.now after.now }
 {
     if joins(calculation) {
-        return unless_open(before);
+        return unless_open(flow);
     }
-    match first_later(&calculation.control_level, before) {
+    match first_later(flow, &calculation.control_level) {
         Some(cause) => Some(cause),
-        None => if_outside(calculation, after, last_bracket(before, source)),
+        None => if_outside(calculation, after, flow.bracket),
     }
 }
 
 /// Returns the cause for AN or OR without a calculation right before it.
-fn unless_open(before: &[SpecCard]) -> Option<OrderCause>
-    ensures { result ≡ causes.unless_open before.now }
+fn unless_open(flow: &Flow) -> Option<OrderCause>
+    ensures { (before rest : List SpecCard) → flows.IsFlow before rest flow.now → result ≡ causes.unless_open before }
 {
-    if is_in_group(before) {
+    if flow.group.is_some() {
         return None;
     }
     Some(OrderCause::Unjoined)
 }
 
-/// Returns the rank of a section in the order of sections.
-fn rank(control_level: ControlLevel) -> u8
-    ensures { result ≡ rules.section_rank control_level }
-{
-    match control_level {
-        ControlLevel::Detail | ControlLevel::And | ControlLevel::Or => 0,
-        ControlLevel::Total(_) => 1,
-        ControlLevel::Subroutine => 2,
-    }
-}
-
 /// Returns the first card of a later section.
-fn first_later(own: &ControlLevel, before: &[SpecCard]) -> Option<OrderCause>
-    ensures { result ≡ causes.first_later own.now before.now }
+fn first_later(flow: &Flow, own: &ControlLevel) -> Option<OrderCause>
+    ensures { (before rest : List SpecCard) → flows.IsFlow before rest flow.now → result ≡ causes.first_later own.now before }
 {
-    let mut rest = before;
-    while let Some((card, following)) = rest.split_first() {
-        let found = if_later(own, card);
-        if found.is_some() {
-            return found;
+    let later = match own {
+        ControlLevel::Detail | ControlLevel::And | ControlLevel::Or => flow.total?,
+        ControlLevel::Total(_) => flow.subroutine?,
+        ControlLevel::Subroutine => {
+            return None;
         }
-        rest = following;
-    }
-    None
-}
-
-fn if_later(own: &ControlLevel, card: &SpecCard) -> Option<OrderCause>
-    ensures { result ≡ option_and_then (causes.if_later own.now card.now) (calculation_on card.now.spec) }
-{
-    let later = card.calculation()?;
-    if rank(*own) < rank(later.control_level) {
-        return Some(OrderCause::Early {
-            own: *own,
-            later: later.control_level,
-            card: card.number,
-        });
-    }
-    None
+    };
+    Some(OrderCause::Early {
+        own: *own,
+        later: later.level,
+        card: later.card,
+    })
 }
 
 fn closes(bracket: Option<Bracket>) -> bool
@@ -191,23 +186,25 @@ fn if_outside(
 // ---- on the last card of a group
 
 fn on_last(
-    source: &[SpecCard],
+    flow: &Flow,
     before: &[SpecCard],
     card: &SpecCard,
     after: &[SpecCard],
 ) -> Option<OrderCause>
-    requires { source.now ≡ before.now ++ card.now ∷ after.now }
+    requires { flows.IsFlow before.now (card.now ∷ after.now) flow.now }
     ensures { result ≡ option_and_then (causes.of_end before.now card.now after.now) (card_ending card.now after.now) }
 {
     let calculation = last_card(card, after)?;
-    let group = open_level(before);
-    let level = level_in(&group, calculation);
+    let level = level_in(&flow.group, calculation);
     if !is_subroutine(level) {
         return if_elsewhere(calculation);
     }
-    match if_unbegun(calculation, last_bracket(before, source)) {
+    match if_unbegun(calculation, flow.bracket) {
         Some(cause) => Some(cause),
-        None => if_unended(calculation, next_bracket(&level, after)),
+        None if begins_subroutine(calculation) => {
+            if_unended(calculation, next_bracket(&level, after))
+        }
+        None => None,
     }
 }
 

@@ -8,7 +8,7 @@ ghost use Rattle.rpg_faults_flow.specs.Strays as rules;
 use rpg_card_index::IndexedCards;
 use rpg_cards::SpecCard;
 use rpg_faults_limits::Sheets;
-use rpg_sheet_specs::{InputSpec, OutputSpec};
+use rpg_sheet_specs::{ColumnRange, InputSpec, OutputSpec};
 
 /// What an I or O card lacks before it.
 #[derive(Clone, Copy)]
@@ -23,6 +23,19 @@ pub enum StrayCause {
     /// AND or OR on an O card: the previous card, if there is one, is neither a line nor an AND
     /// or OR card.
     OtherThanLine(Option<u16>),
+}
+
+impl StrayCause {
+    /// Returns the name of the field that belongs to no type or line; None for the card as a whole.
+    pub fn range(self) -> Option<ColumnRange>
+        ensures { result ≡ causes.stray_range self }
+    {
+        match self {
+            StrayCause::NoType => Some(ColumnRange::InputName),
+            StrayCause::NoLine => Some(ColumnRange::OutputName),
+            StrayCause::OtherThanType(_) | StrayCause::OtherThanLine(_) => None,
+        }
+    }
 }
 
 /// F12 of I and O cards: what the card lacks before it.

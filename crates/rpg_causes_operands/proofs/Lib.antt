@@ -1,4 +1,5 @@
 pub mod Listed
 pub mod NameLemmas
+pub mod NewNames
 pub mod Options
 pub mod Tests

@@ -12,6 +12,8 @@ use Rattle.rpg_causes_operands.specs.declared.fields.FieldCause.TheVariants.{Bla
 use Rattle.rpg_faults_operands.specs.Columns.{is_unordered}
 use Rattle.rpg_faults_operands.specs.Operands.{factor_entry}
 use Rattle.rpg_sheet_specs.specs.declared.calculation.CalculationSpec.{CalculationSpec}
+use Rattle.rpg_sheet_specs.specs.declared.column_range.ColumnRange.{ColumnRange}
+use Rattle.rpg_sheet_specs.specs.declared.column_range.ColumnRange.TheVariants as range
 use Rattle.rpg_sheet_specs.specs.declared.entry.Entry.{Entry}
 use Rattle.rpg_sheet_specs.specs.declared.output.OutputField.{OutputField}
 
@@ -39,3 +41,17 @@ of_output_field f =
 -- F9 of the operation that ends on the card, or of an output field
 abbrev pub field_cause : List SpecCard → SpecCard → List SpecCard → Option FieldCause
 field_cause cards c after = option_or (option_and_then (of_search cards) (card_ending c after)) (option_and_then of_output_field (output_field_on c.spec))
+
+-- ---- the columns that a cause is about
+
+-- high if there is one, otherwise low
+abbrev pub search_range : Option CalculationSpec → ColumnRange
+search_range None = range.ResultMinus
+search_range (Some k) = if is_some k.resulting_indicators.first then range.ResultPlus else range.ResultMinus
+
+-- those of a cause, by the calculation that ends on the card
+abbrev pub field_range : Option CalculationSpec → FieldCause → ColumnRange
+field_range last (Unordered name definer) = search_range last
+field_range last CodeAlone = range.OutputCode
+field_range last BlankAfterAlone = range.BlankAfter
+field_range last NoField = range.OutputName

@@ -1,7 +1,7 @@
 -- F1, F2: the name that no card defines, or that is defined again in another form; and the card that defines a name.
-use Rattle.std.specs.Prelude.{ℕ, List, [], ◌∷◌, ◌++◌, Bool, Option, None, Some, option_and_then, if◌then◌else◌}
+use Rattle.std.specs.Prelude.{ℕ, List, [], ◌∷◌, ◌++◌, Bool, false, ◌&&◌, slice_get, Option, None, Some, option_and_then, if◌then◌else◌}
 use Rattle.std.specs.List.{list_any}
-use Rattle.std.specs.Option.{option_or}
+use Rattle.std.specs.Option.{option_map_or, option_or}
 use Rattle.rpg_cards.specs.Names.{definitions, definitions_on, form_by, form_in, given_names, is_of}
 use Rattle.rpg_cards.specs.declared.names.Definition.{Definition}
 use Rattle.rpg_cards.specs.declared.spec_card.SpecCard.{SpecCard}
@@ -9,6 +9,10 @@ use Rattle.rpg_causes_operands.specs.declared.names.Redefined.{Redefined}
 use Rattle.rpg_program.specs.declared.form.FieldForm.{FieldForm}
 use Rattle.rpg_faults_operands.specs.Names.{index_name, is_undefined}
 use Rattle.rpg_faults_operands.specs.Operands.{Operand, operands_on}
+use Rattle.rpg_sheet_specs.specs.declared.column_range.ColumnRange.{ColumnRange}
+use Rattle.rpg_sheet_specs.specs.declared.column_range.ColumnRange.TheVariants as range
+use Rattle.rpg_sheet_specs.specs.declared.spec.Spec.{Spec}
+use Rattle.rpg_sheet_specs.specs.declared.spec.Spec.TheVariants as spec
 use Rattle.rpg_symbols.specs.Fields.{same_form}
 
 -- what the first item with a cause has
@@ -64,3 +68,27 @@ redefined_among cards before (d ∷ ds) = option_or (redefined_by cards before d
 -- F2 of a card
 abbrev pub redefined : List SpecCard → List SpecCard → SpecCard → Option Redefined
 redefined cards before c = redefined_among cards (definitions before) (definitions_on c.spec)
+
+-- ---- the columns of a name that is defined again
+
+-- those of the first name that a card defines
+abbrev pub name_columns : Spec → Option ColumnRange
+name_columns (spec.Header h) = None
+name_columns (spec.File f) = None
+name_columns (spec.Extension e) = Some range.TableName
+name_columns (spec.Input i) = Some range.InputName
+name_columns (spec.Calculation k) = Some range.ResultName
+name_columns (spec.Output o) = None
+name_columns (spec.Data d) = None
+
+-- a definition has that form
+abbrev pub has_form : Definition → FieldForm → Bool
+has_form d here = option_map_or (λ form. same_form form here) d.form false
+
+-- the first definition of a card is of that name and form
+abbrev pub defines_first : SpecCard → List ℕ → FieldForm → Bool
+defines_first c name here = option_map_or (λ d. is_of name d && has_form d here) (slice_get (definitions_on c.spec) 0) false
+
+-- those of the first name, if it is the one; otherwise of the alternating table
+abbrev pub redefined_range : SpecCard → Redefined → Option ColumnRange
+redefined_range c r = if defines_first c r.name r.here then name_columns c.spec else Some range.AlternatingName

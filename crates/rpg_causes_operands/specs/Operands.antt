@@ -155,3 +155,20 @@ abbrev pub operand_cause : List SpecCard → SpecCard → List SpecCard → Opti
 operand_cause cards c after =
     option_or (option_and_then (in_calculation cards) (card_ending c after))
     (option_and_then (in_output cards) (output_field_on c.spec))
+
+-- ---- the columns that a cause is about
+
+-- the code if there is one, otherwise the word
+abbrev pub edited_range : Option OutputField → ColumnRange
+edited_range None = range.OutputText
+edited_range (Some f) = if is_some f.code then range.OutputCode else range.OutputText
+
+-- those of a cause, by the output field on the card
+abbrev pub operand_range : Option OutputField → OperandCause → ColumnRange
+operand_range f (WrongClass at wanted) = at
+operand_range f (TextOperand at text) = at
+operand_range f (Unlike first second) = range.SecondFactor
+operand_range f Unwritable = range.ResultName
+operand_range f (TooFew found searched) = range.ResultName
+operand_range f (EditedText text) = edited_range f
+operand_range f (BlankedDate name) = range.BlankAfter

@@ -1,6 +1,6 @@
 //! F9 of fields: a search for high or low without sequence, and output fields whose columns don't go together.
 
-ghost use Rattle.std.specs.Prelude.{◌≡◌, is_some, false, option_and_then};
+ghost use Rattle.std.specs.Prelude.{◌≡◌, is_some, false, option_and_then, option_copied};
 ghost use Rattle.std.specs.Option.{option_map_or};
 ghost use Rattle.rpg_cards.specs.Calculations.{card_ending};
 ghost use Rattle.rpg_causes_operands.specs.Fields as causes;
@@ -11,7 +11,7 @@ use rpg_card_index::IndexedCards;
 use rpg_cards::{OperationColumns, Shown, SpecCard, columns, last_card};
 use rpg_faults_operands::factor_form;
 use rpg_program::form::{FieldForm, is_array, is_table};
-use rpg_sheet_specs::{CalculationSpec, Factor, OutputField, Word};
+use rpg_sheet_specs::{CalculationSpec, ColumnRange, Factor, OutputField, Word};
 use rpg_symbols::Name;
 
 /// Why a field's columns are missing or not allowed.
@@ -28,6 +28,30 @@ pub enum FieldCause {
     BlankAfterAlone,
     /// An output field with neither a name nor a constant.
     NoField,
+}
+
+impl FieldCause {
+    /// Returns the columns that the cause is about, by the calculation that ends on its card.
+    pub fn range(&self, last: Option<&CalculationSpec>) -> ColumnRange
+        ensures { result ≡ causes.field_range (option_copied last.entry) self.now }
+    {
+        match self {
+            FieldCause::Unordered { .. } => search_range(last),
+            FieldCause::CodeAlone => ColumnRange::OutputCode,
+            FieldCause::BlankAfterAlone => ColumnRange::BlankAfter,
+            FieldCause::NoField => ColumnRange::OutputName,
+        }
+    }
+}
+
+/// Returns the columns of high, otherwise of low.
+fn search_range(last: Option<&CalculationSpec>) -> ColumnRange
+    ensures { result ≡ causes.search_range (option_copied last.entry) }
+{
+    match last {
+        Some(last) if last.resulting_indicators.first.is_some() => ColumnRange::ResultPlus,
+        Some(_) | None => ColumnRange::ResultMinus,
+    }
 }
 
 /// F9 of operands: a search for high or low without sequence, and output fields whose columns don't go together.

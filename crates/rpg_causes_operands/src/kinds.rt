@@ -3,6 +3,7 @@
 ghost use Rattle.std.specs.Prelude.{◌≡◌, None, is_some, false, option_and_then};
 ghost use Rattle.std.specs.Option.{option_map_or};
 ghost use Rattle.rpg_cards.specs.Calculations.{card_ending};
+ghost use Rattle.rpg_cards.specs.Cards.{output_field_on};
 ghost use Rattle.rpg_causes_operands.specs.Operands as causes;
 ghost use Rattle.rpg_faults_operands.specs.Kinds as rules;
 ghost use Rattle.rpg_faults_operands.specs.Operands.{factor_entry};
@@ -42,6 +43,31 @@ pub enum OperandCause {
     EditedText(TextField),
     /// The date is blanked.
     BlankedDate(Name),
+}
+
+impl OperandCause {
+    /// Returns the columns of a card that the cause is about.
+    pub fn range(&self, card: &SpecCard) -> ColumnRange
+        ensures { result ≡ causes.operand_range (output_field_on card.now.spec) self.now }
+    {
+        match self {
+            OperandCause::WrongClass { at, .. } | OperandCause::TextOperand { at, .. } => *at,
+            OperandCause::Unlike { .. } => ColumnRange::SecondFactor,
+            OperandCause::Unwritable | OperandCause::TooFew { .. } => ColumnRange::ResultName,
+            OperandCause::EditedText(_) => edited_range(card),
+            OperandCause::BlankedDate(_) => ColumnRange::BlankAfter,
+        }
+    }
+}
+
+/// Returns the columns of an edit code, or of a word.
+fn edited_range(card: &SpecCard) -> ColumnRange
+    ensures { result ≡ causes.edited_range (output_field_on card.now.spec) }
+{
+    match card.output_field() {
+        Some(field) if field.code.is_some() => ColumnRange::OutputCode,
+        Some(_) | None => ColumnRange::OutputText,
+    }
 }
 
 /// F4: which operand is of the wrong kind, and what it is.

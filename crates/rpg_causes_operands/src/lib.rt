@@ -10,7 +10,7 @@ mod sizes;
 
 pub use fields::{FieldCause, field_cause};
 pub use indexes::{IndexCause, index_cause};
-pub use indicators::{IndicatorCause, indicator_cause};
+pub use indicators::{IndicatorCause, IndicatorFault, indicator_cause};
 pub use kinds::{OperandCause, TextField, operand_cause};
 pub use names::{Redefined, first_defining, redefined_name, undefined_name};
-pub use sizes::{SizeCause, size_cause};
+pub use sizes::{SizeCause, SizeFault, size_cause};

@@ -12,7 +12,7 @@ use rpg_card_index::IndexedCards;
 use rpg_cards::{Defined, Definition, SpecCard};
 use rpg_faults_operands::{Operand, operands_ending, output_operand};
 use rpg_program::form::FieldForm;
-use rpg_sheet_specs::{Entry, EntryIndex, Word};
+use rpg_sheet_specs::{ColumnRange, Entry, EntryIndex, Spec, Word};
 use rpg_symbols::{Name, is_same_form};
 
 /// A name that is defined again in another form.
@@ -25,6 +25,50 @@ pub struct Redefined {
     pub first: FieldForm,
     /// The first card that defines it; None for UDATE and PAGE.
     pub definer: Option<u16>,
+}
+
+impl Redefined {
+    /// Returns the columns of the name on its card: an E card can define two.
+    pub fn range(&self, card: &SpecCard) -> Option<ColumnRange>
+        ensures { result ≡ causes.redefined_range card.now self.now }
+    {
+        if defines_first(card, &self.name, self.here) {
+            name_columns(card)
+        } else {
+            Some(ColumnRange::AlternatingName)
+        }
+    }
+}
+
+/// Whether the first definition of a card is of that name and form.
+fn defines_first(card: &SpecCard, name: &Name, here: FieldForm) -> bool
+    ensures { result ≡ causes.defines_first card.now name.now here }
+{
+    match card.definitions().as_slice().first() {
+        None => false,
+        Some(definition) => *name == definition.name && has_form(definition, here),
+    }
+}
+
+fn has_form(definition: &Definition, here: FieldForm) -> bool
+    ensures { result ≡ causes.has_form definition.now here }
+{
+    match definition.form {
+        None => false,
+        Some(form) => is_same_form(&form, &here),
+    }
+}
+
+/// Returns the columns of the first name that a card defines.
+fn name_columns(card: &SpecCard) -> Option<ColumnRange>
+    ensures { result ≡ causes.name_columns card.now.spec }
+{
+    match &card.spec {
+        Spec::Extension(_) => Some(ColumnRange::TableName),
+        Spec::Input(_) => Some(ColumnRange::InputName),
+        Spec::Calculation(_) => Some(ColumnRange::ResultName),
+        Spec::Header(_) | Spec::File(_) | Spec::Output(_) | Spec::Data(_) => None,
+    }
 }
 
 // ---- the card that defines a name
@@ -113,34 +157,21 @@ pub(crate) fn index_name(entry: &Entry) -> Option<&Name>
 
 // ---- F2
 
-/// F2: the name that is defined again, with both its forms and the card of the first.
+/// F2: the name that is defined again, with both its forms and the card of the first. `count` is the number of definitions on the cards before.
 pub fn redefined_name(
     source: &IndexedCards,
+    count: usize,
     before: &[SpecCard],
     card: &SpecCard,
     after: &[SpecCard],
 ) -> Option<Redefined>
     requires split { source.now ≡ before.now ++ card.now ∷ after.now }
     requires few { length source.now ≤ 2000 }
+    requires count { count ≡ length (definitions before.now) }
     ensures cause { result ≡ causes.redefined source.now before.now card.now }
     ensures rule { is_some result ≡ redefinitions.redefines before.now card.now }
 {
-    redefined_among(
-        source,
-        count_definitions(before),
-        card.definitions().as_slice(),
-    )
-}
-
-fn count_definitions(cards: &[SpecCard]) -> usize
-    requires { length cards.now ≤ 2000 }
-    ensures { result ≡ length (definitions cards.now) }
-{
-    let mut count = 0;
-    for card in cards {
-        count += card.definitions().len();
-    }
-    count
+    redefined_among(source, count, card.definitions().as_slice())
 }
 
 /// Returns the first of these, which follow the first `place` definitions, that differs in form from those before it.
@@ -151,6 +182,9 @@ fn redefined_among(source: &IndexedCards, place: usize, items: &[Definition]) ->
     ensures rule { is_some result ≡ redefinitions.redefine (take place (definitions source.now)) items.now }
 {
     for (i, definition) in items.iter().enumerate() {
+        if source.is_first_name(place + i) {
+            continue;
+        }
         let found = redefined_by(source, place + i, definition);
         if found.is_some() {
             return found;

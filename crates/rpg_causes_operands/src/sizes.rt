@@ -6,7 +6,7 @@ ghost use Rattle.rpg_causes_operands.specs.Sizes as causes;
 ghost use Rattle.rpg_faults_limits.specs.Names as rules;
 
 use rpg_cards::{SpecCard, field_form, sized_form};
-use rpg_sheet_specs::{ExtensionSpec, InputFieldSpec, TableSpec};
+use rpg_sheet_specs::{ColumnRange, ExtensionSpec, InputFieldSpec, TableSpec};
 
 /// What is wrong with a length and decimals.
 #[derive(Clone, Copy)]
@@ -21,8 +21,43 @@ pub enum SizeCause {
     NoLength,
 }
 
+/// A length or decimals over their limits, with their columns.
+#[derive(Clone, Copy)]
+pub struct SizeFault {
+    pub at: ColumnRange,
+    pub cause: SizeCause,
+}
+
+/// The columns of a length, and of decimals.
+#[derive(Clone, Copy)]
+pub struct SizeColumns {
+    pub length: ColumnRange,
+    pub decimals: ColumnRange,
+}
+
+const TABLE: SizeColumns = SizeColumns {
+    length: ColumnRange::EntryLength,
+    decimals: ColumnRange::EntryDecimals,
+};
+
+const ALTERNATING: SizeColumns = SizeColumns {
+    length: ColumnRange::AlternatingLength,
+    decimals: ColumnRange::AlternatingDecimals,
+};
+
+/// The size of an input field follows from its columns.
+const INPUT: SizeColumns = SizeColumns {
+    length: ColumnRange::LastColumn,
+    decimals: ColumnRange::LastColumn,
+};
+
+const RESULT: SizeColumns = SizeColumns {
+    length: ColumnRange::ResultLength,
+    decimals: ColumnRange::ResultDecimals,
+};
+
 /// F3: which length or decimals are over their limits.
-pub fn size_cause(card: &SpecCard) -> Option<SizeCause>
+pub fn size_cause(card: &SpecCard) -> Option<SizeFault>
     ensures cause { result ≡ causes.size_cause card.now }
     ensures rule { is_some result ≡ rules.bad_size card.now }
 {
@@ -36,49 +71,58 @@ pub fn size_cause(card: &SpecCard) -> Option<SizeCause>
     of_result(calculation.length, calculation.decimals)
 }
 
-const fn size_past(length: u32, decimals: Option<u8>) -> SizeCause
-    ensures { result ≡ causes.size_past length decimals }
+const fn size_past(at: SizeColumns, length: u32, decimals: Option<u8>) -> SizeFault
+    ensures { result ≡ causes.size_past at length decimals }
 {
     match decimals {
-        None => SizeCause::Length(length),
+        None => SizeFault {
+            at: at.length,
+            cause: SizeCause::Length(length),
+        },
         Some(decimals) => {
             if 1 <= length && length <= 15 {
-                SizeCause::Decimals { decimals, length }
+                SizeFault {
+                    at: at.decimals,
+                    cause: SizeCause::Decimals { decimals, length },
+                }
             } else {
-                SizeCause::Digits(length)
+                SizeFault {
+                    at: at.length,
+                    cause: SizeCause::Digits(length),
+                }
             }
         }
     }
 }
 
-fn size_by(length: u16, decimals: Option<u8>) -> Option<SizeCause>
-    ensures cause { result ≡ causes.size_by length decimals }
+fn size_by(at: SizeColumns, length: u16, decimals: Option<u8>) -> Option<SizeFault>
+    ensures cause { result ≡ causes.size_by at length decimals }
     ensures rule { is_some result ≡ is_none (sized_form length decimals) }
 {
     match sized_form(length, decimals) {
-        None => Some(size_past(u32::from(length), decimals)),
+        None => Some(size_past(at, u32::from(length), decimals)),
         Some(_) => None,
     }
 }
 
-fn of_table(table: &TableSpec) -> Option<SizeCause>
-    ensures cause { result ≡ causes.table_size_cause table.now }
+fn of_table(at: SizeColumns, table: &TableSpec) -> Option<SizeFault>
+    ensures cause { result ≡ causes.table_size_cause at table.now }
     ensures rule { is_some result ≡ rules.bad_size_of_table table.now }
 {
-    size_by(table.length, table.decimals)
+    size_by(at, table.length, table.decimals)
 }
 
-fn of_tables(extension: &ExtensionSpec) -> Option<SizeCause>
+fn of_tables(extension: &ExtensionSpec) -> Option<SizeFault>
     ensures cause { result ≡ causes.tables_size_cause extension.now }
     ensures rule { is_some result ≡ rules.bad_size_of_tables extension.now }
 {
-    match of_table(&extension.table) {
+    match of_table(TABLE, &extension.table) {
         Some(cause) => Some(cause),
-        None => of_table(extension.alternating.as_ref()?),
+        None => of_table(ALTERNATING, extension.alternating.as_ref()?),
     }
 }
 
-fn of_field(field: &InputFieldSpec) -> Option<SizeCause>
+fn of_field(field: &InputFieldSpec) -> Option<SizeFault>
     ensures cause { result ≡ causes.input_field_size_cause field.now }
     ensures rule { is_some result ≡ rules.bad_size_of_field field.now }
 {
@@ -86,18 +130,21 @@ fn of_field(field: &InputFieldSpec) -> Option<SizeCause>
         return None;
     }
     let length = u32::from(field.to) + 1 - u32::from(field.from);
-    Some(size_past(length, field.decimals))
+    Some(size_past(INPUT, length, field.decimals))
 }
 
-fn of_result(length: Option<u16>, decimals: Option<u8>) -> Option<SizeCause>
+fn of_result(length: Option<u16>, decimals: Option<u8>) -> Option<SizeFault>
     ensures cause { result ≡ causes.result_size_cause length decimals }
     ensures rule { is_some result ≡ rules.bad_size_by length decimals }
 {
     match length {
         None => {
             decimals?;
-            Some(SizeCause::NoLength)
+            Some(SizeFault {
+                at: ColumnRange::ResultDecimals,
+                cause: SizeCause::NoLength,
+            })
         }
-        Some(length) => size_by(length, decimals),
+        Some(length) => size_by(RESULT, length, decimals),
     }
 }

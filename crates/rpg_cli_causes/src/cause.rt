@@ -13,27 +13,25 @@ use crate::places::{write_join, write_outside};
 use crate::rounding::write_rounding;
 use crate::sizes::{write_limit, write_size};
 use crate::spot::{SourceCards, Spot};
-use rpg_causes::Cause;
 use rpg_cli_text::TextWriter;
-use rpg_faults::FaultCode;
-use rpg_sheet::ColumnFault;
+use rpg_faults::{CardFault, Cause};
 
 /// Writes a cause in words.
 fn write_reported(out: &mut TextWriter, spot: Spot<'_>, cause: &Cause) {
     match cause {
         Cause::UndefinedName(name) => write_undefined(out, spot, name.as_slice()),
         Cause::RedefinedName(redefined) => write_redefined(out, spot, redefined),
-        Cause::Size(size) => write_size(out, *size),
+        Cause::Size(size) => write_size(out, size.cause),
         Cause::Operand(operand) => write_operand(out, spot, operand),
         Cause::Index(index) => write_index(out, spot, index),
         Cause::Limit(limit) => write_limit(out, *limit),
         Cause::File(file) => write_file(out, spot, file),
-        Cause::Indicator(indicator) => write_bad_indicator(out, indicator),
+        Cause::Indicator(indicator) => write_bad_indicator(out, &indicator.cause),
         Cause::Column(column) => write_column(out, spot, column),
         Cause::Field(field) => write_field(out, spot, field),
         Cause::Movement(file) => write_movement(out, spot, file),
         Cause::Nowhere(nowhere) => write_nowhere(out, spot, nowhere),
-        Cause::Twice(twice) => write_twice(out, twice),
+        Cause::Twice(twice) => write_twice(out, &twice.cause),
         Cause::Order(order) => write_order(out, spot, order),
         Cause::Stray(stray) => write_stray(out, *stray),
         Cause::Apart(target) => write_target(out, target, false),
@@ -46,26 +44,24 @@ fn write_reported(out: &mut TextWriter, spot: Spot<'_>, cause: &Cause) {
     }
 }
 
-/// Writes why a card of a source has a fault at these columns. Returns whether the cause is known; otherwise nothing is written. Card 0 is
-/// the source as a whole, which lacks a primary file.
+/// Writes why a card of a source has a fault. Returns whether the cause and the card are known; otherwise nothing is written. Card 0 is the
+/// source as a whole, which lacks a primary file.
 pub fn write_cause(
     out: &mut TextWriter,
     source: SourceCards<'_>,
     line: &[u8],
-    number: u16,
-    columns: Option<ColumnFault>,
-    code: FaultCode,
+    fault: &CardFault,
 ) -> bool {
-    if number == 0 {
+    if fault.card == 0 {
         out.write_str("no card is a primary file (F card, I in 15, P in 16)");
         return true;
     }
-    let Some(spot) = Spot::of(source, line, number, columns) else {
+    let Some(spot) = Spot::of(source, line, fault.card, fault.columns) else {
         return false;
     };
-    match spot.cause(code) {
+    match &fault.cause {
         Some(cause) => {
-            write_reported(out, spot, &cause);
+            write_reported(out, spot, cause);
             true
         }
         None => false,

@@ -2,9 +2,8 @@
 
 use crate::forms::noun;
 use crate::spot::Spot;
-use rpg_causes::{DataCause, EntryCause, EntryFault, Need};
-use rpg_cli_explain::sentence_of;
-use rpg_cli_text::TextWriter;
+use rpg_cli_text::{TextWriter, sentence_of};
+use rpg_faults::{DataCause, EntryCause, EntryFault, Need};
 
 const WANTED: &str = ": {} {}, {} a card, {} {} {} of data, and ";
 

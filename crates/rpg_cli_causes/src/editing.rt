@@ -1,9 +1,8 @@
 //! F17: how an edit code or an edit word fails to fit its number.
 
 use crate::forms::noun;
-use rpg_causes::{EditingCause, Mismatch};
-use rpg_cli_explain::sentence_of;
-use rpg_cli_text::TextWriter;
+use rpg_cli_text::{TextWriter, sentence_of};
+use rpg_faults::{EditingCause, Mismatch};
 
 /// Writes how many digits a number has.
 fn write_digits(out: &mut TextWriter, name: &[u8], length: u16, decimals: u8) {

@@ -3,8 +3,8 @@
 
 use crate::spot::{Spot, text_at};
 use rpg_cards::{FileUse, SpecCard};
-use rpg_causes::{FileCause, FileOnCard, FileUser};
 use rpg_cli_text::{TextWriter, is_near};
+use rpg_faults::{FileCause, FileOnCard, FileUser};
 
 const fn use_name(serves_as: FileUse) -> &'static str {
     match serves_as {
@@ -104,7 +104,7 @@ pub(crate) fn write_file(out: &mut TextWriter, spot: Spot<'_>, cause: &FileCause
         }
         FileCause::Unknown { name, .. } => {
             out.fill_one("no F card has {}", name.as_slice());
-            write_near_file(out, spot.source.cards.as_slice(), name.as_slice());
+            write_near_file(out, spot.source.as_slice(), name.as_slice());
         }
         FileCause::WrongUse { user, file } => {
             let (of_whom, other_use) = user_names(*user);

@@ -1,7 +1,7 @@
 //! F8: indicators that aren't allowed.
 
-use rpg_causes::IndicatorCause;
 use rpg_cli_text::{TextWriter, indicator_name};
+use rpg_faults::IndicatorCause;
 use rpg_sheet::Indicator;
 
 const NOT_OF_TYPE: &str =

@@ -2,8 +2,8 @@
 
 use crate::spot::Spot;
 use rpg_cards::{Named, SpecCard, defined_name};
-use rpg_causes::{NowhereCause, Target, TwiceCause};
 use rpg_cli_text::{TextWriter, is_near};
+use rpg_faults::{NowhereCause, Target, TwiceCause};
 
 /// Returns the label or the subroutine that a card defines.
 fn given_on(card: &SpecCard) -> Option<Named> {
@@ -34,7 +34,7 @@ pub(crate) fn write_nowhere(out: &mut TextWriter, spot: Spot<'_>, cause: &Nowher
             let name = wanted.name.as_slice();
             let operation = if wanted.is_subroutine { "BEGSR" } else { "TAG" };
             out.fill_two("no {} defines {}", operation, name);
-            let cards = spot.source.cards.as_slice();
+            let cards = spot.source.as_slice();
             write_near_label(out, cards, name, wanted.is_subroutine);
         }
         NowhereCause::Other { name, giver } => {

@@ -21,5 +21,4 @@ mod spot;
 
 pub use cause::write_cause;
 pub use root::{Root, root_of};
-pub use rpg_faults_tree::AnalyzedCards;
 pub use spot::SourceCards;

@@ -1,8 +1,8 @@
 //! F9: columns that are missing or not allowed.
 
 use crate::spot::Spot;
-use rpg_causes::{ColumnCause, FieldCause};
 use rpg_cli_text::TextWriter;
+use rpg_faults::{ColumnCause, FieldCause};
 use rpg_sheet::ColumnRange;
 
 /// Returns what columns of a calculation are called.

@@ -3,8 +3,8 @@
 use crate::forms::write_form;
 use crate::near::write_near_names;
 use crate::spot::Spot;
-use rpg_causes::Redefined;
 use rpg_cli_text::TextWriter;
+use rpg_faults::Redefined;
 use rpg_program::form::{is_array, is_table};
 
 const DATE: &str =

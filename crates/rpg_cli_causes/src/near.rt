@@ -46,8 +46,8 @@ pub(crate) fn write_near_names(out: &mut TextWriter, spot: Spot<'_>, name: &[u8]
         reported: 0,
         definitions: 0,
     };
-    for card in spot.source.cards.as_slice() {
-        near = write_defined(out, spot.source.cards, name, near, card);
+    for card in spot.source.as_slice() {
+        near = write_defined(out, spot.source, name, near, card);
     }
     match near.reported {
         0 => {}

@@ -3,8 +3,8 @@
 use crate::forms::{noun, write_card, write_form};
 use crate::spot::Spot;
 use rpg_cards::Content;
-use rpg_causes::{IndexCause, OperandCause, TextField};
 use rpg_cli_text::TextWriter;
+use rpg_faults::{IndexCause, OperandCause, TextField};
 use rpg_program::form::{Class, FieldForm};
 use rpg_sheet::{ColumnRange, Word};
 

@@ -2,8 +2,8 @@
 //! or belong to.
 
 use crate::spot::Spot;
-use rpg_causes::{OrderCause, StrayCause};
 use rpg_cli_text::TextWriter;
+use rpg_faults::{OrderCause, StrayCause};
 use rpg_sheet::{ControlLevel, Word};
 
 /// Returns the time of a section.

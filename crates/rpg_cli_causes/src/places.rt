@@ -2,8 +2,8 @@
 
 use crate::forms::noun;
 use crate::spot::{Spot, text_at};
-use rpg_causes::{FileOnCard, JoinCause, PlaceCause};
 use rpg_cli_text::{Piece, TextWriter};
+use rpg_faults::{FileOnCard, JoinCause, PlaceCause};
 use rpg_sheet::ColumnRange;
 
 /// Writes how long the records or lines are, and the card that says so.
@@ -38,7 +38,7 @@ pub(crate) fn write_outside(out: &mut TextWriter, spot: Spot<'_>, cause: &PlaceC
             out.fill_one("position {}", position(spot, *at));
             write_length(out, "records", file);
         }
-        PlaceCause::NoColumn => out.write_str("columns of a record are counted from 1"),
+        PlaceCause::NoColumn(_) => out.write_str("columns of a record are counted from 1"),
         PlaceCause::TurnedRound { from, to } => {
             out.fill_two(TURNED_ROUND, *to, *from);
         }

@@ -1,8 +1,7 @@
 //! Faults with a common cause.
 
 use crate::spot::{SourceCards, Spot};
-use rpg_causes::{Cause, OperandCause, OrderCause};
-use rpg_faults::{CardFault, FaultCode, SourceCode};
+use rpg_faults::{CardFault, Cause, OperandCause, OrderCause};
 use rpg_program::form::Kind;
 use rpg_sheet::Entry;
 
@@ -44,7 +43,7 @@ fn text_root(spot: Spot<'_>) -> Option<Root> {
     }
 }
 
-/// Returns the root of a cause of F1, F4 or F12; of F4 only if an operand is a text.
+/// Returns the root of a cause of F1, F4, F12 or F17; of F4 only if an operand is a text.
 fn root_in(spot: Spot<'_>, cause: &Cause) -> Option<Root> {
     match cause {
         Cause::UndefinedName(name) => Some(Root::Unknown(padded(name.as_slice()))),
@@ -54,20 +53,14 @@ fn root_in(spot: Spot<'_>, cause: &Cause) -> Option<Root> {
             | OperandCause::Unlike { .. },
         ) => text_root(spot),
         Cause::Order(OrderCause::Early { card, .. }) => Some(Root::Later(*card)),
+        Cause::Editing(_) => text_root(spot),
         _ => None,
     }
 }
 
 /// Returns the root of a fault that other faults may share: an undefined name, a field that is a text, or a calculation that comes too
 /// early.
-pub fn root_of(source: SourceCards<'_>, line: &[u8], fault: CardFault) -> Option<Root> {
-    let SourceCode::Fault(code) = fault.code else {
-        return None;
-    };
-    let spot = Spot::of(source, line, fault.card, fault.columns)?;
-    match code {
-        FaultCode::F1 | FaultCode::F4 | FaultCode::F12 => root_in(spot, &spot.cause(code)?),
-        FaultCode::F17 => text_root(spot),
-        _ => None,
-    }
+pub fn root_of(source: SourceCards<'_>, line: &[u8], fault: &CardFault) -> Option<Root> {
+    let cause = fault.cause.as_ref()?;
+    root_in(Spot::of(source, line, fault.card, fault.columns)?, cause)
 }

@@ -1,8 +1,8 @@
 //! F15: H, and MVR.
 
 use crate::spot::Spot;
-use rpg_causes::RoundingCause;
 use rpg_cli_text::TextWriter;
+use rpg_faults::RoundingCause;
 
 /// F15: why H or MVR isn't allowed.
 pub(crate) fn write_rounding(out: &mut TextWriter, spot: Spot<'_>, cause: RoundingCause) {

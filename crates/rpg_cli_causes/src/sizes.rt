@@ -1,8 +1,8 @@
 //! F3 and F6: lengths, decimals, and how many there may be.
 
 use crate::forms::noun;
-use rpg_causes::{Limit, LimitCause, SizeCause};
 use rpg_cli_text::TextWriter;
+use rpg_faults::{Limit, LimitCause, SizeCause};
 
 const LENGTH: &str = "a length of {}: a number has 1 to 15 digits, a text 1 to 256 characters";
 

@@ -1,9 +1,7 @@
 //! A fault's card among the others, and its contents.
 
+use rpg_card_index::IndexedCards;
 use rpg_cards::{Defined, SpecCard};
-use rpg_causes::{Cause, fault_cause};
-use rpg_faults::FaultCode;
-use rpg_faults_tree::AnalyzedCards;
 use rpg_program::form::FieldForm;
 use rpg_sheet::{ColumnFault, ColumnRange, DataSpec, Entry, Factor, Word};
 use rpg_text::{first_line, trimmed};
@@ -11,14 +9,21 @@ use rpg_text::{first_line, trimmed};
 /// A source's text and its cards. There are no cards if only the card of the fault is known.
 #[derive(Clone, Copy)]
 pub struct SourceCards<'a> {
-    pub cards: Option<&'a AnalyzedCards<'a>>,
+    pub cards: Option<&'a IndexedCards<'a>>,
     pub text: &'a [u8],
+}
+
+impl<'a> SourceCards<'a> {
+    pub fn of(cards: &'a IndexedCards<'a>, text: &'a [u8]) -> Self {
+        let cards = Some(cards);
+        SourceCards { cards, text }
+    }
 }
 
 /// A card with a fault, among the cards of its source.
 #[derive(Clone, Copy)]
 pub(crate) struct Spot<'a> {
-    pub source: &'a AnalyzedCards<'a>,
+    pub source: &'a IndexedCards<'a>,
     pub text: &'a [u8],
     pub line: &'a [u8],
     pub card: &'a SpecCard,
@@ -48,7 +53,7 @@ impl<'a> Spot<'a> {
     ) -> Option<Self> {
         let SourceCards { cards, text } = source;
         let source = cards?;
-        let card = card_at(source.cards.as_slice(), number)?;
+        let card = card_at(source.as_slice(), number)?;
         Some(Spot {
             source,
             text,
@@ -56,11 +61,6 @@ impl<'a> Spot<'a> {
             card,
             columns,
         })
-    }
-
-    /// Returns why the card has a fault.
-    pub fn cause(self, code: FaultCode) -> Option<Cause> {
-        fault_cause(self.source, self.card.number, code)
     }
 
     /// Returns the first column that the fault points at.
@@ -79,7 +79,7 @@ impl<'a> Spot<'a> {
 
     /// Whether the card with this number is an E card.
     pub fn is_extension(self, number: u16) -> bool {
-        match card_at(self.source.cards.as_slice(), number) {
+        match card_at(self.source.as_slice(), number) {
             Some(card) => card.extension().is_some(),
             None => false,
         }
@@ -109,7 +109,7 @@ impl<'a> Spot<'a> {
     /// Returns the text from a column on of a card of data.
     pub fn data_of_card(self, number: u16, column: usize, length: usize) -> Option<&'a [u8]> {
         let first = column.saturating_sub(1);
-        match card_at(self.source.cards.as_slice(), number)?.data()? {
+        match card_at(self.source.as_slice(), number)?.data()? {
             DataSpec::Card(data) => data.as_slice().get(first..first.saturating_add(length)),
             DataSpec::Begin => None,
         }
@@ -135,7 +135,7 @@ impl<'a> Spot<'a> {
 
     /// Returns the form of a name.
     pub fn form(self, name: &Word<6>) -> Option<FieldForm> {
-        match self.source.cards.form_of_name(name) {
+        match self.source.form_of_name(name) {
             Defined::Valid(form) => Some(form),
             Defined::Missing | Defined::Bad => None,
         }
@@ -143,7 +143,7 @@ impl<'a> Spot<'a> {
 
     /// Returns the first card that defines a name.
     pub fn definer(self, name: &[u8]) -> Option<&'a SpecCard> {
-        for card in self.source.cards.as_slice() {
+        for card in self.source.as_slice() {
             if defines(card, name) {
                 return Some(card);
             }
@@ -152,12 +152,18 @@ impl<'a> Spot<'a> {
     }
 }
 
-/// Returns the card with this number.
+/// Returns the card with this number. No more cards come before it than its number says, and only comments are left out.
 fn card_at(cards: &[SpecCard], number: u16) -> Option<&SpecCard> {
-    for card in cards {
-        if card.number == number {
-            return Some(card);
+    let mut rest = cards.get(..usize::from(number)).unwrap_or(cards);
+    while let Some((card, before)) = rest.split_last() {
+        if card.number <= number {
+            return if card.number == number {
+                Some(card)
+            } else {
+                None
+            };
         }
+        rest = before;
     }
     None
 }

@@ -11,16 +11,13 @@ use rpg_cli_messages::{is_object, source_messages};
 use rpg_cli_words::{FileArgument, FitArguments, is_standard};
 use rpg_faults::{CardFault, SourceCode, SourceFault, source_faults};
 use rpg_fit::{FitFault, FittedDeck, Settings, Switches, TableFile, fit};
-use rpg_sheet::SheetCode;
+use rpg_sheet::{MOST_CARDS, SheetCode};
 use std::alloc::{AllocError, Global};
 use std::io::Write;
 use std::rt::Files;
 
-/// The most cards of a deck.
-const MOST_CARDS: usize = 2000;
-
 /// The number of the first card over the limit.
-const PAST_LIMIT: u16 = 2001;
+const PAST_LIMIT: u16 = MOST_CARDS + 1;
 
 /// Reads the records of the table files that the arguments name.
 fn table_records<R: Files + AllocGlobal>(
@@ -93,7 +90,7 @@ fn refuse_long<L: Listener>(
     listener: &mut L,
 ) -> Answer {
     let cards = count_lines(source);
-    let message = if cards > MOST_CARDS {
+    let message = if cards > usize::from(MOST_CARDS) {
         long_deck_message(alloc, arguments.source, cards, PAST_LIMIT)
     } else {
         too_many_message(alloc, arguments.source)
@@ -187,21 +184,17 @@ fn report_fit<L: Listener>(
 
 /// Returns the first of a deck's faults.
 fn first_fault(faults: &[CardFault]) -> Option<SourceFault> {
-    let CardFault {
-        card,
-        code,
-        columns,
-    } = *faults.first()?;
+    let fault = faults.first()?;
     Some(SourceFault::At {
-        card,
-        code,
-        columns,
+        card: fault.card,
+        code: fault.code,
+        columns: fault.columns,
     })
 }
 
 /// Returns the answer for a rewritten deck: its changes, or the first fault of the new one.
 fn answer_of(fit: &FittedDeck) -> Answer {
-    match first_fault(&fit.faults) {
+    match first_fault(&fit.judged.faults) {
         None => Answer::Fitted {
             changes: fit.fitted.changes() as u64,
         },
@@ -216,10 +209,10 @@ fn refuse_object<L: Listener>(
     object: &[u8],
     listener: &mut L,
 ) -> Result<Answer, Answer> {
-    let faults = source_faults(alloc, object)?;
-    let messages = source_messages(alloc, arguments.source, object, &faults, 1);
+    let judged = source_faults(alloc, object)?;
+    let messages = source_messages(alloc, arguments.source, object, &judged, 1);
     report_message(listener, messages);
-    match first_fault(&faults) {
+    match first_fault(&judged.faults) {
         None => Ok(Answer::Faultless),
         Some(fault) => Err(Answer::Source(fault)),
     }

@@ -18,11 +18,11 @@ pub(crate) fn new_deck_messages(
     fit: &FittedDeck,
 ) -> Result<String, AllocError> {
     let mut out = TextWriter::new(alloc);
-    if fit.faults.is_empty() {
+    if fit.judged.faults.is_empty() {
         return out.finish();
     }
     let new = fit.fitted.new.as_slice();
-    let messages = source_messages(alloc, new_path, new, fit.faults.as_slice(), MOST)?;
+    let messages = source_messages(alloc, new_path, new, &fit.judged, MOST)?;
     out.write_str(messages.as_str());
     write_origins(&mut out, new_path, path, fit);
     out.finish()
@@ -31,7 +31,7 @@ pub(crate) fn new_deck_messages(
 /// Writes which cards of the source the cards with faults come from.
 fn write_origins(out: &mut TextWriter, new_path: &str, path: &str, fit: &FittedDeck) {
     let mut last = 0;
-    for fault in fit.faults.iter().take(usize::from(MOST)) {
+    for fault in fit.judged.faults.iter().take(usize::from(MOST)) {
         let card = usize::from(fault.card);
         if card == last {
             continue;

@@ -32,7 +32,7 @@ fn write_faults<'f>(
         if usize::from(fault.card) != number {
             break;
         }
-        write_note(out, MARGIN, line, source, *fault);
+        write_note(out, MARGIN, line, source, fault);
         rest = rest.get(1..).unwrap_or(&[]);
     }
     rest

@@ -2,16 +2,13 @@
 
 use rpg_cards::SpecCard;
 use rpg_faults::{CardFault, SourceCode};
-use rpg_sheet::{Card, Spec};
+use rpg_sheet::{Card, MOST_CARDS, Spec};
 use rpg_sheet_specs::{DataCard, DataSpec};
 use rpg_text::{first_line, has_only_characters};
 use std::alloc::{AllocError, Global};
 
 /// The columns of a card.
 const COLUMNS: usize = 80;
-
-/// The last card of a source.
-const LAST_CARD: u16 = 2000;
 
 /// The lines of a source up to the card that ends it, or to the first one over the limit; the readable cards, of a sheet or of data;
 /// and whether these have all E cards and all that begin data, so that it is known which data are whose.
@@ -105,7 +102,7 @@ impl<'a> ReadCards<'a> {
         };
         let mut rest = source;
         let mut is_data = false;
-        for number in 1..=LAST_CARD + 1 {
+        for number in 1..=MOST_CARDS + 1 {
             if rest.is_empty() {
                 break;
             }

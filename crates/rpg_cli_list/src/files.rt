@@ -1,11 +1,10 @@
 //! The files of a source.
 
-use rpg_cards::{FileUse, use_of};
+use rpg_cards::{FileUse, SpecCard, use_of};
 use rpg_cli_list_names::{By, Mentions, overflow_of};
 use rpg_cli_show_fields::{name_text, write_named};
 use rpg_cli_text::TextWriter;
-use rpg_deck::{Card, Tree};
-use rpg_sheet_specs::{FileSpec, InputSpec, OutputSpec, Word};
+use rpg_sheet_specs::{FileSpec, Word};
 use std::alloc::{AllocError, Global};
 
 /// The columns before the other cards that name a file.
@@ -37,34 +36,23 @@ pub(crate) fn write_heading(
     out.write_char('\n');
 }
 
-/// Whether a card names the file.
-fn is_named(file: &Option<Word<8>>, name: &Word<8>) -> bool {
-    match file {
-        Some(named) => named == name,
-        None => false,
+/// Returns the file that a card names for a record type or a line.
+fn named_file(card: &SpecCard) -> Option<&Word<8>> {
+    match card.record_type() {
+        Some(record_type) => record_type.file.as_ref(),
+        None => card.line()?.file.as_ref(),
     }
 }
 
-/// Notes the cards of record types that name a file.
-fn note_types(mentions: &mut Mentions, tree: &Tree, name: &Word<8>) -> Result<(), AllocError> {
-    for group in &tree.types.groups {
-        match group.first.spec {
-            InputSpec::Type(record_type) if is_named(&record_type.file, name) => {
-                mentions.note(By::Using, group.first.number)?;
-            }
-            _ => {}
-        }
-    }
-    Ok(())
-}
-
-/// Notes the cards of lines that name a file.
-fn note_lines(mentions: &mut Mentions, tree: &Tree, name: &Word<8>) -> Result<(), AllocError> {
-    for group in &tree.lines.groups {
-        match group.first.spec {
-            OutputSpec::Record(record) if is_named(&record.file, name) => {
-                mentions.note(By::Using, group.first.number)?;
-            }
+/// Notes the cards of record types and lines that name a file.
+fn note_users(
+    mentions: &mut Mentions,
+    cards: &[SpecCard],
+    name: &Word<8>,
+) -> Result<(), AllocError> {
+    for card in cards {
+        match named_file(card) {
+            Some(file) if file == name => mentions.note(By::Using, card.number)?,
             _ => {}
         }
     }
@@ -90,10 +78,11 @@ fn write_file(out: &mut TextWriter, card: u16, file: &FileSpec) {
 }
 
 /// Whether one of these cards describes the file.
-fn is_among(cards: &[Card<&FileSpec>], name: &Word<8>) -> bool {
+fn is_among(cards: &[SpecCard], name: &Word<8>) -> bool {
     for card in cards {
-        if card.spec.name == *name {
-            return true;
+        match card.file() {
+            Some(file) if file.name == *name => return true,
+            _ => {}
         }
     }
     false
@@ -103,19 +92,22 @@ fn is_among(cards: &[Card<&FileSpec>], name: &Word<8>) -> bool {
 pub(crate) fn write_files(
     alloc: Global,
     out: &mut TextWriter,
-    tree: &Tree,
+    cards: &[SpecCard],
 ) -> Result<(), AllocError> {
-    if !tree.files.is_empty() {
-        out.write_str("\nFILES\n");
-    }
-    for (place, card) in tree.files.iter().enumerate() {
-        let before = tree.files.get(..place).unwrap_or(&[]);
-        let name = &card.spec.name;
-        if !is_among(before, name) {
-            write_file(out, card.number, card.spec);
+    let mut is_first = true;
+    for (place, card) in cards.iter().enumerate() {
+        let Some(file) = card.file() else {
+            continue;
+        };
+        if is_first {
+            out.write_str("\nFILES\n");
+        }
+        is_first = false;
+        let before = cards.get(..place).unwrap_or(&[]);
+        if !is_among(before, &file.name) {
+            write_file(out, card.number, file);
             let mut mentions = Mentions::new(alloc);
-            note_types(&mut mentions, tree, name)?;
-            note_lines(&mut mentions, tree, name)?;
+            note_users(&mut mentions, cards, &file.name)?;
             mentions.write_lines(out, By::Using, NAMED);
             out.write_char('\n');
         }

@@ -4,12 +4,11 @@ use crate::chart::{Chart, first_place};
 use crate::files::{length_words, write_heading};
 use crate::picture::picture_of;
 use rpg_card_index::IndexedCards;
-use rpg_cards::{FileUse, in_places, time_of, use_of};
+use rpg_cards::{FileUse, SpecCard, in_places, time_of, use_of};
 use rpg_cli_show_fields::{
     name_text, time_word, write_code, write_quoted, write_spacing, write_when,
 };
 use rpg_cli_text::TextWriter;
-use rpg_deck::{Card, Tree};
 use rpg_edit_marks::Fill;
 use rpg_faults_operands::fill_in;
 use rpg_program::line::Spacing;
@@ -50,7 +49,7 @@ fn write_head(
     card: u16,
     record: &OutputRecord,
     file: Option<&FileSpec>,
-    followers: &[Card<&OutputSpec>],
+    after: &[SpecCard],
 ) {
     let time = time_word(time_of(record.time));
     out.fill("  line, card {}: {}", &[card.into(), time.into()]);
@@ -61,27 +60,25 @@ fn write_head(
         _ => {}
     }
     write_when(out, ", when", in_places(record.conditions));
-    for card in followers {
-        match card.spec {
-            OutputSpec::And(conditions) => write_when(out, " and", in_places(*conditions)),
-            OutputSpec::Or(conditions) => write_when(out, ", or", in_places(*conditions)),
-            OutputSpec::Record(_) | OutputSpec::Field(_) => {}
+    for card in after {
+        match card.output() {
+            Some(OutputSpec::Record(_)) => break,
+            Some(OutputSpec::And(conditions)) => write_when(out, " and", in_places(*conditions)),
+            Some(OutputSpec::Or(conditions)) => write_when(out, ", or", in_places(*conditions)),
+            Some(OutputSpec::Field(_)) | None => {}
         }
     }
     out.write_char('\n');
 }
 
 /// Draws the fields of a line.
-fn write_chart(
-    out: &mut TextWriter,
-    source: &IndexedCards,
-    length: u16,
-    followers: &[Card<&OutputSpec>],
-) {
+fn write_chart(out: &mut TextWriter, source: &IndexedCards, length: u16, after: &[SpecCard]) {
     let mut chart = Chart::new(length, b' ');
-    for card in followers {
-        if let OutputSpec::Field(field) = card.spec {
-            draw_field(&mut chart, source, field);
+    for card in after {
+        match card.output() {
+            Some(OutputSpec::Record(_)) => break,
+            Some(OutputSpec::Field(field)) => draw_field(&mut chart, source, field),
+            Some(OutputSpec::And(_) | OutputSpec::Or(_)) | None => {}
         }
     }
     chart.write(out);
@@ -150,29 +147,35 @@ fn write_line(
     out: &mut TextWriter,
     source: &IndexedCards,
     file: Option<&FileSpec>,
-    followers: &[Card<&OutputSpec>],
+    after: &[SpecCard],
 ) {
     if let Some(file) = file {
-        write_chart(out, source, file.record_length, followers);
+        write_chart(out, source, file.record_length, after);
     }
     let mut is_first = true;
-    for card in followers {
-        if let OutputSpec::Field(field) = card.spec {
-            if is_first {
-                out.write_str("    card  places     printed\n");
+    for card in after {
+        match card.output() {
+            Some(OutputSpec::Record(_)) => break,
+            Some(OutputSpec::Field(field)) => {
+                if is_first {
+                    out.write_str("    card  places     printed\n");
+                }
+                is_first = false;
+                write_field(out, source, card.number, field);
             }
-            is_first = false;
-            write_field(out, source, card.number, field);
+            Some(OutputSpec::And(_) | OutputSpec::Or(_)) | None => {}
         }
     }
 }
 
 /// Writes all lines with their layouts.
-pub(crate) fn write_lines(out: &mut TextWriter, source: &IndexedCards, tree: &Tree) {
+pub(crate) fn write_lines(out: &mut TextWriter, source: &IndexedCards) {
     let mut file = None;
     let mut is_first = true;
-    for group in &tree.lines.groups {
-        let OutputSpec::Record(record) = group.first.spec else {
+    let mut rest = source.as_slice();
+    while let Some((card, after)) = rest.split_first() {
+        rest = after;
+        let Some(record) = card.line() else {
             continue;
         };
         if let Some(name) = &record.file {
@@ -186,7 +189,7 @@ pub(crate) fn write_lines(out: &mut TextWriter, source: &IndexedCards, tree: &Tr
             write_heading(out, "LINES", record.file.as_ref(), file, counted);
         }
         is_first = false;
-        write_head(out, group.first.number, record, file, group.followers);
-        write_line(out, source, file, group.followers);
+        write_head(out, card.number, record, file, after);
+        write_line(out, source, file, after);
     }
 }

@@ -8,9 +8,8 @@ use crate::records::write_records;
 use crate::tables::write_tables;
 use rpg_card_index::IndexedCards;
 use rpg_cli_list_names::{Indicators, Labels, Names, write_constants};
-use rpg_cli_messages::{AnalyzedCards, SourceCards};
+use rpg_cli_messages::SourceCards;
 use rpg_cli_text::TextWriter;
-use rpg_deck::{Deck, Tree};
 use rpg_faults::{CardFault, source_faults};
 use std::alloc::{AllocError, Global};
 
@@ -70,15 +69,13 @@ fn write_contents(
     has_all_tables: bool,
 ) -> Result<(), AllocError> {
     let cards = source.as_slice();
-    let deck = Deck::new(alloc, cards)?;
-    let tree = Tree::of(alloc, &deck)?;
-    write_files(alloc, out, &tree)?;
-    write_tables(out, &tree, has_all_tables);
-    write_records(out, source, &tree);
+    write_files(alloc, out, cards)?;
+    write_tables(out, cards, has_all_tables);
+    write_records(out, source);
     write_fields(alloc, out, source)?;
     Labels::of(alloc, cards)?.write(out);
     Indicators::of(alloc, cards)?.write(out);
-    write_lines(out, source, &tree);
+    write_lines(out, source);
     Ok(())
 }
 
@@ -92,11 +89,7 @@ fn cards_text(
     let source = IndexedCards::new(alloc, &read.cards)?;
     let mut out = TextWriter::new(alloc);
     write_head(&mut out, path, read.lines.len(), faults);
-    let analyzed = AnalyzedCards::if_few(alloc, &source)?;
-    let known = SourceCards {
-        cards: analyzed.as_ref(),
-        text,
-    };
+    let known = SourceCards::of(&source, text);
     write_cards(&mut out, &read.lines, known, faults);
     write_contents(alloc, &mut out, &source, read.has_all_tables)?;
     out.finish()
@@ -106,9 +99,9 @@ fn cards_text(
 /// their fields; names, constants, labels and indicators with the cards that use them; and its lines as they are printed. For cards that
 /// can't be read the listing has only the faults. `path` is the name of the source.
 pub fn source_listing(alloc: Global, path: &str, source: &[u8]) -> Result<String, AllocError> {
-    let Ok(faults) = source_faults(alloc, source) else {
+    let Ok(judged) = source_faults(alloc, source) else {
         return Err(AllocError);
     };
-    let read = ReadCards::of(alloc, source, &faults)?;
-    cards_text(alloc, path, source, &read, &faults)
+    let read = ReadCards::of(alloc, source, &judged.faults)?;
+    cards_text(alloc, path, source, &read, &judged.faults)
 }

@@ -4,10 +4,9 @@ use crate::chart::{Chart, MOST_DRAWN};
 use crate::files::write_heading;
 use crate::tables::write_decimals;
 use rpg_card_index::IndexedCards;
-use rpg_cards::{number_of, shows_of};
+use rpg_cards::{SpecCard, number_of, shows_of};
 use rpg_cli_show_fields::{name_text, write_named, write_quoted, write_shows};
 use rpg_cli_text::TextWriter;
-use rpg_deck::{Card, Tree};
 use rpg_sheet_specs::{FileSpec, InputFieldSpec, InputSpec, RecordCode, RecordType, Three};
 
 /// Writes which type it is, and which indicator it turns on.
@@ -39,13 +38,17 @@ fn write_all_codes(
     out: &mut TextWriter,
     card: u16,
     codes: &Three<Option<RecordCode>>,
-    followers: &[Card<&InputSpec>],
+    after: &[SpecCard],
 ) {
     let mut is_any = write_codes(out, card, codes) == 0;
-    for card in followers {
-        if let InputSpec::And(codes) = card.spec {
-            write_codes(out, card.number, codes);
-            is_any = false;
+    for card in after {
+        match card.input() {
+            Some(InputSpec::Type(_)) => break,
+            Some(InputSpec::And(codes)) => {
+                write_codes(out, card.number, codes);
+                is_any = false;
+            }
+            Some(InputSpec::Field(_)) | None => {}
         }
     }
     if is_any {
@@ -84,44 +87,57 @@ fn write_field(out: &mut TextWriter, card: u16, field: &InputFieldSpec) {
 
 /// Draws the record: an X for each character of a text, a 9 for each digit, a point outside all
 /// fields.
-fn write_layout(out: &mut TextWriter, length: u16, followers: &[Card<&InputSpec>]) {
+fn write_layout(out: &mut TextWriter, length: u16, after: &[SpecCard]) {
     let mut chart = Chart::new(length, b'.');
-    for card in followers {
-        if let InputSpec::Field(field) = card.spec {
-            let letter = if field.decimals.is_some() { b'9' } else { b'X' };
-            chart.fill(field.from, field.to, letter);
+    for card in after {
+        match card.input() {
+            Some(InputSpec::Type(_)) => break,
+            Some(InputSpec::Field(field)) => {
+                let letter = if field.decimals.is_some() { b'9' } else { b'X' };
+                chart.fill(field.from, field.to, letter);
+            }
+            Some(InputSpec::And(_)) | None => {}
         }
     }
     chart.write(out);
 }
 
 /// Writes the fields of a type below a heading, if there are any.
-fn write_fields(out: &mut TextWriter, file: Option<&FileSpec>, followers: &[Card<&InputSpec>]) {
+fn write_fields(out: &mut TextWriter, file: Option<&FileSpec>, after: &[SpecCard]) {
     let mut is_first = true;
-    for card in followers {
-        let InputSpec::Field(field) = card.spec else {
-            continue;
+    for card in after {
+        let field = match card.input() {
+            Some(InputSpec::Type(_)) => break,
+            Some(InputSpec::Field(field)) => field,
+            Some(InputSpec::And(_)) | None => continue,
         };
         if is_first {
-            match file {
-                Some(file) if file.record_length <= MOST_DRAWN => {
-                    write_layout(out, file.record_length, followers);
-                }
-                _ => {}
-            }
-            out.write_str("    card  columns    field   length  decimals\n");
+            write_field_heading(out, file, after);
         }
         is_first = false;
         write_field(out, card.number, field);
     }
 }
 
+/// Draws a short record, and writes the heading of its fields.
+fn write_field_heading(out: &mut TextWriter, file: Option<&FileSpec>, after: &[SpecCard]) {
+    match file {
+        Some(file) if file.record_length <= MOST_DRAWN => {
+            write_layout(out, file.record_length, after);
+        }
+        _ => {}
+    }
+    out.write_str("    card  columns    field   length  decimals\n");
+}
+
 /// Writes the record types with their fields.
-pub(crate) fn write_records(out: &mut TextWriter, source: &IndexedCards, tree: &Tree) {
+pub(crate) fn write_records(out: &mut TextWriter, source: &IndexedCards) {
     let mut file = None;
     let mut is_first = true;
-    for group in &tree.types.groups {
-        let InputSpec::Type(record_type) = group.first.spec else {
+    let mut rest = source.as_slice();
+    while let Some((card, after)) = rest.split_first() {
+        rest = after;
+        let Some(record_type) = card.record_type() else {
             continue;
         };
         if let Some(name) = &record_type.file {
@@ -131,8 +147,8 @@ pub(crate) fn write_records(out: &mut TextWriter, source: &IndexedCards, tree: &
             write_heading(out, "RECORDS", record_type.file.as_ref(), file, "columns");
         }
         is_first = false;
-        write_head(out, group.first.number, record_type);
-        write_all_codes(out, group.first.number, &record_type.codes, group.followers);
-        write_fields(out, file, group.followers);
+        write_head(out, card.number, record_type);
+        write_all_codes(out, card.number, &record_type.codes, after);
+        write_fields(out, file, after);
     }
 }

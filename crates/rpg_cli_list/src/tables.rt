@@ -1,10 +1,9 @@
 //! Tables and arrays.
 
-use rpg_cards::is_table;
+use rpg_cards::{SpecCard, is_table};
 use rpg_cli_show_fields::name_text;
 use rpg_cli_text::TextWriter;
-use rpg_deck::Tree;
-use rpg_sheet_specs::{ExtensionSpec, TableSpec};
+use rpg_sheet_specs::{DataSpec, ExtensionSpec, TableSpec};
 
 const HEADING: &str =
     "\nTABLES AND ARRAYS\n  card  name    is     entries  length  decimals  sequence   data\n";
@@ -42,6 +41,17 @@ fn write_table(
     out.end_line();
 }
 
+/// Returns the next card after which data come, and moves on to the cards after it.
+fn next_deck(rest: &mut &[SpecCard]) -> Option<u16> {
+    while let Some((card, following)) = rest.split_first() {
+        *rest = following;
+        if matches!(card.data(), Some(DataSpec::Begin)) {
+            return Some(card.number);
+        }
+    }
+    None
+}
+
 /// Writes decimals in their column, for tables and fields.
 pub(crate) fn write_decimals(out: &mut TextWriter, decimals: Option<u8>) {
     match decimals {
@@ -52,18 +62,21 @@ pub(crate) fn write_decimals(out: &mut TextWriter, decimals: Option<u8>) {
 
 /// Writes a row for each table and array of the E cards. The data come in the order of the E cards that have data: where they are is known
 /// if these are all tables of the source.
-pub(crate) fn write_tables(out: &mut TextWriter, tree: &Tree, are_all: bool) {
-    if !tree.tables.is_empty() {
-        out.write_str(HEADING);
-    }
-    let mut with_data = 0usize;
-    for card in tree.tables {
-        let extension = card.spec;
-        let beginning = match (extension.entries_per_card, tree.decks.groups.get(with_data)) {
-            (Some(_), Some(deck)) if are_all => Some(deck.first.number),
-            _ => None,
+pub(crate) fn write_tables(out: &mut TextWriter, cards: &[SpecCard], are_all: bool) {
+    let mut decks = if are_all { cards } else { &[] };
+    let mut is_first = true;
+    for card in cards {
+        let Some(extension) = card.extension() else {
+            continue;
         };
-        with_data = with_data.saturating_add(usize::from(beginning.is_some()));
+        if is_first {
+            out.write_str(HEADING);
+        }
+        is_first = false;
+        let beginning = match extension.entries_per_card {
+            Some(_) => next_deck(&mut decks),
+            None => None,
+        };
         write_table(out, card.number, extension, &extension.table, beginning);
         if let Some(table) = &extension.alternating {
             write_table(out, card.number, extension, table, beginning);

@@ -2,17 +2,15 @@
 
 use crate::bytes::{is_object, write_byte_cause, write_long_line};
 use crate::card_lines::CardLines;
-use crate::cards::readable_cards;
 use crate::order::{LaterCard, later_card, write_order};
 use crate::picture::write_picture;
 use crate::shorthand::write_shorthand;
 use crate::unmarked::write_unmarked;
 use rpg_card_index::IndexedCards;
-use rpg_cli_causes::{AnalyzedCards, Root, SourceCards, root_of, write_cause};
+use rpg_cli_causes::{Root, SourceCards, root_of, write_cause};
 use rpg_cli_columns::{character_at, write_bad_columns, write_form_type};
-use rpg_cli_explain::sentence_of;
-use rpg_cli_text::TextWriter;
-use rpg_faults::{CardFault, SourceCode};
+use rpg_cli_text::{TextWriter, sentence_of};
+use rpg_faults::{CardFault, SourceCode, SourceFaults};
 use rpg_sheet::{ColumnFault, SheetCode};
 use rpg_text::{is_character, trimmed};
 use std::alloc::{AllocError, Global};
@@ -23,16 +21,12 @@ pub fn source_messages(
     alloc: Global,
     path: &str,
     source: &[u8],
-    faults: &[CardFault],
+    judged: &SourceFaults,
     most: u16,
 ) -> Result<String, AllocError> {
-    let cards = readable_cards(alloc, source, faults)?;
-    let cards = IndexedCards::new(alloc, &cards)?;
-    let analyzed = AnalyzedCards::if_few(alloc, &cards)?;
-    let known = SourceCards {
-        cards: analyzed.as_ref(),
-        text: source,
-    };
+    let faults = judged.faults.as_slice();
+    let cards = IndexedCards::new(alloc, &judged.cards)?;
+    let known = SourceCards::of(&cards, source);
     let mut out = TextWriter::new(alloc);
     let mut mistakes = Vec::new(alloc);
     let most = if is_object(source) { most.min(1) } else { most };
@@ -47,7 +41,7 @@ pub fn card_message(
     alloc: Global,
     path: &str,
     source: &[u8],
-    fault: CardFault,
+    fault: &CardFault,
 ) -> Result<String, AllocError> {
     let known = SourceCards {
         cards: None,
@@ -70,16 +64,16 @@ fn write_messages(
     let mut lines = CardLines::of(source.text);
     for fault in faults {
         let line = lines.line_of(fault.card);
-        match mistake_of(source, line, *fault) {
+        match mistake_of(source, line, fault) {
             Some(mistake) if mistakes.contains(&mistake) => write_follower(
-                out, path, line, *fault, mistake,
+                out, path, line, fault, mistake,
             ),
             Some(mistake) => {
                 mistakes.push(mistake)?;
-                write_message(out, path, line, source, *fault);
+                write_message(out, path, line, source, fault);
                 write_mistaken_card(out, path, source.text, mistake);
             }
-            None => write_message(out, path, line, source, *fault),
+            None => write_message(out, path, line, source, fault),
         }
     }
     Ok(())
@@ -94,7 +88,7 @@ enum Mistake {
     Root(Root),
 }
 
-fn mistake_of(source: SourceCards<'_>, line: &[u8], fault: CardFault) -> Option<Mistake> {
+fn mistake_of(source: SourceCards<'_>, line: &[u8], fault: &CardFault) -> Option<Mistake> {
     match fault.code {
         SourceCode::Sheet(SheetCode::S4) => {
             Some(Mistake::Later(later_card(source.text, fault.card, line)?))
@@ -115,7 +109,7 @@ fn write_follower(
     out: &mut TextWriter,
     path: &str,
     line: &[u8],
-    fault: CardFault,
+    fault: &CardFault,
     mistake: Mistake,
 ) {
     let columns = columns_of(line, fault);
@@ -152,7 +146,7 @@ fn write_mistaken_card(out: &mut TextWriter, path: &str, source: &[u8], mistake:
 }
 
 /// Returns the columns that a fault points at, if its code says which.
-pub(crate) fn columns_of(line: &[u8], fault: CardFault) -> Option<ColumnFault> {
+pub(crate) fn columns_of(line: &[u8], fault: &CardFault) -> Option<ColumnFault> {
     match fault.code {
         SourceCode::Sheet(SheetCode::S1) => Some(column(81)),
         SourceCode::Sheet(SheetCode::S2) => {
@@ -189,7 +183,7 @@ fn write_message(
     path: &str,
     line: &[u8],
     source: SourceCards<'_>,
-    fault: CardFault,
+    fault: &CardFault,
 ) {
     let columns = columns_of(line, fault);
     write_place(out, path, fault.card, columns, fault.code.text());
@@ -235,7 +229,7 @@ pub(crate) fn write_sentence(
     out: &mut TextWriter,
     line: &[u8],
     source: SourceCards<'_>,
-    fault: CardFault,
+    fault: &CardFault,
 ) {
     if fault.card == 1 && is_object(source.text) {
         out.write_str(OBJECT);
@@ -243,7 +237,7 @@ pub(crate) fn write_sentence(
     }
     match fault.code {
         SourceCode::Fault(code) => {
-            if !write_cause(out, source, line, fault.card, fault.columns, code) {
+            if !write_cause(out, source, line, fault) {
                 out.write_str(sentence_of(code.text()));
             }
         }

@@ -23,7 +23,7 @@ pub fn write_note(
     margin: usize,
     line: &[u8],
     source: SourceCards<'_>,
-    fault: CardFault,
+    fault: &CardFault,
 ) {
     if let Some(columns) = columns_of(line, fault) {
         write_mark(out, margin, columns);

@@ -3,10 +3,8 @@
 use rpg_cli_columns::{character_at, has_card_number};
 use rpg_cli_shorthand::{begins_data, ends_source};
 use rpg_cli_text::TextWriter;
+use rpg_sheet::MOST_CARDS;
 use rpg_text::{first_line, is_blank};
-
-/// The last card of a source.
-const LAST_CARD: u16 = 2000;
 
 /// The tables and lines of a source.
 #[derive(Clone, Copy)]
@@ -51,7 +49,7 @@ impl Tally {
             last_line: 0,
         };
         let mut rest = text;
-        for card in 1..=LAST_CARD {
+        for card in 1..=MOST_CARDS {
             if rest.is_empty() {
                 break;
             }

@@ -2,8 +2,7 @@
 
 use crate::fields::counted;
 use crate::spot::{Spot, spot_at};
-use rpg_cli_explain::sentence_of;
-use rpg_cli_text::{Piece, TextWriter};
+use rpg_cli_text::{Piece, TextWriter, sentence_of};
 use rpg_object_format::fault::Code;
 use rpg_text::first_line;
 use std::alloc::{AllocError, Global};

@@ -2,8 +2,7 @@
 
 use crate::causes::write_cause;
 use crate::rows::write_row;
-use rpg_cli_explain::Topic;
-use rpg_cli_text::{Piece, TextWriter};
+use rpg_cli_text::{Piece, TextWriter, Topic};
 use rpg_program::Program;
 use rpg_refusal_causes::refusal;
 use std::alloc::{AllocError, Global};

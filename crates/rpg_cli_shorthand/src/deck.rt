@@ -4,11 +4,9 @@ use crate::filling::Columns;
 use crate::line_fault::{LineFault, ShorthandFault};
 use crate::marks::{begins_data, ends_source};
 use rpg_cli_text::TextWriter;
+use rpg_sheet::MOST_CARDS;
 use rpg_text::{first_line, has_only_characters, trimmed};
 use std::alloc::Global;
-
-/// The last line that may be a card.
-const LAST_LINE: u16 = 2000;
 
 /// The columns of a card.
 const COLUMNS: usize = 80;
@@ -53,7 +51,7 @@ fn refused(line: u16, fault: LineFault) -> ShorthandFault {
 fn write_deck(out: &mut TextWriter, shorthand: &[u8]) -> Result<(), ShorthandFault> {
     let mut rest = shorthand;
     let mut is_data = false;
-    for number in 1..=LAST_LINE {
+    for number in 1..=MOST_CARDS {
         let Some((line, more)) = next_line(rest) else {
             return Ok(());
         };
@@ -65,7 +63,7 @@ fn write_deck(out: &mut TextWriter, shorthand: &[u8]) -> Result<(), ShorthandFau
     }
     match next_line(rest) {
         None => Ok(()),
-        Some(_) => Err(refused(LAST_LINE + 1, LineFault::TooMany)),
+        Some(_) => Err(refused(MOST_CARDS + 1, LineFault::TooMany)),
     }
 }
 

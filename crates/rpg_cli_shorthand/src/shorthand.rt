@@ -6,12 +6,9 @@ use crate::marks::{begins_data, ends_source};
 use rpg_cli_columns::begins_range;
 use rpg_cli_text::TextWriter;
 use rpg_faults::{SourceCode, SourceFault};
-use rpg_sheet::SheetCode;
+use rpg_sheet::{MOST_CARDS, SheetCode};
 use rpg_text::{first_line, has_only_characters, trimmed};
 use std::alloc::Global;
-
-/// The last card of a source.
-const LAST_CARD: u16 = 2000;
 
 /// The columns of a card.
 const COLUMNS: usize = 80;
@@ -94,7 +91,7 @@ fn refused(card: u16, code: SheetCode) -> SourceFault {
 fn write_cards(out: &mut TextWriter, source: &[u8]) -> Result<(), SourceFault> {
     let mut rest = source;
     let mut is_data = false;
-    for card in 1..=LAST_CARD {
+    for card in 1..=MOST_CARDS {
         if rest.is_empty() {
             return Ok(());
         }
@@ -117,7 +114,7 @@ fn write_cards(out: &mut TextWriter, source: &[u8]) -> Result<(), SourceFault> {
     if rest.is_empty() || ends_source(first_line(rest).0) {
         return Ok(());
     }
-    Err(refused(LAST_CARD + 1, SheetCode::S6))
+    Err(refused(MOST_CARDS + 1, SheetCode::S6))
 }
 
 /// Converts the cards of a source to lines of shorthand, up to the card `/*`, which isn't included. An item begins after a blank and where

@@ -1,4 +1,4 @@
--- What is reported card by card is reported of all faults, each with the columns of its card.
+-- What is reported card by card is reported of all faults, each with the columns and the cause on its card.
 use Rattle.std.proofs.Common.{◌≡◌, ℕ, ◌+◌, ◌≤◌, true, false, List, [], ◌∷◌, ◌++◌, Option, None, refl, sym, ap, ap₂, subst, ◌∙◌, arith, append_assoc, append-nil}
 use Rattle.std.proofs.lemmas.Bool.{cond_both}
 use Rattle.std.proofs.lemmas.Grind.{common_steps}
@@ -9,9 +9,11 @@ use Rattle.rpg_cards.specs.declared.spec_card.SpecCard.{SpecCard}
 use Rattle.rpg_faults.proofs.EveryLemmas.{every}
 use Rattle.rpg_faults.specs.Every.{all_faults, faults_from, faults_on}
 use Rattle.rpg_faults.specs.Faults.{codes, fault_on}
-use Rattle.rpg_faults.specs.Marks.{fault_columns}
+use Rattle.rpg_faults.specs.CauseRanges.{fault_columns}
+use Rattle.rpg_faults.specs.Causes.{cause_of}
 use Rattle.rpg_faults.specs.Rules.{rule}
-use Rattle.rpg_faults.specs.Reported.{AreFaultsOf, columns_in, reported_by, reported_faults, reported_from, reported_of}
+use Rattle.rpg_faults.specs.Reported.{AreFaultsOf, on_its_card, reported_by, reported_faults, reported_from, reported_of}
+use Rattle.rpg_faults.specs.declared.cause.Cause.{Cause}
 use Rattle.rpg_faults.specs.declared.code.FaultCode.{FaultCode}
 use Rattle.rpg_faults.specs.declared.code.FaultCode.TheVariants.{F7}
 use Rattle.rpg_faults.specs.declared.fault.Fault.{Fault}
@@ -31,22 +33,30 @@ at_least : (low : ℕ) (xs : List SpecCard) (c : SpecCard) (after : List SpecCar
 at_least low [] c after h = h.0
 at_least low (x ∷ xs) c after h = let up = h.0 in let more = at_least (x.number + 1) xs c after h.1 in omega arith
 
--- ---- the columns of a fault are those of its card
+-- ---- the columns and the cause of a fault are those of its card
 
-found : (low : ℕ) (front xs : List SpecCard) (c : SpecCard) (after : List SpecCard) (k : FaultCode) → Numbered low (xs ++ c ∷ after)
-    → columns_in front (xs ++ c ∷ after) (fault_on c k) ≡ fault_columns k (front ++ xs) c after
-found low front [] c after k h = rw (same_number c.number) (ap (λ b. fault_columns k b c after) (sym (append-nil front)))
-found low front (x ∷ xs) c after k h =
-    rw (other_number x.number c.number (at_least (x.number + 1) xs c after h.1))
-    (found (x.number + 1) (front ++ x ∷ []) xs c after k h.1 ∙ ap (λ b. fault_columns k b c after) (append_assoc front (x ∷ []) xs))
+module _ {X : Type 0} (of : FaultCode → List SpecCard → SpecCard → List SpecCard → Option X) where
+  found : (low : ℕ) (front xs : List SpecCard) (c : SpecCard) (after : List SpecCard) (k : FaultCode) → Numbered low (xs ++ c ∷ after)
+      → on_its_card of front (xs ++ c ∷ after) (fault_on c k) ≡ of k (front ++ xs) c after
+  found low front [] c after k h = rw (same_number c.number) (ap (λ b. of k b c after) (sym (append-nil front)))
+  found low front (x ∷ xs) c after k h =
+      rw (other_number x.number c.number (at_least (x.number + 1) xs c after h.1))
+      (found (x.number + 1) (front ++ x ∷ []) xs c after k h.1 ∙ ap (λ b. of k b c after) (append_assoc front (x ∷ []) xs))
 
--- no card has number 0
-none_of_whole : (low : ℕ) (front cards : List SpecCard) (f : Fault) → Numbered (low + 1) cards → f.card ≡ 0 → columns_in front cards f ≡ None
-none_of_whole low front [] f h e = refl
-none_of_whole low front (c ∷ cs) f h e = rw (not_its c.number f.card h.0 e) (none_of_whole c.number (front ++ c ∷ []) cs f h.1 e)
-  where
-    not_its : (n card : ℕ) → low + 1 ≤ n → card ≡ 0 → (n == card) ≡ false
-    not_its n card up none = grind (arith, common_steps)
+  -- no card has number 0
+  none_of_whole : (low : ℕ) (front cards : List SpecCard) (f : Fault) → Numbered (low + 1) cards → f.card ≡ 0 → on_its_card of front cards f ≡ None
+  none_of_whole low front [] f h e = refl
+  none_of_whole low front (c ∷ cs) f h e = rw (not_its c.number f.card h.0 e) (none_of_whole c.number (front ++ c ∷ []) cs f h.1 e)
+    where
+      not_its : (n card : ℕ) → low + 1 ≤ n → card ≡ 0 → (n == card) ≡ false
+      not_its n card up none = grind (arith, common_steps)
+
+  its : (cards before : List SpecCard) (c : SpecCard) (after : List SpecCard) (k : FaultCode) → cards ≡ before ++ c ∷ after → Numbered 1 cards → on_its_card of [] cards (fault_on c k) ≡ of k before c after
+  its cards before c after k split n = ap (λ cs. on_its_card of [] cs (fault_on c k)) split ∙ found 1 [] before c after k (subst (Numbered 1) split n)
+
+-- a fault with its columns and its cause
+abbrev with_cause : ℕ → FaultCode → Option ColumnFault → Option Cause → CardFault
+with_cause card code columns cause = record { card = card; code = source_codes.Fault code; columns = columns; cause = cause }
 
 -- ---- card by card
 
@@ -54,8 +64,8 @@ reported_of_card : (cards before : List SpecCard) (c : SpecCard) (after : List S
     → map (reported_of cards) (map (fault_on c) ks) ≡ map (reported_by before c after) ks
 reported_of_card cards before c after [] split n = refl
 reported_of_card cards before c after (k ∷ ks) split n =
-    ap₂ (λ (columns : Option ColumnFault) (more : List CardFault). let x : CardFault = record { card = c.number; code = source_codes.Fault k; columns = columns } in x ∷ more)
-    (ap (λ cs. columns_in [] cs (fault_on c k)) split ∙ found 1 [] before c after k (subst (Numbered 1) split n))
+    ap₂ (λ (x : CardFault) (more : List CardFault). x ∷ more)
+    (ap₂ (with_cause c.number k) (its fault_columns cards before c after k split n) (its cause_of cards before c after k split n))
     (reported_of_card cards before c after ks split n)
 
 reported_from_cards : (cards before after : List SpecCard) → cards ≡ before ++ after → Numbered 1 cards → map (reported_of cards) (faults_from before after) ≡ reported_from before after
@@ -76,7 +86,8 @@ reported cards n = (all_faults cards, every cards n, sym same)
       where
         with_whole : lacks_input cards ≡ true → map (reported_of cards) (whole ∷ faults_from [] cards) ≡ reported_faults cards
         with_whole e = rw e
-            (ap₂ (λ (columns : Option ColumnFault) (more : List CardFault). let x : CardFault = record { card = 0; code = source_codes.Fault F7; columns = columns } in x ∷ more) (none_of_whole 0 [] cards whole n refl) (reported_from_cards cards [] cards refl n))
+            (ap₂ (λ (x : CardFault) (more : List CardFault). x ∷ more)
+            (ap₂ (with_cause 0 F7) (none_of_whole fault_columns 0 [] cards whole n refl) (none_of_whole cause_of 0 [] cards whole n refl)) (reported_from_cards cards [] cards refl n))
 
         without : lacks_input cards ≡ false → map (reported_of cards) (faults_from [] cards) ≡ reported_faults cards
         without e = rw e (reported_from_cards cards [] cards refl n)

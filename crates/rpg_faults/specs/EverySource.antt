@@ -1,5 +1,5 @@
 -- All that is wrong with a source.
-use Rattle.std.specs.Prelude.{◌≡◌, ℕ, List, Option, MatchOption, map}
+use Rattle.std.specs.Prelude.{◌≡◌, ℕ, List, Option, None, MatchOption, map}
 use Rattle.rpg_cards.specs.declared.spec_card.SpecCard.{SpecCard}
 use Rattle.rpg_faults.specs.Cards.{numbered_cards}
 use Rattle.rpg_faults.specs.Source.{cards_in}
@@ -17,7 +17,7 @@ numbered_specs specs = numbered_cards 1 specs
 
 -- a card that can't be read, as it is reported for a source
 abbrev pub unreadable_reported : UnreadableCard → CardFault
-unreadable_reported u = record { card = u.card; code = codes.Sheet u.code; columns = u.columns }
+unreadable_reported u = record { card = u.card; code = codes.Sheet u.code; columns = u.columns; cause = None }
 
 -- all cards that can't be read; if there is none, all faults of the cards
 abbrev pub AreSourceFaults : List ℕ → List CardFault → Type 0

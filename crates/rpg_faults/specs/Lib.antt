@@ -1,11 +1,12 @@
+pub mod Before
 pub mod Cards
+pub mod CauseRanges
+pub mod Causes
 pub mod Codes
 pub mod Every
 pub mod EverySource
 pub mod Faults
 pub mod Judged
-pub mod Listed
-pub mod Marks
 pub mod Props
 pub mod Reported
 pub mod Rules

@@ -2,16 +2,20 @@
 
 ghost use Rattle.std.specs.Prelude.{◌≡◌, ◌≤◌, [], ◌∷◌, ◌++◌, find, length, IfOk, MatchOption};
 ghost use Rattle.rpg_cards.specs.Cards.{Numbered};
+ghost use Rattle.rpg_faults.specs.Before.{AreBefore};
 ghost use Rattle.rpg_faults.specs.Faults as faults;
 ghost use Rattle.rpg_faults.specs.Judged.{IsJudged};
 ghost use Rattle.rpg_faults.specs.Rules as rules;
 
-use crate::breach::breaks;
+use crate::before::Before;
+use crate::cause::cause_of;
 use crate::code::FaultCode;
 use crate::fault::Fault;
-use crate::listed::ListedCards;
+use crate::kept::keeps_rule;
 use rpg_card_index::{CardIndex, IndexedCards};
 use rpg_cards::SpecCard;
+use rpg_causes_flow::AnalyzedCards;
+use rpg_faults_data::Decks;
 use rpg_faults_limits::lacks_input;
 use rpg_faults_operands::has_valid_operands;
 use std::alloc::{AllocError, Global};
@@ -37,8 +41,8 @@ pub(crate) fn faultless_index(
 {
     let source = IndexedCards::new(alloc, cards)?;
     let fault = {
-        let listed = ListedCards::new(alloc, &source)?;
-        least_fault(&listed)
+        let analyzed = AnalyzedCards::new(alloc, &source)?;
+        least_fault(&analyzed)
     };
     match fault {
         Some(fault) => Ok(Err(fault)),
@@ -46,10 +50,10 @@ pub(crate) fn faultless_index(
     }
 }
 
-fn least_fault(source: &ListedCards) -> Option<Fault>
-    ensures { result ≡ faults.least_fault source.now }
+fn least_fault(source: &AnalyzedCards) -> Option<Fault>
+    ensures { result ≡ faults.least_fault source.now.cards.now }
 {
-    if lacks_input(source.analyzed().cards) {
+    if lacks_input(source.cards) {
         return Some(Fault {
             card: 0,
             code: FaultCode::F7,
@@ -59,19 +63,21 @@ fn least_fault(source: &ListedCards) -> Option<Fault>
 }
 
 /// Returns the lowest code of the first card that breaks a rule.
-fn first_on_cards(source: &ListedCards) -> Option<Fault>
-    ensures { result ≡ faults.least_fault_from [] source.now }
+fn first_on_cards(source: &AnalyzedCards) -> Option<Fault>
+    ensures { result ≡ faults.least_fault_from [] source.now.cards.now }
 {
-    let cards = source.analyzed().cards;
+    let cards = source.cards;
+    let mut known = Before::all(source, Decks::all(cards.as_slice()));
     let mut before = &cards.as_slice()[..0];
     let mut rest = cards.as_slice();
     while let Some((card, after)) = rest.split_first() {
-        if let Some(code) = least_code(source, before, card, after) {
+        if let Some(code) = least_code(source, &known, before, card, after) {
             return Some(Fault {
                 card: card.number,
                 code,
             });
         }
+        known.pass(source, before, card, after);
         before = cards.up_to(before, card, after);
         rest = after;
     }
@@ -80,17 +86,21 @@ fn first_on_cards(source: &ListedCards) -> Option<Fault>
 
 /// Returns the lowest code whose rule a card breaks.
 fn least_code(
-    source: &ListedCards,
+    source: &AnalyzedCards,
+    known: &Before,
     before: &[SpecCard],
     card: &SpecCard,
     after: &[SpecCard],
 ) -> Option<FaultCode>
-    requires { source.now ≡ before.now ++ card.now ∷ after.now }
+    requires split { source.now.cards.now ≡ before.now ++ card.now ∷ after.now }
+    requires known { AreBefore source.now.cards.now before.now (card.now ∷ after.now) known.now }
     ensures { result ≡ find (λ code. rules.rule code before.now card.now after.now) faults.codes }
 {
-    let is_valid = has_valid_operands(source.analyzed().cards, card, after);
+    let is_valid = has_valid_operands(source.cards, card, after);
     for code in FaultCode::all() {
-        if breaks(code, source, is_valid, before, card, after) {
+        if !keeps_rule(code, source.cards, is_valid, before, card, after)
+            && cause_of(code, source, known, before, card, after).is_some()
+        {
             return Some(code);
         }
     }

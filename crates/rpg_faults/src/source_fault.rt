@@ -5,6 +5,7 @@ ghost use Rattle.rpg_faults.specs.SourceCodes as codes;
 ghost use Rattle.rpg_faults.specs.declared.source_fault.SourceFault.TheVariants.{NoMemory};
 
 use crate::FaultCode;
+use crate::cause::Cause;
 use rpg_sheet::{ColumnFault, SheetCode, SheetFault};
 use std::alloc::AllocError;
 use std::fmt;
@@ -30,13 +31,15 @@ impl SourceCode {
 }
 
 /// A fault of a source at a card.
-#[derive(Clone, Copy)]
+#[derive(Drop)]
 pub struct CardFault {
     /// Cards are numbered from 1. Card 0 is the source as a whole.
     pub card: u16,
     pub code: SourceCode,
     /// The columns that the fault points at; None for the card as a whole, and for all S codes but S5.
     pub columns: Option<ColumnFault>,
+    /// Why the card breaks the rule; None for S codes and for the source as a whole.
+    pub cause: Option<Cause>,
 }
 
 /// What is wrong with a source.

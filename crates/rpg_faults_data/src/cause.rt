@@ -5,9 +5,10 @@ ghost use Rattle.std.specs.Option.{option_map};
 ghost use Rattle.rpg_cards.specs.Names.{tables_on};
 ghost use Rattle.rpg_faults_data.specs.Causes as causes;
 ghost use Rattle.rpg_faults_data.specs.Data as rules;
+ghost use Rattle.rpg_faults_data.specs.Decks.{AreDecks};
 
-use crate::data::{data_cards, data_columns, has_forms, has_table};
-use crate::decks::expects_data;
+use crate::data::{breaks_data, data_cards, data_columns, has_forms, has_table};
+use crate::decks::{Decks, expects_data};
 use crate::layout::Layout;
 use crate::wrong_entry::{EntryCause, first_wrong};
 use rpg_card_index::IndexedCards;
@@ -43,12 +44,22 @@ pub enum DataCause {
     Spare { deck: usize, wanted: usize },
 }
 
-/// F18: what is wrong with the data of an E card, or the `**` card of data that no E card expects.
+/// F18: what is wrong with the data of an E card, or the `**` card of data that no E card expects. The decks before are gone through only if
+/// something is.
 #[tactic(auto, using(crate::proofs::DataRule::data_rule))]
-pub fn data_cause(source: &IndexedCards, before: &[SpecCard], card: &SpecCard) -> Option<DataCause>
+pub fn data_cause(
+    source: &IndexedCards,
+    decks: &Decks,
+    before: &[SpecCard],
+    card: &SpecCard,
+) -> Option<DataCause>
+    requires { AreDecks source.now before.now decks.now }
     ensures cause { result ≡ causes.data_cause source.now before.now card.now }
     ensures rule { is_some result ≡ rules.breaks_data source.now before.now card.now }
 {
+    if !breaks_data(source, decks, before, card) {
+        return None;
+    }
     of_card(source, before, card)
 }
 

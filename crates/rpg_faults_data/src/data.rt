@@ -15,7 +15,7 @@ use rpg_cards::{SpecCard, is_table, table_form};
 use rpg_sheet_specs::{DataSpec, ExtensionSpec, Spec};
 
 /// Whether the data of a table is wrong, on its E card, or belongs to no table, on its `**` card.
-pub fn breaks_data(
+pub(crate) fn breaks_data(
     source: &IndexedCards,
     decks: &Decks,
     before: &[SpecCard],

@@ -10,7 +10,7 @@ mod number;
 mod wrong_entry;
 
 pub use cause::{DataCause, Need, data_cause};
-pub use data::{breaks_data, data_columns};
+pub use data::data_columns;
 pub use decks::{Decks, after_next};
 pub use number::number_in;
 pub use wrong_entry::{EntryCause, EntryFault};

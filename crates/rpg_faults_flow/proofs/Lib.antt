@@ -2,7 +2,9 @@ pub mod Counted
 pub mod Ending
 pub mod Facts
 pub mod Goals
+pub mod Groups
 pub mod Joined
 pub mod Paired
 pub mod Placed
+pub mod Tests
 pub mod Walk

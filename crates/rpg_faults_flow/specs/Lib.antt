@@ -1,3 +1,4 @@
+pub mod ColumnCauses
 pub mod Columns
 pub mod Faultless
 pub mod Flow
@@ -5,4 +6,5 @@ pub mod Kept
 pub mod Marks
 pub mod Order
 pub mod Rounding
+pub mod RoundingCauses
 pub mod Strays

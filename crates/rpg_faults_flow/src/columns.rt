@@ -1,16 +1,249 @@
-//! F9 of calculation cards: columns that are missing or not allowed.
+//! F9 of calculations: columns that are missing or not allowed.
 
-ghost use Rattle.std.specs.Prelude.{◌≡◌};
+ghost use Rattle.std.specs.Prelude.{◌≡◌, Option, is_some};
 ghost use Rattle.std.specs.Option.{option_map};
-ghost use Rattle.rpg_faults_flow.specs.Columns as spec;
+ghost use Rattle.rpg_cards.specs.Calculations.{CalculationGroup, open_calculation_group};
+ghost use Rattle.rpg_cards.specs.Cards.{calculation_on};
+ghost use Rattle.rpg_faults_flow.specs.ColumnCauses as causes;
+ghost use Rattle.rpg_faults_flow.specs.Columns as rules;
+ghost use Rattle.rpg_faults_flow.specs.Marks as marks;
+ghost use Rattle.rpg_sheet_specs.specs.declared.column_range.ColumnRange.TheVariants as range;
 ghost use Rattle.rpg_sheet_specs.specs.declared.literal.Factor.TheVariants as factor;
 
-use rpg_cards::{Column, Content, Shown, columns, plain_name};
-use rpg_sheet_specs::{CalculationSpec, Entry, Factor, Indicator, Operation, Three};
+use rpg_cards::{
+    Column, Content, Shown, SpecCard, columns, continues, depends, group_end, joins, plain_name,
+};
+use rpg_sheet_specs::{
+    CalculationSpec, ColumnRange, ConditionSpec, Entry, Factor, Indicator, Operation, Three,
+};
+
+/// Why columns of a calculation are missing or not allowed.
+#[derive(Clone, Copy)]
+pub enum ColumnCause {
+    /// The operation allows nothing there.
+    NotAllowed(ColumnRange),
+    /// The operation requires something there.
+    Needed(ColumnRange),
+    /// The operation requires a name without an index there.
+    NotPlain(ColumnRange),
+    /// The operation allows no resulting indicators.
+    NoIndicators,
+    /// The operation requires a resulting indicator.
+    IndicatorNeeded,
+    /// LOKUP searches for high or low, not both.
+    HighAndLow,
+    /// The last card of a group has no operation.
+    NoOperation,
+    /// Only the last card of a group has something there.
+    LastCardAlone(ColumnRange),
+    /// Each card of a group has conditions.
+    ConditionsNeeded,
+    /// The operation allows no conditions.
+    Unconditioned,
+    /// A length without a result field.
+    LengthAlone,
+}
+
+impl ColumnCause {
+    /// Returns the columns of a card that the cause is about.
+    pub fn range(self, calculation: &CalculationSpec) -> ColumnRange
+        ensures { result ≡ marks.column_range calculation.now self }
+    {
+        match self {
+            ColumnCause::NotAllowed(at)
+            | ColumnCause::Needed(at)
+            | ColumnCause::NotPlain(at)
+            | ColumnCause::LastCardAlone(at) => at,
+            ColumnCause::NoIndicators | ColumnCause::IndicatorNeeded | ColumnCause::HighAndLow => {
+                shown_range(calculation.resulting_indicators)
+            }
+            ColumnCause::NoOperation => ColumnRange::Operation,
+            ColumnCause::ConditionsNeeded | ColumnCause::Unconditioned => {
+                condition_range(calculation.conditions)
+            }
+            ColumnCause::LengthAlone => ColumnRange::ResultLength,
+        }
+    }
+}
+
+/// F9 of a calculation card: which columns are missing or not allowed.
+pub fn on_calculation(
+    before: &[SpecCard],
+    card: &SpecCard,
+    after: &[SpecCard],
+) -> Option<ColumnCause>
+    ensures cause { result ≡ causes.card_column_cause before.now card.now after.now }
+    ensures rule { is_some result ≡ rules.bad_calculation_columns before.now card.now after.now }
+{
+    match card.calculation() {
+        None => None,
+        Some(calculation) => of_calculation(is_in_group(before), calculation, after),
+    }
+}
+
+/// Whether the previous card is a C card.
+#[tactic(auto, using(crate::proofs::Groups::is_open_after))]
+fn is_in_group(before: &[SpecCard]) -> bool
+    ensures { result ≡ is_some (open_calculation_group before.now) }
+{
+    match before.split_last() {
+        None => false,
+        Some((card, _)) => is_calculation(card),
+    }
+}
+
+fn is_calculation(card: &SpecCard) -> bool
+    ensures { result ≡ is_some (calculation_on card.now.spec) }
+{
+    card.calculation().is_some()
+}
+
+fn of_calculation(
+    is_in_group: bool,
+    calculation: &CalculationSpec,
+    after: &[SpecCard],
+) -> Option<ColumnCause>
+    ensures cause { (group : Option CalculationGroup) → is_in_group ≡ is_some group → result ≡ causes.calculation_column_cause group calculation.now after.now }
+    ensures rule { (group : Option CalculationGroup) → is_in_group ≡ is_some group → is_some result ≡ causes.has_bad_columns group calculation.now after.now }
+{
+    if calculation.length.is_some() && calculation.result_field.is_none() {
+        return Some(ColumnCause::LengthAlone);
+    }
+    match of_end(continues(after), calculation) {
+        Some(cause) => Some(cause),
+        None => of_conditions(is_in_group, calculation, after),
+    }
+}
+
+fn of_conditions(
+    is_in_group: bool,
+    calculation: &CalculationSpec,
+    after: &[SpecCard],
+) -> Option<ColumnCause>
+    ensures cause { (group : Option CalculationGroup) → is_in_group ≡ is_some group → result ≡ causes.of_conditions group calculation.now after.now }
+    ensures rule { (group : Option CalculationGroup) → is_in_group ≡ is_some group → is_some result ≡ rules.bad_conditions group calculation.now after.now }
+{
+    if depends(calculation) {
+        if may_depend(group_end(calculation, after)) {
+            None
+        } else {
+            Some(ColumnCause::Unconditioned)
+        }
+    } else if continues(after) || (joins(calculation) && is_in_group) {
+        Some(ColumnCause::ConditionsNeeded)
+    } else {
+        None
+    }
+}
+
+fn of_end(continues: bool, calculation: &CalculationSpec) -> Option<ColumnCause>
+    ensures cause { result ≡ causes.end_column_cause continues calculation.now }
+    ensures rule { is_some result ≡ rules.bad_by_end continues calculation.now }
+{
+    if !continues {
+        return match calculation.operation {
+            None => Some(ColumnCause::NoOperation),
+            Some(operation) => of_operation(calculation, operation),
+        };
+    }
+    if has_more(calculation) {
+        return Some(ColumnCause::LastCardAlone(further_range(calculation)));
+    }
+    None
+}
+
+fn of_operation(calculation: &CalculationSpec, operation: Operation) -> Option<ColumnCause>
+    ensures cause { result ≡ causes.operation_column_cause calculation.now operation }
+    ensures rule { is_some result ≡ rules.bad_operation calculation.now operation }
+{
+    let columns = columns(operation);
+    let first = of_factor(
+        ColumnRange::FirstFactor,
+        columns.factor_1,
+        &calculation.factor_1,
+    );
+    if first.is_some() {
+        return first;
+    }
+    let second = of_factor(
+        ColumnRange::SecondFactor,
+        columns.factor_2,
+        &calculation.factor_2,
+    );
+    if second.is_some() {
+        return second;
+    }
+    match of_result(columns.result_field, &calculation.result_field) {
+        Some(cause) => Some(cause),
+        None => of_shown(columns.indicators, calculation.resulting_indicators),
+    }
+}
+
+fn of_factor(at: ColumnRange, column: Column, factor: &Option<Factor>) -> Option<ColumnCause>
+    ensures cause { result ≡ causes.of_column at column factor.now }
+    ensures rule { is_some result ≡ rules.misses column factor.now }
+{
+    match (column, factor) {
+        (Column::Blank, None) | (Column::May(_), None) => None,
+        (Column::Blank, Some(_)) => Some(ColumnCause::NotAllowed(at)),
+        (Column::Must(_), None) => Some(ColumnCause::Needed(at)),
+        (Column::May(content), Some(factor)) | (Column::Must(content), Some(factor)) => {
+            if is_for_name(content) && plain_name(factor).is_none() {
+                Some(ColumnCause::NotPlain(at))
+            } else {
+                None
+            }
+        }
+    }
+}
+
+fn of_result(column: Column, entry: &Option<Entry>) -> Option<ColumnCause>
+    ensures cause { result ≡ causes.of_column range.ResultName column (option_map factor.Entry entry.now) }
+    ensures rule { is_some result ≡ rules.misses column (option_map factor.Entry entry.now) }
+{
+    let at = ColumnRange::ResultName;
+    match (column, entry) {
+        (Column::Blank, None) | (Column::May(_), None) => None,
+        (Column::Blank, Some(_)) => Some(ColumnCause::NotAllowed(at)),
+        (Column::Must(_), None) => Some(ColumnCause::Needed(at)),
+        (Column::May(content), Some(entry)) | (Column::Must(content), Some(entry)) => {
+            if is_for_name(content) && entry.index.is_some() {
+                Some(ColumnCause::NotPlain(at))
+            } else {
+                None
+            }
+        }
+    }
+}
+
+/// Whether a column holds the name of a label or a subroutine.
+fn is_for_name(content: Content) -> bool
+    ensures { result ≡ rules.is_for_name content }
+{
+    match content {
+        Content::Label | Content::Subroutine => true,
+        Content::Value | Content::WholeArray | Content::Searched | Content::Table => false,
+    }
+}
+
+fn of_shown(shown: Shown, indicators: Three<Option<Indicator>>) -> Option<ColumnCause>
+    ensures cause { result ≡ causes.of_shown shown indicators }
+    ensures rule { is_some result ≡ rules.bad_shown shown indicators }
+{
+    let has_none = indicators.filled() == 0;
+    match shown {
+        Shown::Unused if !has_none => Some(ColumnCause::NoIndicators),
+        Shown::Some | Shown::Search if has_none => Some(ColumnCause::IndicatorNeeded),
+        Shown::Search if indicators.first.is_some() && indicators.second.is_some() => {
+            Some(ColumnCause::HighAndLow)
+        }
+        Shown::Unused | Shown::Any | Shown::Some | Shown::Search => None,
+    }
+}
 
 /// Whether the group that ends in this card may have conditions.
-pub fn may_depend(last: &CalculationSpec) -> bool
-    ensures { result ≡ spec.may_depend last.now }
+fn may_depend(last: &CalculationSpec) -> bool
+    ensures { result ≡ rules.may_depend last.now }
 {
     match last.operation {
         None => true,
@@ -18,24 +251,9 @@ pub fn may_depend(last: &CalculationSpec) -> bool
     }
 }
 
-/// Whether a card before the last of its group has more than conditions, or the last one is wrong. Doesn't check the sequence of
-/// what LOKUP searches.
-pub fn bad_by_end(continues: bool, calculation: &CalculationSpec) -> bool
-    ensures { result ≡ spec.bad_by_end continues calculation.now }
-{
-    if continues {
-        has_more(calculation)
-    } else {
-        match calculation.operation {
-            None => true,
-            Some(operation) => bad_operation(calculation, operation),
-        }
-    }
-}
-
 /// Whether a card has anything but conditions.
-pub fn has_more(calculation: &CalculationSpec) -> bool
-    ensures { result ≡ spec.has_more calculation.now }
+fn has_more(calculation: &CalculationSpec) -> bool
+    ensures { result ≡ rules.has_more calculation.now }
 {
     calculation.operation.is_some()
         || calculation.factor_1.is_some()
@@ -45,63 +263,51 @@ pub fn has_more(calculation: &CalculationSpec) -> bool
         || calculation.resulting_indicators.filled() > 0
 }
 
-fn bad_operation(calculation: &CalculationSpec, operation: Operation) -> bool
-    ensures { result ≡ spec.bad_operation calculation.now operation }
-{
-    let columns = columns(operation);
-    misses(columns.factor_1, &calculation.factor_1)
-        || misses(columns.factor_2, &calculation.factor_2)
-        || misses_result(columns.result_field, &calculation.result_field)
-        || bad_shown(columns.indicators, calculation.resulting_indicators)
-}
+// ---- which columns
 
-/// Whether a factor is missing or not allowed.
-pub(crate) fn misses(column: Column, factor: &Option<Factor>) -> bool
-    ensures { result ≡ spec.misses column factor.now }
+/// What a card other than the last has besides its conditions.
+fn further_range(calculation: &CalculationSpec) -> ColumnRange
+    ensures { result ≡ marks.further_range calculation.now }
 {
-    match (column, factor) {
-        (Column::Blank, factor) => factor.is_some(),
-        (Column::May(_), None) => false,
-        (Column::Must(_), None) => true,
-        (Column::May(content), Some(factor)) | (Column::Must(content), Some(factor)) => {
-            is_for_name(content) && plain_name(factor).is_none()
-        }
+    if calculation.factor_1.is_some() {
+        ColumnRange::FirstFactor
+    } else if calculation.operation.is_some() {
+        ColumnRange::Operation
+    } else if calculation.factor_2.is_some() {
+        ColumnRange::SecondFactor
+    } else if calculation.result_field.is_some() {
+        ColumnRange::ResultName
+    } else {
+        shown_range(calculation.resulting_indicators)
     }
 }
 
-/// Whether a result field is missing or not allowed.
-pub(crate) fn misses_result(column: Column, entry: &Option<Entry>) -> bool
-    ensures { result ≡ spec.misses column (option_map factor.Entry entry.now) }
+/// The first resulting indicator, or the columns of missing ones.
+fn shown_range(indicators: Three<Option<Indicator>>) -> ColumnRange
+    ensures { result ≡ marks.shown_range indicators }
 {
-    match (column, entry) {
-        (Column::Blank, entry) => entry.is_some(),
-        (Column::May(_), None) => false,
-        (Column::Must(_), None) => true,
-        (Column::May(content), Some(entry)) | (Column::Must(content), Some(entry)) => {
-            is_for_name(content) && entry.index.is_some()
-        }
+    if indicators.first.is_some() {
+        ColumnRange::ResultPlus
+    } else if indicators.second.is_some() {
+        ColumnRange::ResultMinus
+    } else if indicators.third.is_some() {
+        ColumnRange::ResultZero
+    } else {
+        ColumnRange::ResultingIndicators
     }
 }
 
-/// Whether a column holds the name of a label or a subroutine.
-fn is_for_name(content: Content) -> bool
-    ensures { result ≡ spec.is_for_name content }
+/// The first condition, or the columns of missing ones.
+fn condition_range(conditions: Three<Option<ConditionSpec>>) -> ColumnRange
+    ensures { result ≡ marks.condition_range conditions }
 {
-    match content {
-        Content::Label | Content::Subroutine => true,
-        Content::Value | Content::WholeArray | Content::Searched | Content::Table => false,
-    }
-}
-
-fn bad_shown(shown: Shown, indicators: Three<Option<Indicator>>) -> bool
-    ensures { result ≡ spec.bad_shown shown indicators }
-{
-    match shown {
-        Shown::Unused => indicators.filled() > 0,
-        Shown::Any => false,
-        Shown::Some => indicators.filled() == 0,
-        Shown::Search => {
-            indicators.filled() == 0 || (indicators.first.is_some() && indicators.second.is_some())
-        }
+    if conditions.first.is_some() {
+        ColumnRange::FirstCondition
+    } else if conditions.second.is_some() {
+        ColumnRange::SecondCondition
+    } else if conditions.third.is_some() {
+        ColumnRange::ThirdCondition
+    } else {
+        ColumnRange::Conditions
     }
 }

@@ -1,12 +1,10 @@
-//! Rules on transfers of control.
+//! Rules on calculations: their columns and their rounding, and a law of their sections.
 #![tactic(auto)]
 
 mod columns;
 mod laws;
-mod marks;
+mod rounding;
 
-pub use columns::{bad_by_end, has_more, may_depend};
+pub use columns::{ColumnCause, on_calculation};
 pub use laws::faultless_sections_are_plain;
-pub use marks::{
-    calculation_columns, further_range, order_columns, rounding_columns, target_range,
-};
+pub use rounding::{RoundingCause, rounding_cause};

@@ -1,8 +1,7 @@
 pub mod ApartLemmas
 pub mod CalculationLemmas
+pub mod FileLemmas
 pub mod LimitRule
-pub mod Listing
-pub mod NameLemmas
-pub mod NewNames
+pub mod OpenFiles
 pub mod SheetLemmas
 pub mod StorageLemmas

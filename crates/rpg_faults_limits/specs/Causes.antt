@@ -10,6 +10,8 @@ use Rattle.rpg_faults_limits.specs.declared.measures.Limit.TheVariants as limit
 use Rattle.rpg_faults_limits.specs.declared.measures.LimitCause.{LimitCause}
 use Rattle.rpg_faults_limits.specs.declared.measures.LimitCause.TheVariants.{Entries, Passed}
 use Rattle.rpg_faults_limits.specs.Limits.{alternative_count, bad_entries_of, bytes_up_to, calculation_count, code_count, condition_count, field_count, fields_up_to, level_count, name_bytes, name_count, of_line, of_type, output_field_count, passes_subroutines}
+use Rattle.rpg_sheet_specs.specs.declared.column_range.ColumnRange.{ColumnRange}
+use Rattle.rpg_sheet_specs.specs.declared.column_range.ColumnRange.TheVariants as range
 use Rattle.rpg_sheet_specs.specs.declared.extension.ExtensionSpec.{ExtensionSpec}
 
 -- what is counted, before a card and with it
@@ -88,3 +90,8 @@ limit_cause cards before c after =
     (option_or (on_lines before c)
     (option_or (on_calculations before c after)
     (on_storage cards before c))))
+
+-- the columns that a cause is about; none if the card as a whole is one too many
+abbrev pub limit_range : LimitCause → Option ColumnRange
+limit_range (Entries n) = Some range.Entries
+limit_range (Passed limit count) = None

@@ -1,9 +1,7 @@
 pub mod Causes
-pub mod Entries
+pub mod FileCauses
 pub mod Files
 pub mod Limits
-pub mod Listed
-pub mod Marks
 pub mod Names
 pub mod Sheets
 pub mod State

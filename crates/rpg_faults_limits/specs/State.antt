@@ -11,7 +11,6 @@ use Rattle.rpg_cards.specs.Names.{definitions}
 use Rattle.rpg_cards.specs.declared.spec_card.SpecCard.{SpecCard}
 use Rattle.rpg_faults_limits.specs.Limits.{alternative_count, bytes_up_to, calculation_count, code_count, condition_count, field_count, fields_up_to, in_open, level_count, output_field_count}
 use Rattle.rpg_faults_limits.specs.declared.calculations.Calculations.{Calculations}
-use Rattle.rpg_faults_limits.specs.declared.state.GroupCounts.{GroupCounts}
 use Rattle.rpg_faults_limits.specs.declared.lines.OpenLine.{OpenLine}
 use Rattle.rpg_faults_limits.specs.declared.state.Limits.{Limits}
 use Rattle.rpg_faults_limits.specs.declared.items.Items.{Items}
@@ -93,15 +92,11 @@ AreItemsOrKept cards before items = MatchOption items (KeepsStorage cards) (λ c
 
 -- ---- the whole state before a card, which is the first of the rest
 
--- the counts of the groups before a card are right
-pub record AreGroupCounts (before rest : List SpecCard) (k : GroupCounts) : Type 0 where
-  pub calculations : AreCalculations before rest k.calculations
-  pub open_type : IsOpenType (open_group input_role before) k.open_type
-  pub open_line : IsOpenLine (open_group output_role before) k.open_line
-  pub few_on_type : HasFewOnType (length before) k.open_type
-  pub few_on_line : HasFewOnLine (length before) k.open_line
-
--- all counts before a card are right
-pub record AreLimits (before rest : List SpecCard) (l : Limits) : Type 0 where
-  pub items : AreItems before l.items
-  pub counts : AreGroupCounts before rest l.counts
+-- what is counted of the cards before a card is right
+pub record AreLimits (cards before rest : List SpecCard) (l : Limits) : Type 0 where
+  pub items : AreItemsOrKept cards before l.items
+  pub calculations : AreCalculations before rest l.calculations
+  pub open_type : IsOpenType (open_group input_role before) l.open_type
+  pub open_line : IsOpenLine (open_group output_role before) l.open_line
+  pub few_on_type : HasFewOnType (length before) l.open_type
+  pub few_on_line : HasFewOnLine (length before) l.open_line

@@ -1,60 +1,216 @@
 //! F7: files that are unknown, described twice or of the wrong use. F9 of lines: spaces and skips for the disk file.
 
-ghost use Rattle.std.specs.Prelude.{◌≡◌, false, option_map};
-ghost use Rattle.std.specs.Option.{option_map_or, option_or};
+ghost use Rattle.std.specs.Prelude.{◌≡◌, ◌∷◌, ◌++◌, false, is_some, option_and_then, option_copied};
+ghost use Rattle.std.specs.Option.{option_map, option_map_or, option_or};
+ghost use Rattle.rpg_cards.specs.Cards.{output_record_on};
 ghost use Rattle.rpg_cards.specs.Files as known;
 ghost use Rattle.rpg_cards.specs.Groups.{open_file, output_role};
+ghost use Rattle.rpg_cards.specs.declared.files.FileUse.{FileUse};
+ghost use Rattle.rpg_faults_limits.specs.FileCauses as causes;
+ghost use Rattle.rpg_faults_limits.specs.Files as rules;
 ghost use Rattle.rpg_faults_limits.specs.Sheets.{AreSheets};
-ghost use Rattle.rpg_faults_limits.specs.Files as files;
+ghost use Rattle.rpg_faults_limits.specs.declared.files.FileUser.TheVariants as user;
 
 use crate::sheets::Sheets;
 use rpg_card_index::{FirstCards, IndexedCards};
 use rpg_cards::{FileUse, SpecCard, use_of};
-use rpg_sheet_specs::{FileSpec, Movement, OutputRecord, Word};
+use rpg_sheet_specs::{ColumnRange, FileSpec, Movement, OutputRecord, Word};
 
-/// F7, on a card: an F card whose name or use is taken, whose column 17 doesn't agree with the other input file's, or whose records have a
-/// length of 0 or are too long; a type or record card without a file of its use.
-pub fn breaks_files(
-    source: &IndexedCards,
-    sheets: &Sheets,
-    before: &FirstCards,
-    card: &SpecCard,
-) -> bool
-    requires { AreSheets source.now before.now sheets.now }
-    ensures { result ≡ files.breaks_files source.now before.now card.now }
+/// A file with the number of its F card.
+#[derive(Drop)]
+pub struct FileOnCard {
+    pub card: u16,
+    pub name: Word<8>,
+    pub serves_as: FileUse,
+    pub record_length: u16,
+}
+
+/// What names a file.
+#[derive(Clone, Copy, PartialEq, Eq)]
+pub enum FileUser {
+    RecordType,
+    Line,
+}
+
+/// What is wrong with a file.
+#[derive(Drop)]
+pub enum FileCause {
+    /// This file already has the name.
+    Twice(FileOnCard),
+    /// The file with this name would be the second of its use.
+    Second { name: Word<8>, first: FileOnCard },
+    /// Of two input files only one has E in column 17.
+    EndsApart,
+    /// This record or line length isn't allowed.
+    Length { serves_as: FileUse, length: u16 },
+    /// The first of its kind doesn't name a file.
+    Unnamed(FileUser),
+    /// No F card has that name.
+    Unknown { user: FileUser, name: Word<8> },
+    /// The file has the other use.
+    WrongUse { user: FileUser, file: FileOnCard },
+}
+
+impl FileCause {
+    /// Returns the columns that the cause is about: the name of a file, what makes it the second one of its use, whether it ends the job, or
+    /// the record length.
+    pub fn range(&self) -> ColumnRange
+        ensures { result ≡ causes.file_range self.now }
+    {
+        match self {
+            FileCause::Twice(_) => ColumnRange::FileName,
+            FileCause::Second { first, .. } => use_range(first.serves_as),
+            FileCause::EndsApart => ColumnRange::EndsJob,
+            FileCause::Length { .. } => ColumnRange::RecordLength,
+            FileCause::Unnamed(user)
+            | FileCause::Unknown { user, .. }
+            | FileCause::WrongUse { user, .. } => user_range(*user),
+        }
+    }
+}
+
+fn use_range(serves_as: FileUse) -> ColumnRange
+    ensures { result ≡ causes.use_range serves_as }
 {
-    if let Some(file) = card.file() {
-        return is_bad_file(before, file);
+    match serves_as {
+        FileUse::Primary | FileUse::Secondary => ColumnRange::FileType,
+        FileUse::Printer | FileUse::Disk => ColumnRange::Device,
     }
-    if let Some(record_type) = card.record_type() {
-        return lacks_input_file(source, sheets.types.is_open, &record_type.file);
-    }
-    match card.line() {
-        None => false,
-        Some(line) => lacks_output_file(source, sheets.lines.is_open, &line.file),
+}
+
+fn user_range(user: FileUser) -> ColumnRange
+    ensures { result ≡ causes.user_range user }
+{
+    match user {
+        FileUser::RecordType => ColumnRange::TypeFile,
+        FileUser::Line => ColumnRange::LineFile,
     }
 }
 
 /// F7, of the source as a whole: there is no primary file.
 pub fn lacks_input(source: &IndexedCards) -> bool
-    ensures { result ≡ files.lacks_input source.now }
+    ensures { result ≡ rules.lacks_input source.now }
 {
     source.file_for(FileUse::Primary).is_none()
 }
 
-fn is_bad_file(before: &FirstCards, file: &FileSpec) -> bool
-    ensures { result ≡ files.bad_file before.now file.now }
+/// F7: which file it is, and what is wrong with it.
+pub fn file_cause(
+    source: &IndexedCards,
+    sheets: &Sheets,
+    before: &[SpecCard],
+    card: &SpecCard,
+    after: &[SpecCard],
+) -> Option<FileCause>
+    requires split { source.now ≡ before.now ++ card.now ∷ after.now }
+    requires sheets { AreSheets source.now before.now sheets.now }
+    ensures cause { result ≡ causes.file_cause source.now before.now card.now }
+    ensures rule { is_some result ≡ rules.breaks_files source.now before.now card.now }
 {
-    let serves_as = use_of(file);
-    before.file_named(&file.name).is_some()
-        || before.file_for(serves_as).is_some()
-        || ends_apart(before, file)
-        || !(1..=longest(serves_as)).contains(&file.record_length)
+    if let Some(file) = card.file() {
+        return of_file(
+            &FirstCards::before(source, before, card, after),
+            before,
+            file,
+        );
+    }
+    if let Some(record_type) = card.record_type() {
+        return of_type(source, sheets.types.is_open, &record_type.file);
+    }
+    of_line(source, sheets.lines.is_open, &card.line()?.file)
+}
+
+fn file_with(card: &SpecCard, file: &FileSpec) -> FileOnCard
+    ensures { result ≡ causes.file_with card.now file.now }
+{
+    FileOnCard {
+        card: card.number,
+        name: Word::new(file.name.as_slice()),
+        serves_as: use_of(file),
+        record_length: file.record_length,
+    }
+}
+
+/// Returns the first file with this name.
+pub fn file_of_name(name: &Word<8>, cards: &[SpecCard]) -> Option<FileOnCard>
+    ensures file { result ≡ causes.file_of_name name.now cards.now }
+    ensures known { is_some result ≡ is_some (known.file_named name.now cards.now) }
+    ensures length_known { option_map (λ f. f.record_length) result ≡ option_map (λ f. f.record_length) (known.file_named name.now cards.now) }
+    ensures use_known { option_map (λ f. f.serves_as) result ≡ option_map known.file_use (known.file_named name.now cards.now) }
+{
+    for card in cards {
+        match card.file() {
+            Some(file) if *name == file.name => return Some(file_with(card, file)),
+            _ => {}
+        }
+    }
+    None
+}
+
+/// Returns the first file with this use.
+fn file_of_use(serves_as: FileUse, cards: &[SpecCard]) -> Option<FileOnCard>
+    ensures file { result ≡ causes.file_of_use serves_as cards.now }
+    ensures known { is_some result ≡ is_some (known.file_for serves_as cards.now) }
+{
+    for card in cards {
+        match card.file() {
+            Some(file) if use_of(file) == serves_as => return Some(file_with(card, file)),
+            _ => {}
+        }
+    }
+    None
+}
+
+/// Returns the first file with this name before a card.
+fn named_before(first: &FirstCards, before: &[SpecCard], name: &Word<8>) -> Option<FileOnCard>
+    requires { first.now ≡ before.now }
+    ensures file { result ≡ causes.file_of_name name.now before.now }
+    ensures known { is_some result ≡ is_some (known.file_named name.now before.now) }
+{
+    first.file_named(name)?;
+    file_of_name(name, before)
+}
+
+/// Returns the first file with this use before a card.
+fn used_before(first: &FirstCards, before: &[SpecCard], serves_as: FileUse) -> Option<FileOnCard>
+    requires { first.now ≡ before.now }
+    ensures file { result ≡ causes.file_of_use serves_as before.now }
+    ensures known { is_some result ≡ is_some (known.file_for serves_as before.now) }
+{
+    first.file_for(serves_as)?;
+    file_of_use(serves_as, before)
+}
+
+/// Returns the first file of a source with this name.
+fn file_named(source: &IndexedCards, name: &Word<8>) -> Option<FileOnCard>
+    ensures file { result ≡ causes.file_of_name name.now source.now }
+    ensures use_known { option_map (λ f. f.serves_as) result ≡ option_map known.file_use (known.file_named name.now source.now) }
+{
+    source.file_named(name)?;
+    file_of_name(name, source.as_slice())
+}
+
+fn of_file(first: &FirstCards, before: &[SpecCard], file: &FileSpec) -> Option<FileCause>
+    requires { first.now ≡ before.now }
+    ensures cause { result ≡ causes.of_file before.now file.now }
+    ensures rule { is_some result ≡ rules.bad_file before.now file.now }
+{
+    if let Some(first) = named_before(first, before, &file.name) {
+        return Some(FileCause::Twice(first));
+    }
+    if let Some(first) = used_before(first, before, use_of(file)) {
+        let name = Word::new(file.name.as_slice());
+        return Some(FileCause::Second { name, first });
+    }
+    if ends_apart(first, file) {
+        return Some(FileCause::EndsApart);
+    }
+    of_length(use_of(file), file.record_length)
 }
 
 /// Whether the other input file comes before, and just one of the two ends the job.
-pub(crate) fn ends_apart(before: &FirstCards, file: &FileSpec) -> bool
-    ensures { result ≡ files.ends_apart before.now file.now }
+fn ends_apart(before: &FirstCards, file: &FileSpec) -> bool
+    ensures { result ≡ rules.ends_apart before.now file.now }
 {
     let Some(other) = other_input(use_of(file)) else {
         return false;
@@ -66,7 +222,7 @@ pub(crate) fn ends_apart(before: &FirstCards, file: &FileSpec) -> bool
 }
 
 const fn other_input(serves_as: FileUse) -> Option<FileUse>
-    ensures { result ≡ files.other_input serves_as }
+    ensures { result ≡ rules.other_input serves_as }
 {
     match serves_as {
         FileUse::Primary => Some(FileUse::Secondary),
@@ -75,37 +231,25 @@ const fn other_input(serves_as: FileUse) -> Option<FileUse>
     }
 }
 
-/// Returns the greatest record length, or line length of the printer.
-const fn longest(serves_as: FileUse) -> u16
-    ensures { result ≡ files.longest_in_file serves_as }
+fn of_length(serves_as: FileUse, length: u16) -> Option<FileCause>
+    ensures { result ≡ causes.of_length serves_as length }
 {
-    match serves_as {
+    let longest = match serves_as {
         FileUse::Primary | FileUse::Secondary | FileUse::Disk => 9999,
         FileUse::Printer => 132,
+    };
+    if 1 <= length && length <= longest {
+        return None;
     }
+    Some(FileCause::Length { serves_as, length })
 }
 
-fn lacks_input_file(source: &IndexedCards, is_following: bool, name: &Option<Word<8>>) -> bool
-    ensures { result ≡ files.lacks_file source.now known.is_input is_following name.now }
+fn is_input(serves_as: FileUse) -> bool
+    ensures { result ≡ known.is_input serves_as }
 {
-    match name {
-        None => !is_following,
-        Some(name) => !matches!(
-            serves_as(source, name),
-            Some(FileUse::Primary | FileUse::Secondary)
-        ),
-    }
-}
-
-fn lacks_output_file(source: &IndexedCards, is_following: bool, name: &Option<Word<8>>) -> bool
-    ensures { result ≡ files.lacks_file source.now known.is_output is_following name.now }
-{
-    match name {
-        None => !is_following,
-        Some(name) => !matches!(
-            serves_as(source, name),
-            Some(FileUse::Printer | FileUse::Disk)
-        ),
+    match serves_as {
+        FileUse::Primary | FileUse::Secondary => true,
+        FileUse::Printer | FileUse::Disk => false,
     }
 }
 
@@ -115,29 +259,71 @@ fn serves_as(source: &IndexedCards, name: &Word<8>) -> Option<FileUse>
     Some(use_of(source.file_named(name)?))
 }
 
-/// F9 of a line: the disk file allows neither spaces nor skips.
-pub fn moves_disk(
+fn of_type(source: &IndexedCards, is_following: bool, name: &Option<Word<8>>) -> Option<FileCause>
+    ensures cause { result ≡ causes.of_user source.now user.RecordType known.is_input is_following name.now }
+    ensures rule { is_some result ≡ rules.lacks_file source.now known.is_input is_following name.now }
+{
+    let user = FileUser::RecordType;
+    match name {
+        None if is_following => None,
+        None => Some(FileCause::Unnamed(user)),
+        Some(name) => match file_named(source, name) {
+            None => Some(unknown(user, name)),
+            Some(file) if is_input(file.serves_as) => None,
+            Some(file) => Some(FileCause::WrongUse { user, file }),
+        },
+    }
+}
+
+fn of_line(source: &IndexedCards, is_following: bool, name: &Option<Word<8>>) -> Option<FileCause>
+    ensures cause { result ≡ causes.of_user source.now user.Line known.is_output is_following name.now }
+    ensures rule { is_some result ≡ rules.lacks_file source.now known.is_output is_following name.now }
+{
+    let user = FileUser::Line;
+    match name {
+        None if is_following => None,
+        None => Some(FileCause::Unnamed(user)),
+        Some(name) => match file_named(source, name) {
+            None => Some(unknown(user, name)),
+            Some(file) if is_input(file.serves_as) => Some(FileCause::WrongUse { user, file }),
+            Some(_) => None,
+        },
+    }
+}
+
+fn unknown(user: FileUser, name: &Word<8>) -> FileCause
+    ensures { result ≡ causes.unknown user name.now }
+{
+    let name = Word::new(name.as_slice());
+    FileCause::Unknown { user, name }
+}
+
+// ---- F9 of lines
+
+/// F9 of a line: the disk file, for which it has spaces or skips.
+pub fn moved_disk(
     source: &IndexedCards,
     sheets: &Sheets,
     before: &[SpecCard],
     card: &SpecCard,
-) -> bool
+) -> Option<FileOnCard>
     requires { AreSheets source.now before.now sheets.now }
-    ensures { result ≡ files.moves_disk source.now before.now card.now }
+    ensures cause { result ≡ option_and_then (causes.moved_disk source.now before.now) (output_record_on card.now.spec) }
+    ensures rule { is_some result ≡ rules.moves_disk source.now before.now card.now }
 {
-    match card.line() {
-        None => false,
-        Some(line) => moves(&line.movement) && is_for_disk(source, sheets, before, line),
+    let line = card.line()?;
+    if !moves(&line.movement) {
+        return None;
     }
-}
-
-fn moves(movement: &Movement) -> bool
-    ensures { result ≡ files.moves movement.now }
-{
-    movement.space_before.is_some()
-        || movement.space_after.is_some()
-        || movement.skip_before.is_some()
-        || movement.skip_after.is_some()
+    if !is_for_disk(source, sheets, before, line) {
+        return None;
+    }
+    let name = line_file(card, open_line_file(before))?;
+    let file = file_named(source, name)?;
+    match file.serves_as {
+        FileUse::Disk => Some(file),
+        FileUse::Primary | FileUse::Secondary | FileUse::Printer => None,
+    }
 }
 
 /// Whether the line goes to the disk file, which it names or which the previous line goes to.
@@ -148,13 +334,67 @@ fn is_for_disk(
     line: &OutputRecord,
 ) -> bool
     requires { AreSheets source.now before.now sheets.now }
-    ensures { result ≡ option_map_or files.is_disk_file (known.file_by (option_or line.now.file (open_file output_role before.now)) source.now) false }
+    ensures { result ≡ option_map_or rules.is_disk_file (known.file_by (option_or line.now.file (open_file output_role before.now)) source.now) false }
 {
     match &line.file {
         Some(name) => matches!(serves_as(source, name), Some(FileUse::Disk)),
         None => match sheets.lines.file {
             None => false,
             Some(file) => matches!(file.serves_as, FileUse::Disk),
+        },
+    }
+}
+
+/// Returns the columns of a line's first space or skip.
+pub fn movement_range(card: &SpecCard) -> Option<ColumnRange>
+    ensures { result ≡ causes.movement_range card.now }
+{
+    Some(first_movement(&card.line()?.movement))
+}
+
+fn first_movement(movement: &Movement) -> ColumnRange
+    ensures { result ≡ causes.first_movement movement.now }
+{
+    if movement.space_before.is_some() {
+        ColumnRange::SpaceBefore
+    } else if movement.space_after.is_some() {
+        ColumnRange::SpaceAfter
+    } else if movement.skip_before.is_some() {
+        ColumnRange::SkipBefore
+    } else {
+        ColumnRange::SkipAfter
+    }
+}
+
+fn moves(movement: &Movement) -> bool
+    ensures { result ≡ rules.moves movement.now }
+{
+    movement.space_before.is_some()
+        || movement.space_after.is_some()
+        || movement.skip_before.is_some()
+        || movement.skip_after.is_some()
+}
+
+/// Returns the file of the last line before a card.
+pub fn open_line_file(before: &[SpecCard]) -> Option<&Word<8>>
+    ensures { option_copied result ≡ open_file output_role before.now }
+{
+    let mut name = None;
+    for card in before {
+        name = line_file(card, name);
+    }
+    name
+}
+
+/// Returns the file of the open line after one more card.
+fn line_file<'a>(card: &'a SpecCard, kept: Option<&'a Word<8>>) -> Option<&'a Word<8>>
+    ensures { option_copied result ≡ causes.with_line_file card.now (option_copied kept.entry) }
+{
+    match card.line() {
+        None => kept,
+        Some(line) => match &line.file {
+            Some(name) => Some(name),
+            None => kept,
         },
     }
 }

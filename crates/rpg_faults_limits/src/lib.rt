@@ -1,4 +1,4 @@
-//! Rules on names, limits, files and the order of cards.
+//! Rules on limits and files.
 #![tactic(auto)]
 
 mod calculations;
@@ -7,22 +7,17 @@ mod filled;
 mod items;
 mod limits;
 mod lines;
-mod listed;
-mod marks;
 mod measures;
-mod names;
 mod sheets;
 mod state;
 mod storage;
 mod types;
 
-pub use files::{breaks_files, lacks_input, moves_disk};
-pub use limits::limit_cause;
-pub use listed::{FileAndLimitFaults, file_and_limit_faults};
-pub use marks::{
-    file_columns, limit_columns, movement_columns, redefined_columns, size_columns, stray_columns,
+pub use files::{
+    FileCause, FileOnCard, FileUser, file_cause, file_of_name, lacks_input, moved_disk,
+    movement_range, open_line_file,
 };
+pub use limits::limit_cause;
 pub use measures::{Limit, LimitCause};
-pub use names::{bad_size, redefines};
 pub use sheets::{GroupFile, Groups, Sheets};
 pub use state::Limits;

@@ -6,38 +6,18 @@ ghost use Rattle.rpg_cards.specs.Groups.{input_role, open_group, output_role};
 ghost use Rattle.rpg_faults_limits.specs.Sheets.{AreSheets};
 ghost use Rattle.rpg_faults_limits.specs.Causes as causes;
 ghost use Rattle.rpg_faults_limits.specs.Limits as rules;
-ghost use Rattle.rpg_faults_limits.specs.State.{AreCalculations, AreGroupCounts, AreItemsOrKept, AreLimits, HasFewOnLine, HasFewOnType, IsOpenLine, IsOpenType};
+ghost use Rattle.rpg_faults_limits.specs.State.{AreCalculations, AreItemsOrKept, AreLimits, HasFewOnLine, HasFewOnType, IsOpenLine, IsOpenType};
 
 use crate::calculations::Calculations;
 use crate::items::Items;
 use crate::lines::OpenLine;
 use crate::measures::{Limit, LimitCause, counted, first_past};
 use crate::sheets::Sheets;
-use crate::state::{GroupCounts, Limits};
+use crate::state::Limits;
 use crate::storage::{all_names, constants_in, names_in};
 use crate::types::OpenType;
 use rpg_card_index::IndexedCards;
 use rpg_cards::SpecCard;
-
-/// F6: a limit that is exceeded with the card.
-pub(crate) fn passes_limit(
-    source: &IndexedCards,
-    sheets: &Sheets,
-    items: Option<Items>,
-    counts: &GroupCounts,
-    before: &[SpecCard],
-    card: &SpecCard,
-    after: &[SpecCard],
-) -> bool
-    requires split { source.now ≡ before.now ++ card.now ∷ after.now }
-    requires few { length source.now ≤ 2000 }
-    requires sheets { AreSheets source.now before.now sheets.now }
-    requires items { AreItemsOrKept source.now before.now items }
-    requires counts { AreGroupCounts before.now (card.now ∷ after.now) counts.now }
-    ensures { result ≡ rules.passes_limit source.now before.now card.now after.now }
-{
-    passed(source, sheets, items, counts, before, card, after).is_some()
-}
 
 /// F6: which limit is exceeded with the card.
 pub fn limit_cause(
@@ -51,20 +31,18 @@ pub fn limit_cause(
     requires split { source.now ≡ before.now ++ card.now ∷ after.now }
     requires few { length source.now ≤ 2000 }
     requires sheets { AreSheets source.now before.now sheets.now }
-    requires limits { AreLimits before.now (card.now ∷ after.now) limits.now }
+    requires limits { AreLimits source.now before.now (card.now ∷ after.now) limits.now }
     ensures cause { result ≡ causes.limit_cause source.now before.now card.now after.now }
     ensures rule { is_some result ≡ rules.passes_limit source.now before.now card.now after.now }
 {
-    let items = Some(limits.items);
-    passed(source, sheets, items, &limits.counts, before, card, after)
+    passed(source, sheets, limits, before, card, after)
 }
 
 #[tactic(auto, unfolding(crate::specs::Causes::limit_cause))]
 fn passed(
     source: &IndexedCards,
     sheets: &Sheets,
-    items: Option<Items>,
-    counts: &GroupCounts,
+    limits: &Limits,
     before: &[SpecCard],
     card: &SpecCard,
     after: &[SpecCard],
@@ -72,27 +50,26 @@ fn passed(
     requires split { source.now ≡ before.now ++ card.now ∷ after.now }
     requires few { length source.now ≤ 2000 }
     requires sheets { AreSheets source.now before.now sheets.now }
-    requires items { AreItemsOrKept source.now before.now items }
-    requires counts { AreGroupCounts before.now (card.now ∷ after.now) counts.now }
+    requires limits { AreLimits source.now before.now (card.now ∷ after.now) limits.now }
     ensures { result ≡ causes.limit_cause source.now before.now card.now after.now }
 {
     let entries = of_entries(card);
     if entries.is_some() {
         return entries;
     }
-    let types = on_types(source, sheets, counts.open_type, before, card);
+    let types = on_types(source, sheets, limits.open_type, before, card);
     if types.is_some() {
         return types;
     }
-    let lines = on_lines(source, sheets, counts.open_line, before, card);
+    let lines = on_lines(source, sheets, limits.open_line, before, card);
     if lines.is_some() {
         return lines;
     }
-    let calculations = on_calculations(counts.calculations, before, card, after);
+    let calculations = on_calculations(limits.calculations, before, card, after);
     if calculations.is_some() {
         return calculations;
     }
-    on_storage(source, items, before, card, after)
+    on_storage(source, limits.items, before, card, after)
 }
 
 /// Checks the number of entries.
@@ -104,13 +81,6 @@ fn of_entries(card: &SpecCard) -> Option<LimitCause>
         return None;
     }
     Some(LimitCause::Entries(entries))
-}
-
-#[tactic(auto, using(crate::proofs::LimitRule::entries_some))]
-pub(crate) fn has_bad_entries(card: &SpecCard) -> bool
-    ensures { result ≡ rules.bad_entries card.now }
-{
-    of_entries(card).is_some()
 }
 
 /// Checks record types, and what is on the cards of one. Only an I card changes these.

@@ -3,6 +3,8 @@
 ghost use Rattle.std.specs.Prelude.{◌≡◌};
 ghost use Rattle.rpg_faults_limits.specs.Causes as causes;
 
+use rpg_sheet_specs::ColumnRange;
+
 /// What a limit counts.
 #[derive(Clone, Copy)]
 pub enum Limit {
@@ -38,6 +40,18 @@ pub enum LimitCause {
     Entries(u16),
     /// The count including the card.
     Passed { limit: Limit, count: u64 },
+}
+
+impl LimitCause {
+    /// Returns the columns of a card that the cause is about; None if the card as a whole is one too many.
+    pub fn range(self) -> Option<ColumnRange>
+        ensures { result ≡ causes.limit_range self }
+    {
+        match self {
+            LimitCause::Entries(_) => Some(ColumnRange::Entries),
+            LimitCause::Passed { .. } => None,
+        }
+    }
 }
 
 /// A count and its limit: before a card, and with it.

@@ -1,3 +1,4 @@
 pub mod ValidLemmas
 pub mod Listed
 pub mod SizeLemmas
+pub mod Ranges

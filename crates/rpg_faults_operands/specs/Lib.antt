@@ -2,10 +2,10 @@ pub mod Columns
 pub mod Editing
 pub mod Valid
 pub mod Indexes
-pub mod IndicatorMarks
 pub mod Indicators
 pub mod Kinds
 pub mod Marks
+pub mod Mismatches
 pub mod Names
 pub mod Operands
 pub mod Sizes

@@ -106,7 +106,7 @@ fn is_unedited(field: &OutputField) -> bool
 
 /// F17: an edit code or word that doesn't fit. Inlined, because it runs for every card.
 #[inline(always)]
-pub fn bad_editing(source: &IndexedCards, card: &SpecCard) -> bool
+pub(crate) fn bad_editing(source: &IndexedCards, card: &SpecCard) -> bool
     ensures { result ≡ editing.bad_editing source.now card.now }
 {
     match card.output_field() {

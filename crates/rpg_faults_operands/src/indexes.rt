@@ -6,23 +6,11 @@ ghost use Rattle.rpg_faults_operands.specs.Indexes as indexes;
 
 use crate::forms::can_index;
 use crate::names::index_name;
-use crate::operands::{Operand, entry_form, form_in, operands_ending, output_operand};
+use crate::operands::{Operand, entry_form, form_in};
 use rpg_card_index::IndexedCards;
-use rpg_cards::{Content, SpecCard};
+use rpg_cards::Content;
 use rpg_program::form::{FieldForm, fits_digits, is_array};
 use rpg_sheet_specs::{Entry, EntryIndex};
-
-/// F5: an index that is missing or not allowed, a literal out of range, or a field that can't be an index.
-#[tactic(auto, using(crate::proofs::Listed::any_listed))]
-pub fn bad_index(source: &IndexedCards, card: &SpecCard, after: &[SpecCard]) -> bool
-    ensures { result ≡ indexes.bad_index source.now card.now after.now }
-{
-    let operands = operands_ending(card, after);
-    is_badly_indexed(source, &operands.first)
-        || is_badly_indexed(source, &operands.second)
-        || is_badly_indexed(source, &operands.third)
-        || is_badly_indexed(source, &output_operand(card))
-}
 
 pub(crate) fn is_badly_indexed(source: &IndexedCards, operand: &Option<Operand>) -> bool
     ensures { result ≡ option_map_or (indexes.bad_index_of source.now) operand.now false }

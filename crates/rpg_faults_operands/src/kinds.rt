@@ -2,54 +2,14 @@
 
 ghost use Rattle.std.specs.Prelude.{◌≡◌, false};
 ghost use Rattle.std.specs.Option.{option_map_or};
-ghost use Rattle.rpg_cards.specs.Calculations.{card_ending};
-ghost use Rattle.rpg_cards.specs.Cards.{output_field_on};
 ghost use Rattle.rpg_faults_operands.specs.Kinds as words;
 ghost use Rattle.rpg_faults_operands.specs.Operands.{field_content};
 
 use crate::forms::{is_text, is_unwritable};
-use crate::operands::{factor_form, field_content, output_form, result_form};
-use rpg_card_index::IndexedCards;
-use rpg_cards::{Content, Kinds, OperationColumns, SpecCard, columns, last_card};
+use crate::operands::field_content;
+use rpg_cards::{Content, Kinds, OperationColumns};
 use rpg_program::form::{FieldForm, is_array, is_table, same_kind};
 use rpg_sheet_specs::OutputField;
-
-/// F4: an operand or output field of the wrong kind, a field that can't be written, a table with too few entries.
-pub fn wrong_operand(source: &IndexedCards, card: &SpecCard, after: &[SpecCard]) -> bool
-    ensures { result ≡ words.wrong_operand source.now card.now after.now }
-{
-    is_wrong_ending(source, card, after) || is_wrong_output(source, card)
-}
-
-fn is_wrong_ending(source: &IndexedCards, card: &SpecCard, after: &[SpecCard]) -> bool
-    ensures { result ≡ option_map_or (words.wrong_in_calculation source.now) (card_ending card.now after.now) false }
-{
-    let Some(calculation) = last_card(card, after) else {
-        return false;
-    };
-    let Some(operation) = calculation.operation else {
-        return false;
-    };
-    let columns = columns(operation);
-    are_wrong(
-        columns,
-        factor_form(source, columns.factor_1, &calculation.factor_1),
-        factor_form(source, columns.factor_2, &calculation.factor_2),
-        result_form(source, columns.result_field, &calculation.result_field),
-    )
-}
-
-fn is_wrong_output(source: &IndexedCards, card: &SpecCard) -> bool
-    ensures { result ≡ option_map_or (words.wrong_in_output source.now) (output_field_on card.now.spec) false }
-{
-    let Some(field) = card.output_field() else {
-        return false;
-    };
-    match output_form(source, field) {
-        None => false,
-        Some(form) => is_wrong_as_output(field, form),
-    }
-}
 
 /// Whether the operands are of the wrong kind, given the forms of factor 1, factor 2 and the result field.
 #[inline(always)]
@@ -69,7 +29,7 @@ pub(crate) fn are_wrong(
         || is_wrong_result(result_content, factor_2, result_field)
 }
 
-pub(crate) fn has_wrong_class(content: Option<Content>, form: Option<FieldForm>) -> bool
+fn has_wrong_class(content: Option<Content>, form: Option<FieldForm>) -> bool
     ensures { result ≡ words.has_wrong_class content form }
 {
     let Some(content) = content else {
@@ -92,7 +52,7 @@ fn is_wrong_class(content: Content, form: FieldForm) -> bool
     }
 }
 
-pub(crate) fn are_wrong_kinds(
+fn are_wrong_kinds(
     kinds: Kinds,
     factor_1: Option<FieldForm>,
     factor_2: Option<FieldForm>,

@@ -4,23 +4,11 @@ ghost use Rattle.std.specs.Prelude.{◌≡◌, false, option_copied};
 ghost use Rattle.std.specs.Option.{option_map_or};
 ghost use Rattle.rpg_faults_operands.specs.Names as names;
 
-use crate::operands::{Operand, operands_ending, output_operand};
+use crate::operands::Operand;
 use rpg_card_index::IndexedCards;
-use rpg_cards::{Defined, SpecCard};
+use rpg_cards::Defined;
 use rpg_sheet_specs::{Entry, EntryIndex};
 use rpg_symbols::Name;
-
-/// F1: a name that is used but that no card defines, before or after.
-#[tactic(auto, using(crate::proofs::Listed::any_listed))]
-pub fn lacks_name(source: &IndexedCards, card: &SpecCard, after: &[SpecCard]) -> bool
-    ensures { result ≡ names.lacks_name source.now card.now after.now }
-{
-    let operands = operands_ending(card, after);
-    names_nothing(source, &operands.first)
-        || names_nothing(source, &operands.second)
-        || names_nothing(source, &operands.third)
-        || names_nothing(source, &output_operand(card))
-}
 
 pub(crate) fn names_nothing(source: &IndexedCards, operand: &Option<Operand>) -> bool
     ensures { result ≡ option_map_or (names.names_nothing source.now) operand.now false }

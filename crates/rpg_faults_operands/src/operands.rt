@@ -177,9 +177,3 @@ pub fn result_form(
     field_content(column)?;
     entry_form(source, field.as_ref()?)
 }
-
-pub(crate) fn output_form(source: &IndexedCards, field: &OutputField) -> Option<FieldForm>
-    ensures { result ≡ operands.output_form source.now field.now }
-{
-    entry_form(source, field.operand.as_ref()?)
-}

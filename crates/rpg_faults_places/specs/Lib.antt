@@ -1,8 +1,10 @@
 pub mod Before
+pub mod CardFiles
+pub mod JoinSums
 pub mod Joined
+pub mod Joins
 pub mod Lengths
-pub mod Listed
-pub mod Marks
 pub mod Matches
+pub mod Outside
 pub mod Places
 pub mod State

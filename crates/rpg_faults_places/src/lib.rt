@@ -2,11 +2,12 @@
 #![tactic(auto)]
 
 mod columns;
+mod joins;
 mod lengths;
 mod matches;
-mod places;
+mod outside;
 mod state;
 
-pub use columns::misplaces;
-pub use places::{Misplacement, misplacements};
+pub use joins::{JoinCause, join_cause};
+pub use outside::{PlaceCause, outside_cause};
 pub use state::Places;

@@ -9,9 +9,9 @@ ghost use Rattle.rpg_fit.specs.Faults.{IsReason};
 use crate::fault::FitFault;
 use crate::note::{Note, notes};
 use crate::rules::{OldDeckRules, RULES, Rules, apply_all};
-use rpg_faults::{CardFault, source_faults};
+use rpg_faults::{SourceFaults, source_faults};
 use rpg_fit_cards::Settings;
-use rpg_fit_deck::{Editor, Fitted};
+use rpg_fit_deck::{Editor, Fitted, MOST_CARDS};
 use std::alloc::Global;
 
 /// A rewritten deck.
@@ -21,11 +21,8 @@ pub struct FittedDeck {
     /// Notes on cards that no longer mean the same.
     pub notes: Vec<Note>,
     /// The faults of the new deck, on its own cards.
-    pub faults: Vec<CardFault>,
+    pub judged: SourceFaults,
 }
-
-/// The most cards of a deck.
-const MOST_CARDS: usize = 2000;
 
 /// Rewrites an old deck, as far as the rules go.
 ///
@@ -36,7 +33,7 @@ const MOST_CARDS: usize = 2000;
 /// A rule rejects the deck, it has too many cards, or memory runs out.
 pub fn fit(alloc: Global, source: &[u8], settings: &Settings) -> Result<FittedDeck, FitFault>
     ensures laws { IfOk result (λ fit. IsFitted source.now fit.fitted) }
-    ensures faults { IfOk result (λ fit. AreSourceFaults fit.fitted.new.items fit.faults.items) }
+    ensures faults { IfOk result (λ fit. AreSourceFaults fit.fitted.new.items fit.judged.faults.items) }
 {
     fit_by(alloc, source, &OldDeckRules { settings })
 }
@@ -49,7 +46,7 @@ pub fn fit(alloc: Global, source: &[u8], settings: &Settings) -> Result<FittedDe
 /// A rule rejects the deck, it has too many cards, or memory runs out.
 pub fn fit_by<R: Rules>(alloc: Global, source: &[u8], rules: &R) -> Result<FittedDeck, FitFault>
     ensures laws { IfOk result (λ fit. IsFitted source.now fit.fitted) }
-    ensures faults { IfOk result (λ fit. AreSourceFaults fit.fitted.new.items fit.faults.items) }
+    ensures faults { IfOk result (λ fit. AreSourceFaults fit.fitted.new.items fit.judged.faults.items) }
     ensures accepted { IfOk result (λ fit. IsRewritten (R.leaves rules.now) RULES source.now fit.fitted) }
     ensures rejected { IfErr result (λ fault. IsReason (R.leaves rules.now) RULES source.now fault) }
 {
@@ -60,11 +57,11 @@ pub fn fit_by<R: Rules>(alloc: Global, source: &[u8], rules: &R) -> Result<Fitte
     let notes = notes(alloc, &editor.view(alloc)?)?;
     apply_all(alloc, &mut editor, rules);
     let fitted = editor.finish(alloc, source)?;
-    let faults = source_faults(alloc, fitted.new.as_slice())?;
+    let judged = source_faults(alloc, fitted.new.as_slice())?;
     Ok(FittedDeck {
         fitted,
         notes,
-        faults,
+        judged,
     })
 }
 

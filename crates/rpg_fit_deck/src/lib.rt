@@ -17,6 +17,7 @@ mod word;
 pub use card::Card;
 pub use editor::Editor;
 pub use fitted::Fitted;
+pub use render::MOST_CARDS;
 pub use sentence::{Refusal, Remark, Rule, Sentence, What};
 pub use stopped::Stopped;
 pub use view::{Address, Seen, View};

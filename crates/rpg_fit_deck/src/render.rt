@@ -12,7 +12,7 @@ use rpg_text::first_line;
 use std::alloc::{AllocError, Global};
 
 /// The most cards of a deck.
-pub(crate) const MOST_CARDS: usize = 2000;
+pub const MOST_CARDS: usize = 2000;
 
 /// Why there is no new deck.
 #[derive(Clone, Copy)]

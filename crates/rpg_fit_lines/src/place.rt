@@ -1,12 +1,9 @@
 //! *PLACE: repeats the fields before it in its line.
 
 use crate::field::{end_on, name_on};
-use rpg_fit_deck::{Editor, Seen, Sentence, Word};
+use rpg_fit_deck::{Editor, MOST_CARDS, Seen, Sentence, Word};
 use rpg_fit_words::{Conjunction, DeckLines, Line, List, NewCard, RuleStop};
 use std::alloc::Global;
-
-/// The most cards of a deck.
-const MOST_CARDS: usize = 2000;
 
 /// The most conditions of a field.
 const MOST_TERMS: usize = 3;

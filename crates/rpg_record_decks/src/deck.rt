@@ -5,12 +5,9 @@ ghost use Rattle.rpg_record_decks.specs.Cards.{card_on_line, cards_of, ends_card
 ghost use Rattle.rpg_record_decks.specs.Outcomes.{IsDeckFaultOf};
 
 use crate::fault::{CardFault, DeckFault};
-use rpg_sheet::Card;
+use rpg_sheet::{Card, MOST_CARDS};
 use rpg_text::{first_line, has_only_characters, trimmed};
 use std::alloc::Global;
-
-/// The last card of a source.
-pub(crate) const LAST_CARD: u16 = 2_000;
 
 /// The columns of a card.
 const COLUMNS: usize = 80;
@@ -51,7 +48,7 @@ fn card_at(number: u16, line: &[u8]) -> Result<DeckCard, CardFault>
     ensures value { result ≡ card_on_line number line.now }
     ensures few { OnOk result (number ≤ 2000) }
 {
-    if number > LAST_CARD {
+    if number > MOST_CARDS {
         return Err(CardFault::TooMany);
     }
     if trimmed(line).len() > COLUMNS {

@@ -8,8 +8,8 @@ ghost use Rattle.rpg_record_decks.specs.Edits.{number_columns, with_columns};
 ghost use Rattle.rpg_record_decks.specs.Fitted.{all_digit_columns, change_of, changed, digit_columns_after, fitted};
 
 use crate::columns::{number_columns, with_columns};
-use crate::deck::LAST_CARD;
 use rpg_records::{Layout, NumberField};
+use rpg_sheet::MOST_CARDS;
 use std::alloc::{AllocError, Global};
 
 /// The columns of a field's digits, from 1.
@@ -117,7 +117,7 @@ fn add_line(
     requires { all.now ≡ all_digit_columns (layout_seen layout.now) }
     ensures { OnOk result (deck.new.items ≡ deck.old.items ++ changed (change_of (layout_seen layout.now) number) line.now) }
 {
-    if number > usize::from(LAST_CARD) {
+    if number > usize::from(MOST_CARDS) {
         return deck.extend_from_slice(line);
     }
     if number == usize::from(layout.card) {

@@ -24,5 +24,5 @@ pub use rpg_sheet_specs::{
     TextLiteral, Three, Within, Word,
 };
 pub use sheet::{Cards, SheetCode, SheetFault, sheet_place};
-pub use source::cards;
+pub use source::{MOST_CARDS, cards};
 pub use unreadable::{UnreadableCard, refusal_names_the_first, unreadable_cards};

@@ -16,7 +16,7 @@ use rpg_text::{first_line, has_only_characters};
 use std::alloc::Global;
 
 /// The most cards of a source.
-pub(crate) const CARDS: u16 = 2000;
+pub const MOST_CARDS: u16 = 2000;
 
 /// The state after the earlier lines: their number, the place of the latest sheet, and whether data has begun.
 #[derive(Clone, Copy)]
@@ -96,7 +96,7 @@ pub fn cards(alloc: Global, text: &[u8]) -> Result<Cards, SheetFault>
 
 /// Returns the initial capacity, enough for cards of 40 characters or more. A card takes 240 bytes there, so moving them is costly.
 fn room_for(text: &[u8]) -> usize {
-    (text.len() / 40).min(usize::from(CARDS))
+    (text.len() / 40).min(usize::from(MOST_CARDS))
 }
 
 /// Reads the line after `earlier`, with these columns, into `spec`, or returns its fault.
@@ -119,7 +119,7 @@ pub(crate) fn checked(
         return Err(SheetCode::S2.into());
     }
     let card = Card::of(columns);
-    if earlier.count >= CARDS {
+    if earlier.count >= MOST_CARDS {
         return Err(past_last(&card, earlier.latest, earlier.data_begun));
     }
     read(spec, &card, earlier.latest, earlier.data_begun)

@@ -10,7 +10,7 @@ ghost use Rattle.rpg_sheet_specs.specs.Cards.{card_of};
 use crate::card::columns_of;
 use crate::form::ends_source;
 use crate::sheet::{CardFault, SheetCode};
-use crate::source::{CARDS, Earlier, NO_LINES, checked};
+use crate::source::{Earlier, MOST_CARDS, NO_LINES, checked};
 use rpg_sheet_specs::ColumnFault;
 use rpg_text::first_line;
 use std::alloc::{AllocError, Global};
@@ -33,7 +33,7 @@ pub fn unreadable_cards(alloc: Global, text: &[u8]) -> Result<Vec<UnreadableCard
     let mut earlier = NO_LINES;
     let mut rest = text;
     while !rest.is_empty() {
-        if earlier.count > CARDS {
+        if earlier.count > MOST_CARDS {
             return Ok(found);
         }
         let (line, more) = first_line(rest);

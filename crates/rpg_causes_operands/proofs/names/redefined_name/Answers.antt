@@ -1,20 +1,19 @@
 use Rattle.std.proofs.Common.{◌∙◌, ap, arith}
 use Rattle.rpg_cards.specs.Names.{definitions}
-use Rattle.rpg_causes_operands.proofs.NameLemmas.{few_before}
+use Rattle.rpg_causes_operands.proofs.NameLemmas.{card_stands, few_before, taken_before}
 use Rattle.rpg_causes_operands.specs.Names.{redefined_among}
-use Rattle.rpg_faults_limits.proofs.NameLemmas.{card_stands, taken_before}
 use Rattle.rpg_faults_limits.specs.Names.{redefine}
 use Rattle.rpg_causes_operands.proofs.names.redefined_name.Goals as goal
 
 pub redefined_among-requires-clause-few : goal.redefined_among-requires-clause-few
 redefined_among-requires-clause-few c =
-    omega (arith, c.count_definitions.ensures, few_before c.args.source.now c.args.before.now c.args.card.now c.args.after.now c.requires.split c.requires.few)
+    omega (arith, c.requires.count, few_before c.args.source.now c.args.before.now c.args.card.now c.args.after.now c.requires.split c.requires.few)
 
 pub redefined_among-requires-clause-stand : goal.redefined_among-requires-clause-stand
 redefined_among-requires-clause-stand c =
     let before = c.args.before.now in
     let after = c.args.after.now in
-    (definitions before, definitions after, c.count_definitions.ensures, card_stands c.args.source.now before c.args.card.now after _ c.requires.split (c.as_slice.ensures.value ∙ c.definitions.ensures))
+    (definitions before, definitions after, c.requires.count, card_stands c.args.source.now before c.args.card.now after _ c.requires.split (c.as_slice.ensures.value ∙ c.definitions.ensures))
 
 pub returns-clause-cause : goal.returns-clause-cause
 returns-clause-cause c =
@@ -22,7 +21,7 @@ returns-clause-cause c =
     let before = c.args.before.now in
     let here = c.as_slice.ensures.value ∙ c.definitions.ensures in
     c.redefined_among.ensures.cause
-    ∙ ap (λ ds. redefined_among cards ds c.as_slice.result.now) (taken_before cards before c.args.card.now c.args.after.now _ c.count_definitions.result c.requires.split here c.count_definitions.ensures)
+    ∙ ap (λ ds. redefined_among cards ds c.as_slice.result.now) (taken_before cards before c.args.card.now c.args.after.now _ c.args.count c.requires.split here c.requires.count)
     ∙ ap (redefined_among cards (definitions before)) here
 
 pub returns-clause-rule : goal.returns-clause-rule
@@ -30,5 +29,5 @@ returns-clause-rule c =
     let before = c.args.before.now in
     let here = c.as_slice.ensures.value ∙ c.definitions.ensures in
     c.redefined_among.ensures.rule
-    ∙ ap (λ ds. redefine ds c.as_slice.result.now) (taken_before c.args.source.now before c.args.card.now c.args.after.now _ c.count_definitions.result c.requires.split here c.count_definitions.ensures)
+    ∙ ap (λ ds. redefine ds c.as_slice.result.now) (taken_before c.args.source.now before c.args.card.now c.args.after.now _ c.args.count c.requires.split here c.requires.count)
     ∙ ap (redefine (definitions before)) here

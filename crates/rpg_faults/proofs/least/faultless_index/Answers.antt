@@ -10,12 +10,12 @@ pub returns-in-Some : goal.returns-in-Some
 returns-in-Some c =
     let cards = c.args.cards.now in
     let judged : MatchOption c.least_fault-fault.result (Faultless cards) (λ (f : Fault). IsLeastFault cards f) =
-    rw (c.least_fault-fault.ensures ∙ ap least_fault (c.in_ok-listed.ensures ∙ c.in_ok-source.ensures)) (least cards c.requires.numbered) in
+    rw (c.least_fault-fault.ensures ∙ ap least_fault (c.in_ok-analyzed.ensures ∙ c.in_ok-source.ensures)) (least cards c.requires.numbered) in
     rw c.in-Some.is at judged
 
 pub returns-in-None : goal.returns-in-None
 returns-in-None c =
     let cards = c.args.cards.now in
     let judged : MatchOption c.least_fault-fault.result (Faultless cards) (λ (f : Fault). IsLeastFault cards f) =
-    rw (c.least_fault-fault.ensures ∙ ap least_fault (c.in_ok-listed.ensures ∙ c.in_ok-source.ensures)) (least cards c.requires.numbered) in
+    rw (c.least_fault-fault.ensures ∙ ap least_fault (c.in_ok-analyzed.ensures ∙ c.in_ok-source.ensures)) (least cards c.requires.numbered) in
     (rw c.in-None.is at judged, subst (IsIndexOf c.into_index.result) c.in_ok-source.ensures c.into_index.ensures)

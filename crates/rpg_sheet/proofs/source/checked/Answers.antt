@@ -11,8 +11,8 @@ returns-then-not-has_only_characters-clause-code c =
     code_unfit e.count e.latest e.data_begun c.args.line.now c.args.columns.now (omega arith) c.requires (sym c.has_only_characters.ensures ∙ c.if-not-has_only_characters.true)
     ∙ sym (ap (λ (code : SheetCode). Some code) c.into-then-not-has_only_characters.ensures.0)
 
-pub returns-then-earlier-ge-CARDS-clause-code : goal.returns-then-earlier-ge-CARDS-clause-code
-returns-then-earlier-ge-CARDS-clause-code c =
+pub returns-then-earlier-ge-MOST_CARDS-clause-code : goal.returns-then-earlier-ge-MOST_CARDS-clause-code
+returns-then-earlier-ge-MOST_CARDS-clause-code c =
     let e = c.args.earlier in
     code_past e.count e.latest e.data_begun c.args.line.now c.args.columns.now _ (omega arith) c.requires (sym c.has_only_characters.ensures ∙ c.if-not-has_only_characters.false) (omega arith)
     (rw c.of-card.ensures at c.past_last.ensures.code)

@@ -1,5 +1,0 @@
-use Rattle.rpg_deck_laws.proofs.Limits.{types-broken}
-use Rattle.rpg_deck_laws.proofs.rules.cards_over_limits_of_types_break_f6.Goals as goal
-
-pub returns : goal.returns
-returns c = types-broken

@@ -1,0 +1,301 @@
+//! F16: columns outside the record, end positions outside the line, and fields that are too wide.
+
+ghost use Rattle.std.specs.Prelude.{◌≡◌, Option, is_some, option_copied, option_and_then};
+ghost use Rattle.std.specs.Option.{option_map};
+ghost use Rattle.rpg_cards.specs.Files.{file_by};
+ghost use Rattle.rpg_cards.specs.Groups.{input_role, open_file};
+ghost use Rattle.rpg_faults_limits.specs.FileCauses as files;
+ghost use Rattle.rpg_faults_limits.specs.Sheets.{AreSheets};
+ghost use Rattle.rpg_faults_places.specs.CardFiles as files_of;
+ghost use Rattle.rpg_faults_places.specs.Outside as causes;
+ghost use Rattle.rpg_faults_places.specs.Outside.{SameLength};
+ghost use Rattle.rpg_faults_places.specs.Places as rules;
+ghost use Rattle.rpg_sheet_specs.specs.declared.file.FileSpec.{FileSpec};
+
+use rpg_card_index::IndexedCards;
+use rpg_cards::SpecCard;
+use rpg_faults_limits::{FileOnCard, GroupFile, Sheets, file_of_name, open_line_file};
+use rpg_faults_operands::width;
+use rpg_sheet_specs::{
+    ColumnRange, InputFieldSpec, InputSpec, OutputField, RecordCode, Three, Word,
+};
+use std::marker::Model;
+
+/// What is outside a record or a line.
+#[derive(Drop)]
+pub enum PlaceCause {
+    /// A code's position 0.
+    NoPosition(ColumnRange),
+    /// A code's position past the records of that file.
+    PositionPast {
+        at: ColumnRange,
+        position: u16,
+        file: FileOnCard,
+    },
+    /// Column 0 as the first or the last of a field.
+    NoColumn(ColumnRange),
+    /// The last column of a field comes before its first.
+    TurnedRound {
+        from: u16,
+        to: u16,
+    },
+    /// A field's columns past the records of that file.
+    PastRecord {
+        from: u16,
+        to: u16,
+        file: FileOnCard,
+    },
+    /// An end position of 0.
+    NoEnd,
+    /// An end position past the lines of that file.
+    PastLine {
+        end: u16,
+        file: FileOnCard,
+    },
+    /// A field or a constant that is wider than its end position allows.
+    Wider {
+        places: usize,
+        end: u16,
+    },
+}
+
+impl PlaceCause {
+    /// Returns the columns of a card that the cause is about.
+    pub fn range(&self) -> ColumnRange
+        ensures { result ≡ causes.place_range self.now }
+    {
+        match self {
+            PlaceCause::NoPosition(at)
+            | PlaceCause::PositionPast { at, .. }
+            | PlaceCause::NoColumn(at) => *at,
+            PlaceCause::TurnedRound { .. } | PlaceCause::PastRecord { .. } => {
+                ColumnRange::LastColumn
+            }
+            PlaceCause::NoEnd | PlaceCause::PastLine { .. } | PlaceCause::Wider { .. } => {
+                ColumnRange::EndPosition
+            }
+        }
+    }
+}
+
+/// F16 of a card's own columns: what is outside the record or the line.
+#[tactic(auto, unfolding(crate::specs::Outside::outside))]
+pub fn outside_cause(
+    source: &IndexedCards,
+    sheets: &Sheets,
+    before: &[SpecCard],
+    card: &SpecCard,
+) -> Option<PlaceCause>
+    requires { AreSheets source.now before.now sheets.now }
+    ensures cause { result ≡ causes.outside source.now before.now card.now }
+    ensures rule { is_some result ≡ causes.is_outside source.now before.now card.now }
+{
+    if let Some(input) = card.input() {
+        return of_input(&CardFile::of(source, sheets, before, card), input);
+    }
+    let field = card.output_field()?;
+    of_output(source, &CardFile::of(source, sheets, before, card), field)
+}
+
+// ---- the file
+
+/// The file of an I or O card. Its F card is looked up only if a column is past its records.
+#[derive(Drop)]
+struct CardFile<'a> {
+    source: &'a IndexedCards<'a>,
+    before: &'a [SpecCard],
+    card: &'a SpecCard,
+    record_length: Option<u16>,
+}
+
+impl<'a> Model for CardFile<'a> {
+    ghost use Rattle.std.specs.Prelude.{◌≡◌, Option};
+    ghost use Rattle.std.specs.Option.{option_map};
+    ghost use Rattle.rpg_faults_limits.specs.declared.files.FileOnCard.{FileOnCard};
+    ghost use Rattle.rpg_faults_places.specs.CardFiles.{card_file, length_on_card};
+
+    ghost Value = { Option FileOnCard };
+
+    ghost view = { λ f. card_file f.source.now f.before.now f.card.now };
+
+    ghost invariant = { λ f. f.record_length ≡ length_on_card f.source.now f.before.now f.card.now };
+}
+
+impl<'a> CardFile<'a> {
+    fn of(
+        source: &'a IndexedCards<'a>,
+        sheets: &Sheets,
+        before: &'a [SpecCard],
+        card: &'a SpecCard,
+    ) -> Self
+        requires { AreSheets source.now before.now sheets.now }
+        ensures { result ≡ files_of.card_file source.now before.now card.now }
+    {
+        let record_length = match card.input() {
+            Some(input) => own_length(source, sheets.types.file, input),
+            None => length_of(sheets.lines.file),
+        };
+        CardFile {
+            source,
+            before,
+            card,
+            record_length,
+        }
+    }
+
+    /// Returns the file with its F card.
+    fn found(&self) -> Option<FileOnCard>
+        ensures { result ≡ self.now }
+    {
+        let name = match self.card.input() {
+            Some(input) => own_file(self.before, input),
+            None => open_line_file(self.before),
+        };
+        file_of_name(name?, self.source.as_slice())
+    }
+}
+
+fn open_type_file(before: &[SpecCard]) -> Option<&Word<8>>
+    ensures { option_copied result ≡ open_file input_role before.now }
+{
+    let mut name = None;
+    for card in before {
+        name = type_file(card, name);
+    }
+    name
+}
+
+/// Returns the file of the open record type after one more card.
+fn type_file<'a>(card: &'a SpecCard, kept: Option<&'a Word<8>>) -> Option<&'a Word<8>>
+    ensures { option_copied result ≡ files.with_type_file card.now (option_copied kept.entry) }
+{
+    match card.record_type() {
+        None => kept,
+        Some(record_type) => match &record_type.file {
+            Some(name) => Some(name),
+            None => kept,
+        },
+    }
+}
+
+fn own_file<'a>(before: &'a [SpecCard], input: &'a InputSpec) -> Option<&'a Word<8>>
+    ensures { option_copied result ≡ rules.own_file before.now input.now }
+{
+    let open = open_type_file(before);
+    match input {
+        InputSpec::Type(record_type) => match &record_type.file {
+            Some(name) => Some(name),
+            None => open,
+        },
+        InputSpec::And(_) | InputSpec::Field(_) => open,
+    }
+}
+
+/// Returns the record length of an I card's file: that of the open type, or of the file that a type card names.
+fn own_length(source: &IndexedCards, file: Option<GroupFile>, input: &InputSpec) -> Option<u16>
+    ensures { rules.DetectsOwnLength source.now input.now file result }
+{
+    match input {
+        InputSpec::Type(record_type) => match &record_type.file {
+            None => length_of(file),
+            Some(name) => Some(source.file_named(name)?.record_length),
+        },
+        _ => length_of(file),
+    }
+}
+
+fn length_of(file: Option<GroupFile>) -> Option<u16>
+    ensures { result ≡ option_map (λ f. f.record_length) file }
+{
+    Some(file?.record_length)
+}
+
+/// Returns the file, if a column is past its records.
+fn if_past(file: &CardFile, column: u16) -> Option<FileOnCard>
+    ensures file { result ≡ causes.file_passed column file.now }
+    ensures rule { (known : Option FileSpec) → SameLength file.now known → is_some result ≡ rules.is_past known column }
+{
+    if file.record_length? < column {
+        return file.found();
+    }
+    None
+}
+
+// ---- record types and input fields
+
+fn of_input(file: &CardFile, input: &InputSpec) -> Option<PlaceCause>
+    ensures cause { result ≡ causes.of_input file.now input.now }
+    ensures rule { (known : Option FileSpec) → SameLength file.now known → is_some result ≡ rules.outside_on_input known input.now }
+{
+    match input {
+        InputSpec::Type(record_type) => of_codes(file, &record_type.codes),
+        InputSpec::And(codes) => of_codes(file, codes),
+        InputSpec::Field(field) => of_field(file, field),
+    }
+}
+
+fn of_codes(file: &CardFile, codes: &Three<Option<RecordCode>>) -> Option<PlaceCause>
+    ensures cause { result ≡ causes.of_codes file.now codes.now }
+    ensures rule { (known : Option FileSpec) → SameLength file.now known → is_some result ≡ rules.bad_codes known codes.now }
+{
+    let first = of_code(file, ColumnRange::FirstCode, codes.first);
+    if first.is_some() {
+        return first;
+    }
+    let second = of_code(file, ColumnRange::SecondCode, codes.second);
+    if second.is_some() {
+        return second;
+    }
+    of_code(file, ColumnRange::ThirdCode, codes.third)
+}
+
+fn of_code(file: &CardFile, at: ColumnRange, code: Option<RecordCode>) -> Option<PlaceCause>
+    ensures cause { result ≡ option_and_then (causes.of_code file.now at) code }
+    ensures rule { (known : Option FileSpec) → SameLength file.now known → is_some result ≡ rules.is_code_outside known code }
+{
+    let position = code?.position;
+    if position == 0 {
+        return Some(PlaceCause::NoPosition(at));
+    }
+    let file = if_past(file, position)?;
+    Some(PlaceCause::PositionPast { at, position, file })
+}
+
+fn of_field(file: &CardFile, field: &InputFieldSpec) -> Option<PlaceCause>
+    ensures cause { result ≡ causes.of_field file.now field.now }
+    ensures rule { (known : Option FileSpec) → SameLength file.now known → is_some result ≡ rules.outside_record known field.now }
+{
+    let from = field.from;
+    let to = field.to;
+    if from == 0 {
+        return Some(PlaceCause::NoColumn(ColumnRange::FirstColumn));
+    }
+    if to == 0 {
+        return Some(PlaceCause::NoColumn(ColumnRange::LastColumn));
+    }
+    if to < from {
+        return Some(PlaceCause::TurnedRound { from, to });
+    }
+    let file = if_past(file, to)?;
+    Some(PlaceCause::PastRecord { from, to, file })
+}
+
+// ---- output fields
+
+fn of_output(source: &IndexedCards, file: &CardFile, field: &OutputField) -> Option<PlaceCause>
+    ensures cause { result ≡ causes.of_output source.now file.now field.now }
+    ensures rule { (known : Option FileSpec) → SameLength file.now known → is_some result ≡ rules.outside_line source.now known field.now }
+{
+    let end = field.end;
+    if end == 0 {
+        return Some(PlaceCause::NoEnd);
+    }
+    if let Some(file) = if_past(file, end) {
+        return Some(PlaceCause::PastLine { end, file });
+    }
+    let places = width(source, field)?;
+    if usize::from(end) < places {
+        return Some(PlaceCause::Wider { places, end });
+    }
+    None
+}
