@@ -6,7 +6,7 @@ ghost use Rattle.rpg_cards.specs.Constants as constants;
 ghost use Rattle.rpg_cards.specs.Constants.{constants_in, is_same};
 ghost use Rattle.rpg_cards.specs.Files as files;
 ghost use Rattle.rpg_cards.specs.First.{first_at};
-ghost use Rattle.rpg_card_index.specs.Index.{defined_first, file_of_card_at, has_some_form, place_before, placed_definition, IsIndexOf, IsNewAt};
+ghost use Rattle.rpg_card_index.specs.Index.{defined_first, file_of_card_at, has_some_form, place_before, placed_definition, IsIndexOf, IsNewAt, first_file, is_file_named};
 ghost use Rattle.rpg_cards.specs.Levels as levels;
 ghost use Rattle.rpg_cards.specs.Names as names;
 ghost use Rattle.rpg_cards.specs.Names.{is_of};
@@ -255,6 +255,13 @@ impl<'a> IndexedCards<'a> {
     {
         let first = self.index.constants.first(constant)?;
         Some(self.constant_totals(first).number)
+    }
+
+    /// Returns the place of the first F card with this name, counted from 0.
+    pub fn file_place(&self, name: &Word<8>) -> Option<usize>
+        ensures { result ≡ first_file (is_file_named name.now) self.now }
+    {
+        self.index.files.named(name)
     }
 
     /// Returns the first F card with this name.

@@ -1,10 +1,10 @@
 //! What the cards before a card have come to, as far as the flow of control depends on it.
 
 ghost use Rattle.std.specs.Prelude.{◌≡◌, ◌≤◌, List, [], ◌∷◌, ◌++◌, length, option_and_then};
+ghost use Rattle.std.specs.Option.{option_or};
 ghost use Rattle.rpg_cards.specs.Cards.{calculation_on};
 ghost use Rattle.rpg_cards.specs.Names.{definitions};
 ghost use Rattle.rpg_cards.specs.declared.spec_card.SpecCard.{SpecCard};
-ghost use Rattle.rpg_causes_flow.specs.ByCard as by_card;
 ghost use Rattle.rpg_causes_flow.specs.Flow as flows;
 ghost use Rattle.rpg_causes_flow.specs.Order as causes;
 ghost use Rattle.rpg_faults_flow.specs.Order as rules;
@@ -59,23 +59,36 @@ impl Flow {
         usize::from(self.definitions)
     }
 
-    /// With one more card, given the cards after it.
-    pub fn with(self, before: &[SpecCard], card: &SpecCard, after: &[SpecCard]) -> Self
+    /// Moves on to the next card, in place, given the cards after it.
+    pub fn pass(&mut self, before: &[SpecCard], card: &SpecCard, after: &[SpecCard])
         requires few { length before.now ≤ 2000 }
-        requires flow { flows.IsFlow before.now (card.now ∷ after.now) self }
-        ensures { flows.IsFlow (before.now ++ card.now ∷ []) after.now result }
+        requires flow { flows.IsFlow before.now (card.now ∷ after.now) self.old }
+        ensures { flows.IsFlow (before.now ++ card.now ∷ []) after.now self.new }
     {
         let bracket = bracket_on(&self.group, card, after);
-        let total = if_above(0, card);
-        let subroutine = if_above(1, card);
-        Flow {
-            group: level_with(&self.group, card),
-            total: self.total.or(total),
-            subroutine: self.subroutine.or(subroutine),
-            bracket: bracket.or(self.bracket),
-            begun: begun_after(self.begun, bracket),
-            definitions: self.definitions + card.definition_count() as u16,
-        }
+        note_last(&mut self.bracket, bracket);
+        self.begun = begun_after(self.begun, bracket);
+        note_first(&mut self.total, 0, card);
+        note_first(&mut self.subroutine, 1, card);
+        self.group = level_with(&self.group, card);
+        self.definitions += card.definition_count() as u16;
+    }
+}
+
+fn note_last(last: &mut Option<Bracket>, bracket: Option<Bracket>)
+    ensures { last.new ≡ option_or bracket last.old }
+{
+    if bracket.is_some() {
+        *last = bracket;
+    }
+}
+
+/// Notes the first card whose section has a higher rank.
+fn note_first(first: &mut Option<Later>, than: u8, card: &SpecCard)
+    ensures { first.new ≡ option_or first.old (option_and_then (causes.if_above than card.now) (calculation_on card.now.spec)) }
+{
+    if first.is_none() {
+        *first = if_above(than, card);
     }
 }
 

@@ -115,7 +115,7 @@ fn names_of(alloc: Global, cards: &[SpecCard]) -> Result<HashMap<Name, FirstLabe
     let mut rest = cards;
     while let Some((card, after)) = rest.split_first() {
         note_label(&mut names, before.len(), &flow, card, after)?;
-        flow = flow.with(before, card, after);
+        flow.pass(before, card, after);
         before = &cards[..before.len() + 1];
         rest = after;
     }
@@ -192,7 +192,7 @@ fn calls_of(
     let mut rest = cards;
     while let Some((card, after)) = rest.split_first() {
         add_call(&mut calls, call_at(&flow, names, card, after))?;
-        flow = flow.with(before, card, after);
+        flow.pass(before, card, after);
         before = &cards[..before.len() + 1];
         rest = after;
     }

@@ -1,12 +1,13 @@
 //! What the rules need of the cards before a card.
 
-ghost use Rattle.std.specs.Prelude.{◌≡◌, ◌≤◌, [], ◌∷◌, ◌++◌, length};
+ghost use Rattle.std.specs.Prelude.{◌≡◌, [], ◌∷◌, ◌++◌};
 ghost use Rattle.rpg_faults.specs.Before.{AreBefore};
 ghost use Rattle.rpg_faults_data.specs.Decks.{AreDecks};
 
 use rpg_cards::SpecCard;
 use rpg_causes_flow::{AnalyzedCards, Flow};
 use rpg_faults_data::Decks;
+use rpg_faults_flow::OpenGroup;
 use rpg_faults_limits::{Limits, Sheets};
 use rpg_faults_places::Places;
 
@@ -17,6 +18,7 @@ pub(crate) struct Before<'a> {
     pub limits: Limits,
     pub places: Places,
     pub flow: Flow,
+    pub group: OpenGroup,
     pub decks: Decks<'a>,
 }
 
@@ -31,6 +33,7 @@ impl<'a> Before<'a> {
             limits: Limits::before_all(source.cards),
             places: Places::nothing(),
             flow: Flow::nothing(),
+            group: OpenGroup::none(),
             decks,
         }
     }
@@ -50,8 +53,9 @@ impl<'a> Before<'a> {
         let cards = source.cards;
         self.limits.pass(cards, before, card, after);
         self.places.pass(cards, before, card, after);
-        self.flow = self.flow.with(before, card, after);
-        self.decks = self.decks.with(card);
+        self.flow.pass(before, card, after);
+        self.group.pass(card, after);
+        self.decks = self.decks.with(before, card);
         self.sheets.pass(cards, before, card);
     }
 }

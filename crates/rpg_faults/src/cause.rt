@@ -80,7 +80,8 @@ pub enum Cause {
     Data(DataCause),
 }
 
-/// Returns why a card breaks the rule of a code, or None if it doesn't.
+/// Returns why a card breaks the rule of a code, or None if it doesn't. Inlined: a code that is known takes no table.
+#[inline(always)]
 #[tactic(auto, unfolding(crate::specs::Causes::cause_of, crate::specs::Rules::rule))]
 pub(crate) fn cause_of(
     code: FaultCode,
@@ -146,7 +147,7 @@ fn missing(
     ensures cause { result ≡ causes.missing_cause before.now card.now after.now }
     ensures rule { is_some result ≡ rules.rule F9 before.now card.now after.now }
 {
-    if let Some(cause) = on_calculation(before, card, after) {
+    if let Some(cause) = on_calculation(known.group, before, card, after) {
         return Some(Cause::Column(cause));
     }
     if let Some(cause) = field_cause(source, card, after) {

@@ -1,15 +1,19 @@
 //! The first fault.
 
 ghost use Rattle.std.specs.Prelude.{◌≡◌, ◌≤◌, [], ◌∷◌, ◌++◌, find, length, IfOk, MatchOption};
+ghost use Rattle.std.specs.Bool.{OnTrue};
 ghost use Rattle.rpg_cards.specs.Cards.{Numbered};
 ghost use Rattle.rpg_faults.specs.Before.{AreBefore};
 ghost use Rattle.rpg_faults.specs.Faults as faults;
 ghost use Rattle.rpg_faults.specs.Judged.{IsJudged};
 ghost use Rattle.rpg_faults.specs.Rules as rules;
+ghost use Rattle.rpg_faults_operands.specs.Valid.{HasValidOperands};
 
 use crate::before::Before;
 use crate::cause::cause_of;
-use crate::code::FaultCode;
+use crate::code::FaultCode::{
+    self, F1, F2, F3, F4, F5, F6, F7, F8, F9, F10, F11, F12, F13, F14, F15, F16, F17, F18,
+};
 use crate::fault::Fault;
 use crate::kept::keeps_rule;
 use rpg_card_index::{CardIndex, IndexedCards};
@@ -84,7 +88,8 @@ fn first_on_cards(source: &AnalyzedCards) -> Option<Fault>
     None
 }
 
-/// Returns the lowest code whose rule a card breaks.
+/// Returns the lowest code whose rule a card breaks. Written out: each code costs only what its own rule costs.
+#[tactic(auto, unfolding(crate::specs::Faults::codes))]
 fn least_code(
     source: &AnalyzedCards,
     known: &Before,
@@ -96,13 +101,46 @@ fn least_code(
     requires known { AreBefore source.now.cards.now before.now (card.now ∷ after.now) known.now }
     ensures { result ≡ find (λ code. rules.rule code before.now card.now after.now) faults.codes }
 {
-    let is_valid = has_valid_operands(source.cards, card, after);
-    for code in FaultCode::all() {
-        if !keeps_rule(code, source.cards, is_valid, before, card, after)
-            && cause_of(code, source, known, before, card, after).is_some()
-        {
-            return Some(code);
-        }
+    let valid = has_valid_operands(source.cards, card, after);
+    match () {
+        _ if breaks(F1, source, known, valid, before, card, after) => Some(F1),
+        _ if breaks(F2, source, known, valid, before, card, after) => Some(F2),
+        _ if breaks(F3, source, known, valid, before, card, after) => Some(F3),
+        _ if breaks(F4, source, known, valid, before, card, after) => Some(F4),
+        _ if breaks(F5, source, known, valid, before, card, after) => Some(F5),
+        _ if breaks(F6, source, known, valid, before, card, after) => Some(F6),
+        _ if breaks(F7, source, known, valid, before, card, after) => Some(F7),
+        _ if breaks(F8, source, known, valid, before, card, after) => Some(F8),
+        _ if breaks(F9, source, known, valid, before, card, after) => Some(F9),
+        _ if breaks(F10, source, known, valid, before, card, after) => Some(F10),
+        _ if breaks(F11, source, known, valid, before, card, after) => Some(F11),
+        _ if breaks(F12, source, known, valid, before, card, after) => Some(F12),
+        _ if breaks(F13, source, known, valid, before, card, after) => Some(F13),
+        _ if breaks(F14, source, known, valid, before, card, after) => Some(F14),
+        _ if breaks(F15, source, known, valid, before, card, after) => Some(F15),
+        _ if breaks(F16, source, known, valid, before, card, after) => Some(F16),
+        _ if breaks(F17, source, known, valid, before, card, after) => Some(F17),
+        _ if breaks(F18, source, known, valid, before, card, after) => Some(F18),
+        _ => None,
     }
-    None
+}
+
+/// Whether a card breaks the rule of a code.
+#[inline(always)]
+fn breaks(
+    code: FaultCode,
+    source: &AnalyzedCards,
+    known: &Before,
+    has_valid_operands: bool,
+    before: &[SpecCard],
+    card: &SpecCard,
+    after: &[SpecCard],
+) -> bool
+    requires split { source.now.cards.now ≡ before.now ++ card.now ∷ after.now }
+    requires known { AreBefore source.now.cards.now before.now (card.now ∷ after.now) known.now }
+    requires valid { OnTrue has_valid_operands (HasValidOperands source.now.cards.now card.now after.now) }
+    ensures { result ≡ rules.rule code before.now card.now after.now }
+{
+    !keeps_rule(code, source.cards, has_valid_operands, before, card, after)
+        && cause_of(code, source, known, before, card, after).is_some()
 }

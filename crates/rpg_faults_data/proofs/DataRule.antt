@@ -1,6 +1,5 @@
 -- A card has a cause exactly if it breaks the rules of table data.
 use Rattle.std.proofs.Common.{◌≡◌, ℕ, zero, suc, ◌+◌, ◌-◌, ◌*◌, ◌==◌, Bool, true, false, not, cond, ◌&&◌, ◌||◌, List, [], ◌∷◌, ◌++◌, map, length, take, Option, None, Some, refl, sym, ap, ◌∙◌, arith}
-use Rattle.std.proofs.lemmas.Bool.{eqb-true}
 use Rattle.std.proofs.lemmas.List.{length-map, map-append, take-map}
 use Rattle.std.proofs.lemmas.List.Sums.{sum_by-cons}
 use Rattle.std.proofs.lemmas.Simd.{map-map}
@@ -14,6 +13,7 @@ use Rattle.rpg_cards.specs.declared.spec_card.SpecCard.{SpecCard}
 use Rattle.rpg_faults_data.specs.Causes.{DataCard, PlacedEntry, begins_table_data, after_deck_begin, data_cause, deck_cards, entry_cause, entry_fault, first_wrong, is_deck_begin, missing_deck, need_of, of_after, of_data, of_deck, of_extension, of_table, of_tables, placed_entries, placed_entry_on, with_data_card, wrong_entry}
 use Rattle.rpg_faults_data.specs.declared.cause.DataCause.TheVariants as cause
 use Rattle.rpg_faults_data.specs.declared.wrong_entry.EntryFault.TheVariants.{Lower, NoNumber}
+use Rattle.rpg_faults_data.proofs.DeckLemmas.{above_zero}
 use Rattle.rpg_faults_data.proofs.EntryLemmas.{any_wrong-none}
 use Rattle.rpg_faults_data.specs.Data.{bad_data, bad_deck, bad_table_data, bad_tables, breaks_data, cards_for, data_columns, data_entries, deck_at, entries_on, has_forms, has_table, is_bad, is_lower, is_unwanted, wanted}
 use Rattle.rpg_faults_data.specs.Entries.{any_wrong, is_wrong}
@@ -111,13 +111,6 @@ deck_some e per_card ds =
     (cause.OtherCards (need_of e per_card) (length ds)) cause.Entry (of_tables e per_card ds 0 (tables_on e))
     ∙ ap (λ n. none || (wide || (not (n == cards_for e.entries per_card) || is_some (of_tables e per_card ds 0 (tables_on e))))) (sym (length-map ds (λ (d : DataCard). d.text)))
     ∙ ap (λ b. none || (wide || (not (length (texts ds) == cards_for e.entries per_card) || b))) (tables_some e per_card ds 0 (tables_on e))
-
-above_zero : (m : ℕ) → (suc m == 0) ≡ false
-above_zero m = by (suc m == 0) refl
-  where
-    by : (b : Bool) → (suc m == 0) ≡ b → b ≡ false
-    by true e = let same = eqb-true (suc m) 0 e in absurd (omega arith)
-    by false e = refl
 
 following_is : (n : ℕ) (cards : List SpecCard) → deck_at n cards ≡ option_map (followers data_role) (after_deck_begin n cards)
 following_is n [] = refl

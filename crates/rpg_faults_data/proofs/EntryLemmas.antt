@@ -1,5 +1,5 @@
 -- Entries, each judged after the one before it.
-use Rattle.std.proofs.Common.{◌≡◌, ℕ, suc, ◌+◌, ◌-◌, ◌≤◌, Bool, true, false, ◌&&◌, ◌||◌, List, [], ◌∷◌, ◌++◌, map, length, take, min, Option, None, Some, refl, sym, ap, ◌∙◌, arith, append-nil, ◌⊎◌, inl, inr, ◌<◌, ◌≢◌}
+use Rattle.std.proofs.Common.{◌≡◌, ℕ, ◌+◌, ◌-◌, ◌≤◌, Bool, true, false, ◌&&◌, ◌||◌, List, [], ◌∷◌, ◌++◌, map, length, take, min, Option, None, Some, refl, sym, ap, ◌∙◌, arith, append-nil, ◌⊎◌, inl, inr, ◌<◌, ◌≢◌}
 use Rattle.std.proofs.Math.Seq.{take-append-add}
 use Rattle.std.proofs.lemmas.Bool.{cases_lt}
 use Rattle.std.proofs.lemmas.List.{take-append-le}
@@ -34,14 +34,6 @@ any_wrong-none t (x ∷ xs) =
     sym (ap (λ r. is_wrong t None x || r) (after_one t x xs)
     ∙ regroup (is_bad t.decimals x) t.ascending false (list_any (is_bad t.decimals) xs) (descends (is_lower t.decimals) (x ∷ xs)))
 
-or_assoc : (a b c : Bool) → (a || (b || c)) ≡ ((a || b) || c)
-or_assoc true b c = refl
-or_assoc false b c = refl
-
-pub any_wrong-append : (t : TableSpec) (o : Option (List ℕ)) (xs ys : List (List ℕ)) → any_wrong t o (xs ++ ys) ≡ (any_wrong t o xs || any_wrong t (last_or o xs) ys)
-any_wrong-append t o [] ys = refl
-any_wrong-append t o (x ∷ xs) ys = ap (λ r. is_wrong t o x || r) (any_wrong-append t (Some x) xs ys) ∙ or_assoc (is_wrong t o x) (any_wrong t (Some x) xs) (any_wrong t (last_or (Some x) xs) ys)
-
 -- those of a card, and those of the cards after it
 module _ (width from len : ℕ) where
   entries-few : (n per_card : ℕ) (text : List ℕ) (texts : List (List ℕ)) → n ≤ per_card
@@ -74,14 +66,6 @@ module _ (width from len : ℕ) where
       by (inl less) = inr (omega arith, omega arith)
       by (inr few) = inl (omega arith, few, omega arith)
 
--- ---- entries of one card, by their numbers
-
-pub any_wrong-next : (t : TableSpec) (o : Option (List ℕ)) (entry : ℕ → List ℕ) (i n : ℕ) → i < n
-    → any_wrong t o (map entry (range_with_len i (n - i))) ≡ (is_wrong t o (entry i) || any_wrong t (Some (entry i)) (map entry (range_with_len (i + 1) (n - (i + 1)))))
-any_wrong-next t o entry i n less =
-    let one_more : n - i ≡ suc (n - (i + 1)) = omega arith in
-    ap (λ k. any_wrong t o (map entry (range_with_len i k))) one_more
-
 last_or-push : {X : Type 0} (o : Option X) (xs : List X) (x : X) → last_or o (xs ++ x ∷ []) ≡ Some x
 last_or-push o [] x = refl
 last_or-push o (y ∷ ys) x = last_or-push (Some y) ys x
@@ -90,47 +74,3 @@ pub last_or-entries : (o : Option (List ℕ)) (entry : ℕ → List ℕ) (n : �
 last_or-entries o entry n some =
     let split : n ≡ (n - 1) + 1 = omega arith in
     ap (λ k. last_or o (map entry (range_with_len 0 k))) split ∙ ap (last_or o) (map-range_with_len_more entry 0 (n - 1) (n - 1) (omega arith)) ∙ last_or-push o (map entry (range_with_len 0 (n - 1))) (entry (n - 1))
-
--- ---- the entries of a card and those after it
-
-pub any_wrong-card : (t : TableSpec) (o : Option (List ℕ)) (width from len n per_card : ℕ) (text : List ℕ) (texts : List (List ℕ))
-    → any_wrong t o (data_entries n per_card width from len (text ∷ texts))
-    ≡ (any_wrong t o (map (entry_on width from len text) (range_with_len 0 (min n per_card)))
-    || any_wrong t (last_or o (map (entry_on width from len text) (range_with_len 0 (min n per_card)))) (data_entries (n - min n per_card) per_card width from len texts))
-any_wrong-card t o width from len n per_card text texts =
-    ap (any_wrong t o) (entries-card width from len n per_card text texts)
-    ∙ any_wrong-append t o (map (entry_on width from len text) (range_with_len 0 (min n per_card))) (data_entries (n - min n per_card) per_card width from len texts)
-
--- ---- steps over the entries of a card, and over the cards
-
-pub found_here : (t : TableSpec) (o : Option (List ℕ)) (entry : ℕ → List ℕ) (i n : ℕ) (x : List ℕ) (all : Bool) → i < n → x ≡ entry i
-    → all ≡ any_wrong t o (map entry (range_with_len i (n - i))) → is_wrong t o x ≡ true → true ≡ all
-found_here t o entry i n x all less is so_far wrong =
-    let here : is_wrong t o (entry i) ≡ true = ap (is_wrong t o) (sym is) ∙ wrong in
-    sym (so_far ∙ any_wrong-next t o entry i n less ∙ ap (λ b. b || any_wrong t (Some (entry i)) (map entry (range_with_len (i + 1) (n - (i + 1))))) here)
-
-pub not_here : (t : TableSpec) (o : Option (List ℕ)) (entry : ℕ → List ℕ) (i n : ℕ) (x : List ℕ) (all : Bool) → i < n → x ≡ entry i
-    → all ≡ any_wrong t o (map entry (range_with_len i (n - i))) → is_wrong t o x ≡ false → all ≡ any_wrong t (Some x) (map entry (range_with_len (i + 1) (n - (i + 1))))
-not_here t o entry i n x all less is so_far right =
-    let here : is_wrong t o (entry i) ≡ false = ap (is_wrong t o) (sym is) ∙ right in
-    so_far ∙ any_wrong-next t o entry i n less ∙ ap (λ b. b || any_wrong t (Some (entry i)) (map entry (range_with_len (i + 1) (n - (i + 1))))) here
-    ∙ ap (λ y. any_wrong t (Some y) (map entry (range_with_len (i + 1) (n - (i + 1))))) (sym is)
-
-module _ (t : TableSpec) (o : Option (List ℕ)) (width from len n per_card number : ℕ) (text : List ℕ) (texts cards : List (List ℕ)) (all : Bool) where
-  abbrev first : List (List ℕ)
-  first = map (entry_on width from len text) (range_with_len 0 number)
-
-  card_by_card : number ≡ min n per_card → cards ≡ text ∷ texts → all ≡ any_wrong t o (data_entries n per_card width from len cards)
-      → all ≡ (any_wrong t o first || any_wrong t (last_or o first) (data_entries (n - number) per_card width from len texts))
-  card_by_card least split so_far =
-      so_far ∙ ap (λ l. any_wrong t o (data_entries n per_card width from len l)) split ∙ any_wrong-card t o width from len n per_card text texts
-      ∙ ap (λ k. any_wrong t o (map (entry_on width from len text) (range_with_len 0 k)) || any_wrong t (last_or o (map (entry_on width from len text) (range_with_len 0 k))) (data_entries (n - k) per_card width from len texts)) (sym least)
-
-  pub found_on_card : number ≡ min n per_card → cards ≡ text ∷ texts → all ≡ any_wrong t o (data_entries n per_card width from len cards) → any_wrong t o first ≡ true → true ≡ all
-  found_on_card least split so_far wrong = sym (card_by_card least split so_far ∙ ap (λ b. b || any_wrong t (last_or o first) (data_entries (n - number) per_card width from len texts)) wrong)
-
-  pub not_on_card : (next : Option (List ℕ)) (left : ℕ) → number ≡ min n per_card → cards ≡ text ∷ texts → all ≡ any_wrong t o (data_entries n per_card width from len cards)
-      → any_wrong t o first ≡ false → next ≡ last_or o first → left ≡ n - number → all ≡ any_wrong t next (data_entries left per_card width from len texts)
-  not_on_card next left least split so_far right is fewer =
-      card_by_card least split so_far ∙ ap (λ b. b || any_wrong t (last_or o first) (data_entries (n - number) per_card width from len texts)) right
-      ∙ ap (λ l. any_wrong t l (data_entries (n - number) per_card width from len texts)) (sym is) ∙ ap (λ k. any_wrong t next (data_entries k per_card width from len texts)) (sym fewer)

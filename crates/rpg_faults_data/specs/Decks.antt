@@ -1,24 +1,21 @@
 -- The decks that the E cards before a card have left.
-use denote.Bor.{Bor}
-use Rattle.std.specs.Prelude.{◌≡◌, ◌-◌, List, ◌∷◌, ℕ, drop, Bool, true, false, Option, None}
-use Rattle.std.specs.Option.{option_map}
-use Rattle.rpg_cards.specs.Groups.{Group, data_role, followers, group_count, groups}
+use Rattle.std.specs.Prelude.{◌≡◌, ◌≤◌, ◌+◌, List, ◌∷◌, ℕ, count_by, length, Bool, true, false, None}
+use Rattle.rpg_cards.specs.Groups.{Group, data_role, followers, groups}
 use Rattle.rpg_cards.specs.declared.spec_card.SpecCard.{SpecCard}
-use Rattle.rpg_faults_data.specs.Data.{deck_at, wanted}
+use Rattle.rpg_faults_data.specs.Causes.{after_deck_begin, begins_table_data}
+use Rattle.rpg_faults_data.specs.Data.{wanted}
 use Rattle.rpg_faults_data.specs.declared.decks.Decks.{Decks}
 
 -- the data after a ** card, up to the next one
 abbrev pub deck : List SpecCard → Group (Unit {0}) (List ℕ)
 deck following = record { heading = tt; followers = followers data_role following; file = None }
 
--- what is left of the data for the E cards from here on
+-- what the E cards before have left of the data, how many E cards expect data, and how many decks begin before
 pub record AreDecks (cards before : List SpecCard) (d : Decks) : Type 0 where
-  pub rest : groups data_role d.rest.now ≡ drop (wanted before) (groups data_role cards)
-  pub to_come : d.wanted ≡ wanted cards - group_count data_role before
-
--- the deck that the next E card takes: the cards after its `**` card, if it is there
-abbrev pub IsNextDeck : List SpecCard → List SpecCard → Option (Bor (List SpecCard)) → Type 0
-IsNextDeck cards before following = option_map (λ f. followers data_role f.now) following ≡ deck_at (wanted before) cards
+  pub rest : (n : ℕ) → after_deck_begin n d.rest.now ≡ after_deck_begin (wanted before + n) cards
+  pub expected : d.wanted ≡ wanted cards
+  pub begun : d.begun ≡ count_by begins_table_data before
+  pub few : d.begun ≤ length before
 
 -- a `**` card begins a deck, any other card doesn't change the groups
 abbrev pub BeginsDeck : SpecCard → Bool → Type 0

@@ -1,11 +1,8 @@
 -- Entries one by one, each after the one before it.
-use Rattle.std.specs.Prelude.{◌≤◌, List, [], ◌∷◌, ℕ, ℤ, int_lt, Bool, true, false, ◌&&◌, ◌||◌, Option, None, Some, map}
+use Rattle.std.specs.Prelude.{◌≤◌, List, [], ◌∷◌, ℕ, Bool, false, ◌&&◌, ◌||◌, Option, None, Some, map}
 use Rattle.std.specs.List.{range_with_len}
-use Rattle.std.specs.Option.{option_and_then, option_map_or}
-use Rattle.rpg_cards.specs.Groups.{data_role, followers}
-use Rattle.rpg_cards.specs.declared.spec_card.SpecCard.{SpecCard}
-use Rattle.rpg_decimal_words.specs.Zoned.{number_in}
-use Rattle.rpg_faults_data.specs.Data.{data_entries, entry_on, is_bad, is_lower}
+use Rattle.std.specs.Option.{option_map_or}
+use Rattle.rpg_faults_data.specs.Data.{entry_on, is_bad, is_lower}
 use Rattle.rpg_faults_data.specs.declared.layout.Layout.{Layout}
 use Rattle.rpg_sheet_specs.specs.declared.extension.TableSpec.{TableSpec}
 
@@ -18,26 +15,9 @@ abbrev pub any_wrong : TableSpec → Option (List ℕ) → List (List ℕ) → B
 any_wrong t before [] = false
 any_wrong t before (x ∷ xs) = is_wrong t before x || any_wrong t (Some x) xs
 
--- the number of the entry before, if there is one and it is a number
-abbrev pub number_before : Option (List ℕ) → Option ℤ
-number_before before = option_and_then number_in before
-
--- not a number, or lower than the number before it
-abbrev pub is_wrong_number : Option ℤ → List ℕ → Bool
-is_wrong_number before x = option_map_or (λ n. option_map_or (λ m. int_lt n m) before false) (number_in x) true
-
--- one of the entries of an ascending table of numbers is wrong
-abbrev pub any_wrong_number : Option ℤ → List (List ℕ) → Bool
-any_wrong_number before [] = false
-any_wrong_number before (x ∷ xs) = is_wrong_number before x || any_wrong_number (number_in x) xs
-
 -- the texts of this many entries on a data card, by their layout
 abbrev pub texts_on_card : Layout → List ℕ → ℕ → List (List ℕ)
 texts_on_card l card n = map (entry_on l.width l.from l.length card) (range_with_len 0 n)
-
--- the texts of this many entries on the cards after a `**` card, by their layout
-abbrev pub texts_in_deck : Layout → ℕ → List SpecCard → List (List ℕ)
-texts_in_deck l n following = data_entries n l.per_card l.width l.from l.length (followers data_role following)
 
 -- what a number is read from
 abbrev pub HasNumberSize : Option ℕ → ℕ → Type 0

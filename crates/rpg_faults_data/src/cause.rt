@@ -1,14 +1,14 @@
 //! F18: what is wrong with the data of a table.
 
-ghost use Rattle.std.specs.Prelude.{◌≡◌, ◌≤◌, ◌*◌, count_by, is_some, length, IsTrue};
-ghost use Rattle.std.specs.Option.{option_map};
+ghost use Rattle.std.specs.Prelude.{◌≡◌, ◌≤◌, ◌*◌, List, is_some, IsTrue};
 ghost use Rattle.rpg_cards.specs.Names.{tables_on};
+ghost use Rattle.rpg_cards.specs.declared.spec_card.SpecCard.{SpecCard};
 ghost use Rattle.rpg_faults_data.specs.Causes as causes;
 ghost use Rattle.rpg_faults_data.specs.Data as rules;
 ghost use Rattle.rpg_faults_data.specs.Decks.{AreDecks};
 
-use crate::data::{breaks_data, data_cards, data_columns, has_forms, has_table};
-use crate::decks::{Decks, expects_data};
+use crate::data::{data_cards, data_columns, has_forms, has_table};
+use crate::decks::Decks;
 use crate::layout::Layout;
 use crate::wrong_entry::{EntryCause, first_wrong};
 use rpg_card_index::IndexedCards;
@@ -44,9 +44,7 @@ pub enum DataCause {
     Spare { deck: usize, wanted: usize },
 }
 
-/// F18: what is wrong with the data of an E card, or the `**` card of data that no E card expects. The decks before are gone through only if
-/// something is.
-#[tactic(auto, using(crate::proofs::DataRule::data_rule))]
+/// F18: what is wrong with the data of an E card, or the `**` card of data that no E card expects.
 pub fn data_cause(
     source: &IndexedCards,
     decks: &Decks,
@@ -57,28 +55,21 @@ pub fn data_cause(
     ensures cause { result ≡ causes.data_cause source.now before.now card.now }
     ensures rule { is_some result ≡ rules.breaks_data source.now before.now card.now }
 {
-    if !breaks_data(source, decks, before, card) {
-        return None;
-    }
-    of_card(source, before, card)
+    of_card(*decks, card)
 }
 
-fn of_card(source: &IndexedCards, before: &[SpecCard], card: &SpecCard) -> Option<DataCause>
-    ensures { result ≡ causes.data_cause source.now before.now card.now }
+fn of_card(decks: Decks, card: &SpecCard) -> Option<DataCause>
+    ensures { (cards before : List SpecCard) → AreDecks cards before decks.entry → result ≡ causes.data_cause cards before card.now }
 {
     match &card.spec {
-        Spec::Extension(extension) => of_extension(source, before, extension),
-        Spec::Data(DataSpec::Begin) => of_begin(source, before),
+        Spec::Extension(extension) => of_extension(decks, extension),
+        Spec::Data(DataSpec::Begin) => of_begin(decks),
         _ => None,
     }
 }
 
-fn of_extension(
-    source: &IndexedCards,
-    before: &[SpecCard],
-    extension: &ExtensionSpec,
-) -> Option<DataCause>
-    ensures { result ≡ causes.of_extension source.now before.now extension.now extension.now.entries_per_card }
+fn of_extension(decks: Decks, extension: &ExtensionSpec) -> Option<DataCause>
+    ensures { (cards before : List SpecCard) → AreDecks cards before decks.entry → result ≡ causes.of_extension cards before extension.now extension.now.entries_per_card }
 {
     match extension.entries_per_card {
         None => if has_table(extension) {
@@ -86,7 +77,7 @@ fn of_extension(
         } else {
             None
         },
-        Some(per_card) => match after_begin(wanted(before), source.as_slice()) {
+        Some(per_card) => match decks.next() {
             None => Some(missing(extension, per_card)),
             Some(following) => of_after(extension, per_card, following),
         },
@@ -183,67 +174,15 @@ fn of_tables(
 }
 
 /// Returns the cause for data that no E card expects.
-fn of_begin(source: &IndexedCards, before: &[SpecCard]) -> Option<DataCause>
-    ensures { result ≡ causes.of_begin source.now before.now }
+fn of_begin(decks: Decks) -> Option<DataCause>
+    ensures { (cards before : List SpecCard) → AreDecks cards before decks.entry → result ≡ causes.of_begin cards before }
 {
-    let wanted = wanted(source.as_slice());
-    let begun = begun(before);
+    let wanted = decks.wanted;
+    let begun = usize::from(decks.begun);
     if wanted <= begun {
         let deck = begun + 1;
         Some(DataCause::Spare { deck, wanted })
     } else {
         None
     }
-}
-
-// ---- decks
-
-/// Counts the cards that want data.
-fn wanted(cards: &[SpecCard]) -> usize
-    ensures { result ≡ rules.wanted cards.now }
-{
-    let mut count = 0;
-    for card in cards {
-        count += usize::from(expects_data(card));
-    }
-    count
-}
-
-/// Counts the `**` cards.
-fn begun(cards: &[SpecCard]) -> usize
-    ensures count { result ≡ count_by causes.begins_table_data cards.now }
-    ensures few { result ≤ length cards.now }
-{
-    let mut count = 0;
-    for card in cards {
-        count += usize::from(begins(card));
-    }
-    count
-}
-
-fn begins(card: &SpecCard) -> bool
-    ensures { result ≡ causes.begins_table_data card.now }
-{
-    match card.data() {
-        None => false,
-        Some(data) => matches!(data, DataSpec::Begin),
-    }
-}
-
-/// Returns the cards after the `**` card with this number, counted from 0.
-fn after_begin(number: usize, cards: &[SpecCard]) -> Option<&[SpecCard]>
-    ensures { option_map (λ following. following.now) result ≡ causes.after_deck_begin number cards.now }
-{
-    let mut number = number;
-    let mut rest = cards;
-    while let Some((card, following)) = rest.split_first() {
-        if begins(card) {
-            if number == 0 {
-                return Some(following);
-            }
-            number -= 1;
-        }
-        rest = following;
-    }
-    None
 }

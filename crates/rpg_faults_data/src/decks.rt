@@ -1,21 +1,25 @@
 //! The data after the sheets: a `**` card with the data after it is a deck, and the E cards that want data take the decks in order.
 
-ghost use Rattle.std.specs.Prelude.{◌≡◌, [], ◌∷◌, ◌++◌, List, MatchOption};
+ghost use Rattle.std.specs.Prelude.{◌≡◌, ◌≤◌, [], ◌∷◌, ◌++◌, List, length, option_map, MatchOption};
 ghost use Rattle.rpg_cards.specs.Groups.{data_role, groups};
 ghost use Rattle.rpg_cards.specs.declared.spec_card.SpecCard.{SpecCard};
+ghost use Rattle.rpg_faults_data.specs.Causes.{after_deck_begin, begins_table_data};
 ghost use Rattle.rpg_faults_data.specs.Data as rules;
-ghost use Rattle.rpg_faults_data.specs.Decks.{AreDecks, BeginsDeck, IsNextDeck, deck};
+ghost use Rattle.rpg_faults_data.specs.Data.{wanted};
+ghost use Rattle.rpg_faults_data.specs.Decks.{AreDecks, BeginsDeck, deck};
 
 use rpg_cards::SpecCard;
 use rpg_sheet_specs::DataSpec;
 
-/// The decks that no E card has taken.
+/// What the data after the sheets needs of the cards before a card.
 #[derive(Clone, Copy)]
 pub struct Decks<'a> {
-    /// The cards from the first such deck on.
+    /// The cards from the first deck on that no E card has taken.
     rest: &'a [SpecCard],
-    /// How many of the remaining decks E cards want.
-    wanted: usize,
+    /// How many E cards of the source expect a deck.
+    pub(crate) wanted: usize,
+    /// How many decks begin on the cards before.
+    pub(crate) begun: u16,
 }
 
 impl<'a> Decks<'a> {
@@ -26,22 +30,24 @@ impl<'a> Decks<'a> {
         Decks {
             rest: cards,
             wanted: cards.iter().filter(|card| expects_data(card)).count(),
+            begun: 0,
         }
     }
 
     /// Returns the state after one more card.
-    pub fn with(self, card: &SpecCard) -> Self
-        ensures { (cards before : List SpecCard) → AreDecks cards before self.entry → AreDecks cards (before ++ card.now ∷ []) result }
+    pub fn with(self, before: &[SpecCard], card: &SpecCard) -> Self
+        requires { length before.now ≤ 2000 }
+        ensures { (cards : List SpecCard) → AreDecks cards before.now self.entry → AreDecks cards (before.now ++ card.now ∷ []) result }
     {
         if expects_data(card) {
             Decks {
                 rest: after_next(self.rest).unwrap_or(&[]),
-                wanted: self.wanted,
+                ..self
             }
         } else if begins_deck(card) {
             Decks {
-                rest: self.rest,
-                wanted: self.wanted.saturating_sub(1),
+                begun: self.begun.saturating_add(1),
+                ..self
             }
         } else {
             self
@@ -50,21 +56,14 @@ impl<'a> Decks<'a> {
 
     /// Returns the cards after the `**` card of the deck that the next E card takes.
     pub(crate) fn next(self) -> Option<&'a [SpecCard]>
-        ensures { (cards before : List SpecCard) → AreDecks cards before self.entry → IsNextDeck cards before result }
+        ensures { (cards before : List SpecCard) → AreDecks cards before self.entry → option_map (λ f. f.now) result ≡ after_deck_begin (wanted before) cards }
     {
         after_next(self.rest)
-    }
-
-    /// Whether no E card expects the data of the next `**` card.
-    pub(crate) fn are_taken(self) -> bool
-        ensures { (cards before : List SpecCard) → AreDecks cards before self.entry → result ≡ rules.are_taken cards before }
-    {
-        self.wanted == 0
     }
 }
 
 /// Whether a card describes a table with data in the source.
-pub(crate) fn expects_data(card: &SpecCard) -> bool
+fn expects_data(card: &SpecCard) -> bool
     ensures { result ≡ rules.expects_data card.now }
 {
     match card.extension() {
@@ -74,15 +73,17 @@ pub(crate) fn expects_data(card: &SpecCard) -> bool
 }
 
 /// Whether a card is a `**` card.
-pub(crate) fn begins_deck(card: &SpecCard) -> bool
-    ensures { BeginsDeck card.now result }
+fn begins_deck(card: &SpecCard) -> bool
+    ensures value { result ≡ begins_table_data card.now }
+    ensures groups { BeginsDeck card.now result }
 {
     matches!(card.data(), Some(DataSpec::Begin))
 }
 
 /// Returns the cards after the next `**` card.
 pub fn after_next(cards: &[SpecCard]) -> Option<&[SpecCard]>
-    ensures { MatchOption result (groups data_role cards.now ≡ []) (λ following. groups data_role cards.now ≡ deck following.now ∷ groups data_role following.now) }
+    ensures groups { MatchOption result (groups data_role cards.now ≡ []) (λ following. groups data_role cards.now ≡ deck following.now ∷ groups data_role following.now) }
+    ensures first { option_map (λ following. following.now) result ≡ after_deck_begin 0 cards.now }
 {
     let mut rest = cards;
     while let Some((card, following)) = rest.split_first() {

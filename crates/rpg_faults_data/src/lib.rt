@@ -4,7 +4,6 @@
 mod cause;
 mod data;
 mod decks;
-mod entries;
 mod layout;
 mod number;
 mod wrong_entry;

@@ -1,12 +1,15 @@
 //! F18: the first wrong entry of a table.
 
-ghost use Rattle.std.specs.Prelude.{◌≡◌, ◌≤◌, None, length, IfSome, option_copied};
+ghost use Rattle.std.specs.Prelude.{◌≡◌, ◌≤◌, List, None, length, ℕ, IfSome, option_copied};
+ghost use Rattle.std.specs.List.{last_or};
 ghost use Rattle.rpg_faults_data.specs.Causes as causes;
-ghost use Rattle.rpg_faults_data.specs.Entries.{HasNumberSize};
+ghost use Rattle.rpg_faults_data.specs.Data as rules;
+ghost use Rattle.rpg_faults_data.specs.Entries.{HasNumberSize, texts_on_card};
 
-use crate::entries::{is_bad, is_lower, last_entry};
 use crate::layout::Layout;
+use crate::number::number_in;
 use rpg_cards::SpecCard;
+use rpg_decimal::compare_text;
 use rpg_sheet_specs::{DataSpec, TableSpec, Word};
 use rpg_symbols::Name;
 
@@ -88,38 +91,51 @@ fn wrong_on(
     let mut before = before;
     for i in 0..count {
         let entry = layout.entry(text, i);
-        let column = i * layout.width + layout.from + 1;
-        let found = wrong_entry(table, first + i, before, card, column, entry);
-        if found.is_some() {
-            return found;
+        if let Some(fault) = fault_of(table, before, entry) {
+            let column = i * layout.width + layout.from + 1;
+            return Some(cause_of(table, first + i, card, column, fault));
         }
         before = Some(entry);
     }
     None
 }
 
-/// Returns an entry if it is wrong.
-fn wrong_entry(
+fn cause_of(
     table: &TableSpec,
     number: usize,
-    before: Option<&[u8]>,
     card: u16,
     column: usize,
-    entry: &[u8],
-) -> Option<EntryCause>
-    requires entry { HasNumberSize table.now.decimals (length entry.now) }
-    requires before { IfSome before (λ b. length b.now ≡ length entry.now) }
-    ensures { result ≡ causes.wrong_entry table.now number (option_copied before.entry) (causes.placed_entry_at card column entry.now) }
+    fault: EntryFault,
+) -> EntryCause
+    ensures { (text : List ℕ) → result ≡ causes.entry_cause table.now number (causes.placed_entry_at card column text) fault }
 {
-    let fault = fault_of(table, before, entry)?;
-    Some(EntryCause {
+    EntryCause {
         name: Word::new(table.name.as_slice()),
         number,
         card,
         column,
         length: table.length,
         fault,
-    })
+    }
+}
+
+/// Returns the last of `count` entries of a card, or the one before them if there are none.
+fn last_entry<'a>(
+    before: Option<&'a [u8]>,
+    count: usize,
+    layout: Layout,
+    card: &'a [u8],
+) -> Option<&'a [u8]>
+    requires card { length card.now ≡ 80 }
+    requires count { count ≤ layout.per_card }
+    requires before { IfSome before (λ b. length b.now ≡ layout.length) }
+    ensures last { option_copied result ≡ last_or (option_copied before.entry) (texts_on_card layout card.now count) }
+    ensures length { IfSome result (λ b. length b.now ≡ layout.length) }
+{
+    if count == 0 {
+        return before;
+    }
+    Some(layout.entry(card, count - 1))
 }
 
 /// Returns what is wrong with an entry, given the one before it.
@@ -136,5 +152,28 @@ fn fault_of(table: &TableSpec, before: Option<&[u8]>, entry: &[u8]) -> Option<En
             Some(EntryFault::Lower)
         }
         _ => None,
+    }
+}
+
+/// Whether an entry should be a number but isn't.
+fn is_bad(decimals: Option<u8>, entry: &[u8]) -> bool
+    requires { HasNumberSize decimals (length entry.now) }
+    ensures { result ≡ rules.is_bad decimals entry.now }
+{
+    decimals.is_some() && number_in(entry).is_none()
+}
+
+/// Whether an entry is lower than another: a text by the collating sequence, a number by its value.
+fn is_lower(decimals: Option<u8>, entry: &[u8], other: &[u8]) -> bool
+    requires entry { HasNumberSize decimals (length entry.now) }
+    requires other { HasNumberSize decimals (length other.now) }
+    ensures { result ≡ rules.is_lower decimals entry.now other.now }
+{
+    if decimals.is_none() {
+        return compare_text(entry, other).is_lt();
+    }
+    match (number_in(entry), number_in(other)) {
+        (Some(entry), Some(other)) => entry < other,
+        _ => false,
     }
 }

@@ -4,6 +4,7 @@ pub mod Faultless
 pub mod Flow
 pub mod Kept
 pub mod Marks
+pub mod OpenGroups
 pub mod Order
 pub mod Rounding
 pub mod RoundingCauses

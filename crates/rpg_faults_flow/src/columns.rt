@@ -1,12 +1,14 @@
 //! F9 of calculations: columns that are missing or not allowed.
 
-ghost use Rattle.std.specs.Prelude.{◌≡◌, Option, is_some};
+ghost use Rattle.std.specs.Prelude.{◌≡◌, List, [], ◌∷◌, ◌++◌, is_some};
 ghost use Rattle.std.specs.Option.{option_map};
-ghost use Rattle.rpg_cards.specs.Calculations.{CalculationGroup, open_calculation_group};
-ghost use Rattle.rpg_cards.specs.Cards.{calculation_on};
+ghost use Rattle.rpg_cards.specs.Calculations.{group_end, open_calculation_group};
+ghost use Rattle.rpg_cards.specs.declared.spec_card.SpecCard.{SpecCard};
 ghost use Rattle.rpg_faults_flow.specs.ColumnCauses as causes;
 ghost use Rattle.rpg_faults_flow.specs.Columns as rules;
 ghost use Rattle.rpg_faults_flow.specs.Marks as marks;
+ghost use Rattle.rpg_faults_flow.specs.OpenGroups as open_groups;
+ghost use Rattle.rpg_faults_flow.specs.OpenGroups.{IsGroupBefore, IsOpenGroup};
 ghost use Rattle.rpg_sheet_specs.specs.declared.column_range.ColumnRange.TheVariants as range;
 ghost use Rattle.rpg_sheet_specs.specs.declared.literal.Factor.TheVariants as factor;
 
@@ -66,70 +68,104 @@ impl ColumnCause {
     }
 }
 
+/// The group of calculation cards that the next card may join.
+#[derive(Clone, Copy)]
+pub struct OpenGroup {
+    /// Whether its operation allows conditions; None if no group is open.
+    may_depend: Option<bool>,
+}
+
+impl OpenGroup {
+    /// Returns that there is none.
+    pub fn none() -> Self
+        ensures { (cards : List SpecCard) → IsOpenGroup [] cards result }
+    {
+        OpenGroup { may_depend: None }
+    }
+
+    /// Moves on to the next card. The end of a group is looked for once, from its first card.
+    #[tactic(auto, using(crate::proofs::Groups::may_depend_next))]
+    pub fn pass(&mut self, card: &SpecCard, after: &[SpecCard])
+        ensures { (before : List SpecCard) → IsOpenGroup before (card.now ∷ after.now) self.old → IsOpenGroup (before ++ card.now ∷ []) after.now self.new }
+    {
+        self.may_depend = self.with(card, after);
+    }
+
+    fn with(self, card: &SpecCard, after: &[SpecCard]) -> Option<bool>
+        ensures { result ≡ open_groups.may_depend_with self.may_depend card.now after.now }
+    {
+        Some(self.allows_conditions(card.calculation()?, after))
+    }
+
+    /// Whether the operation of the group that a card joins or opens allows conditions.
+    #[tactic(auto, using(crate::proofs::Groups::may_depend_here))]
+    fn allows_conditions(self, calculation: &CalculationSpec, after: &[SpecCard]) -> bool
+        ensures value { result ≡ open_groups.may_depend_in self.may_depend calculation.now after.now }
+        ensures group { (before : List SpecCard) → IsGroupBefore before calculation.now after.now self → result ≡ rules.may_depend (group_end calculation.now after.now) }
+    {
+        match self.may_depend {
+            Some(may_depend) if joins(calculation) => may_depend,
+            _ => may_depend(group_end(calculation, after)),
+        }
+    }
+
+    #[tactic(auto, using(crate::proofs::Groups::is_open_group))]
+    fn is_open(self) -> bool
+        ensures { (before rest : List SpecCard) → IsOpenGroup before rest self → result ≡ is_some (open_calculation_group before) }
+    {
+        self.may_depend.is_some()
+    }
+}
+
 /// F9 of a calculation card: which columns are missing or not allowed.
 pub fn on_calculation(
+    group: OpenGroup,
     before: &[SpecCard],
     card: &SpecCard,
     after: &[SpecCard],
 ) -> Option<ColumnCause>
+    requires { IsOpenGroup before.now (card.now ∷ after.now) group }
     ensures cause { result ≡ causes.card_column_cause before.now card.now after.now }
     ensures rule { is_some result ≡ rules.bad_calculation_columns before.now card.now after.now }
 {
     match card.calculation() {
         None => None,
-        Some(calculation) => of_calculation(is_in_group(before), calculation, after),
+        Some(calculation) => of_calculation(group, calculation, after),
     }
-}
-
-/// Whether the previous card is a C card.
-#[tactic(auto, using(crate::proofs::Groups::is_open_after))]
-fn is_in_group(before: &[SpecCard]) -> bool
-    ensures { result ≡ is_some (open_calculation_group before.now) }
-{
-    match before.split_last() {
-        None => false,
-        Some((card, _)) => is_calculation(card),
-    }
-}
-
-fn is_calculation(card: &SpecCard) -> bool
-    ensures { result ≡ is_some (calculation_on card.now.spec) }
-{
-    card.calculation().is_some()
 }
 
 fn of_calculation(
-    is_in_group: bool,
+    group: OpenGroup,
     calculation: &CalculationSpec,
     after: &[SpecCard],
 ) -> Option<ColumnCause>
-    ensures cause { (group : Option CalculationGroup) → is_in_group ≡ is_some group → result ≡ causes.calculation_column_cause group calculation.now after.now }
-    ensures rule { (group : Option CalculationGroup) → is_in_group ≡ is_some group → is_some result ≡ causes.has_bad_columns group calculation.now after.now }
+    ensures cause { (before : List SpecCard) → IsGroupBefore before calculation.now after.now group → result ≡ causes.calculation_column_cause (open_calculation_group before) calculation.now after.now }
+    ensures rule { (before : List SpecCard) → IsGroupBefore before calculation.now after.now group → is_some result ≡ causes.has_bad_columns (open_calculation_group before) calculation.now after.now }
 {
     if calculation.length.is_some() && calculation.result_field.is_none() {
         return Some(ColumnCause::LengthAlone);
     }
     match of_end(continues(after), calculation) {
         Some(cause) => Some(cause),
-        None => of_conditions(is_in_group, calculation, after),
+        None => of_conditions(group, calculation, after),
     }
 }
 
 fn of_conditions(
-    is_in_group: bool,
+    group: OpenGroup,
     calculation: &CalculationSpec,
     after: &[SpecCard],
 ) -> Option<ColumnCause>
-    ensures cause { (group : Option CalculationGroup) → is_in_group ≡ is_some group → result ≡ causes.of_conditions group calculation.now after.now }
-    ensures rule { (group : Option CalculationGroup) → is_in_group ≡ is_some group → is_some result ≡ rules.bad_conditions group calculation.now after.now }
+    ensures cause { (before : List SpecCard) → IsGroupBefore before calculation.now after.now group → result ≡ causes.of_conditions (open_calculation_group before) calculation.now after.now }
+    ensures rule { (before : List SpecCard) → IsGroupBefore before calculation.now after.now group → is_some result ≡ rules.bad_conditions (open_calculation_group before) calculation.now after.now }
 {
     if depends(calculation) {
-        if may_depend(group_end(calculation, after)) {
+        if group.allows_conditions(calculation, after) {
             None
         } else {
             Some(ColumnCause::Unconditioned)
         }
-    } else if continues(after) || (joins(calculation) && is_in_group) {
+    } else if continues(after) || (joins(calculation) && group.is_open()) {
         Some(ColumnCause::ConditionsNeeded)
     } else {
         None

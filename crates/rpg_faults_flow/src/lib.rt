@@ -5,6 +5,6 @@ mod columns;
 mod laws;
 mod rounding;
 
-pub use columns::{ColumnCause, on_calculation};
+pub use columns::{ColumnCause, OpenGroup, on_calculation};
 pub use laws::faultless_sections_are_plain;
 pub use rounding::{RoundingCause, rounding_cause};

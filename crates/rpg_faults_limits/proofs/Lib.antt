@@ -2,6 +2,5 @@ pub mod ApartLemmas
 pub mod CalculationLemmas
 pub mod FileLemmas
 pub mod LimitRule
-pub mod OpenFiles
 pub mod SheetLemmas
 pub mod StorageLemmas

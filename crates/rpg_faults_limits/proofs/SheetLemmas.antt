@@ -1,23 +1,20 @@
 -- What groups of cards come to with one more card after them.
 use Rattle.std.proofs.Common.{◌≡◌, ℕ, ◌+◌, ◌≤◌, List, [], ◌∷◌, ◌++◌, Option, None, Some, refl, sym, ap, ◌∙◌, subst, arith, length-append}
-use Rattle.std.specs.Option.{option_map, option_or}
+use Rattle.std.specs.Option.{option_or}
 use Rattle.rpg_cards.proofs.GroupLemmas.{groups-push, one_if_heading, open_group-push}
-use Rattle.rpg_cards.specs.Files.{file_by}
 use Rattle.rpg_cards.specs.Groups.{Apart, Follower, Group, Heading, Role, file_of_group, open_group, with_card}
-use Rattle.rpg_faults_limits.specs.Sheets.{HasGroups, IsOpen, file_or, group_file, with_role}
-use Rattle.rpg_faults_limits.specs.declared.sheets.GroupFile.{GroupFile}
+use Rattle.rpg_faults_limits.specs.Sheets.{HasGroups, IsOpen, file_or, place_named, with_role}
 use Rattle.rpg_faults_limits.specs.declared.sheets.Groups.{Groups}
 use Rattle.rpg_cards.specs.declared.spec_card.SpecCard.{SpecCard}
 use Rattle.rpg_sheet_specs.specs.declared.spec.Spec.{Spec}
 
-file_reported : (cards : List SpecCard) (name file : Option (List ℕ)) (kept : Option GroupFile) → kept ≡ option_map group_file (file_by file cards)
-    → file_or cards name kept ≡ option_map group_file (file_by (option_or name file) cards)
-file_reported cards None file kept e = e
-file_reported cards (Some name) file kept e = refl
+pub file_or_is : (cards : List SpecCard) (name file : Option (List ℕ)) (place : Option ℕ) → place ≡ place_named cards file → file_or cards name place ≡ place_named cards (option_or name file)
+file_or_is cards None file place e = e
+file_or_is cards (Some name) file place e = refl
 
 module _ {H F : Type 0} (cards : List SpecCard) where
   still_open : (o : Option (Group H F)) (r : Role H F) (g : Groups) → IsOpen H F cards o g → IsOpen H F cards (with_card o r) (with_role cards r g)
-  still_open o (Heading h name) g is = record { is_open = refl; file = file_reported cards name (file_of_group o) g.file is.file }
+  still_open o (Heading h name) g is = record { is_open = refl; file = file_or_is cards name (file_of_group o) g.file is.file }
   still_open None (Follower f) g is = is
   still_open (Some x) (Follower f) g is = record { is_open = is.is_open; file = is.file }
   still_open o Apart g is = is

@@ -1,6 +1,7 @@
 -- F7, and F9 of lines: which file a card is about, what is wrong with it, and which F card it is on.
 use Rattle.std.specs.Prelude.{ℕ, List, [], ◌∷◌, Bool, nat_eq, Option, None, Some, is_some, option_and_then, if◌then◌else◌}
 use Rattle.std.specs.Cmp.Lexicographic.{pointwise}
+use Rattle.std.specs.List.{slice_get}
 use Rattle.std.specs.Option.{option_map, option_map_or, option_or}
 use Rattle.rpg_cards.specs.Cards.{file_on, output_record_on, type_on}
 use Rattle.rpg_cards.specs.Files.{file_use, is_input, is_output, same_use}
@@ -27,6 +28,10 @@ use Rattle.rpg_text.specs.Texts.{is_between}
 -- the file of an F card, with the card's number
 abbrev pub file_with : SpecCard → FileSpec → FileOnCard
 file_with c f = record { card = c.number; name = f.name; serves_as = file_use f; record_length = f.record_length }
+
+-- that of the F card at a place
+abbrev pub placed_file : List SpecCard → Option ℕ → Option FileOnCard
+placed_file cards place = option_and_then (λ c. option_map (file_with c) (file_on c.spec)) (option_and_then (slice_get cards) place)
 
 -- the file of a card, if it passes a test
 abbrev pub file_if : (FileSpec → Bool) → SpecCard → Option FileOnCard
@@ -86,25 +91,19 @@ file_cause cards before c =
     (option_or (option_and_then (λ t. of_user cards user.RecordType is_input (is_some (open_group input_role before)) t.file) (type_on c.spec))
     (option_and_then (λ r. of_user cards user.Line is_output (is_some (open_group output_role before)) r.file) (output_record_on c.spec)))
 
--- ---- the file of the open line, and of the open record type
-
--- with one more card: that of its line, if it names one
-abbrev pub with_line_file : SpecCard → Option (List ℕ) → Option (List ℕ)
-with_line_file c kept = option_or (option_and_then (λ (r : OutputRecord). r.file) (output_record_on c.spec)) kept
-
--- with one more card: that of its record type, if it names one
-abbrev pub with_type_file : SpecCard → Option (List ℕ) → Option (List ℕ)
-with_type_file c kept = option_or (option_and_then (λ (t : RecordType). t.file) (type_on c.spec)) kept
-
 -- ---- F9 of lines
 
 -- the file of a line: the one that it names, otherwise that of the previous line
 abbrev pub file_of_line : List SpecCard → List SpecCard → Option (List ℕ) → Option FileOnCard
 file_of_line cards before name = option_and_then (λ n. file_of_name n cards) (option_or name (open_file output_role before))
 
+-- it is the disk file
+abbrev pub is_disk : FileOnCard → Bool
+is_disk f = same_use Disk f.serves_as
+
 -- the disk file
 abbrev pub if_disk : FileOnCard → Option FileOnCard
-if_disk f = if same_use Disk f.serves_as then Some f else None
+if_disk f = if is_disk f then Some f else None
 
 -- the disk file, if a line of it has spaces or skips
 abbrev pub moved_disk : List SpecCard → List SpecCard → OutputRecord → Option FileOnCard

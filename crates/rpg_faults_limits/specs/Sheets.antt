@@ -1,27 +1,25 @@
 -- What the groups of the cards before a card come to: of record types, and of lines.
-use Rattle.std.specs.Option.{option_map}
+use Rattle.std.specs.Option.{option_and_then}
 use Rattle.std.specs.Prelude.{◌≡◌, ℕ, ◌+◌, ◌≤◌, true, List, length, Option, None, Some, is_some}
-use Rattle.rpg_cards.specs.Files.{file_by, file_named, file_use}
+use Rattle.rpg_card_index.specs.Index.{first_file, is_file_named}
 use Rattle.rpg_cards.specs.Groups.{Apart, Follower, Group, Heading, Role, file_of_group, group_count, input_role, open_group, output_role}
-use Rattle.rpg_faults_limits.specs.declared.sheets.GroupFile.{GroupFile}
 use Rattle.rpg_faults_limits.specs.declared.sheets.Groups.{Groups}
 use Rattle.rpg_faults_limits.specs.declared.sheets.Sheets.{Sheets}
 use Rattle.rpg_cards.specs.declared.spec_card.SpecCard.{SpecCard}
-use Rattle.rpg_sheet_specs.specs.declared.file.FileSpec.{FileSpec}
 use Rattle.rpg_sheet_specs.specs.declared.input.InputSpec.{InputSpec}
 use Rattle.rpg_sheet_specs.specs.declared.input.RecordType.{RecordType}
 use Rattle.rpg_sheet_specs.specs.declared.output.OutputRecord.{OutputRecord}
 use Rattle.rpg_sheet_specs.specs.declared.output.OutputSpec.{OutputSpec}
 use Rattle.rpg_sheet_specs.specs.declared.spec.Spec.{Spec}
 
--- what later cards ask of the file of a group
-abbrev pub group_file : FileSpec → GroupFile
-group_file f = record { record_length = f.record_length; serves_as = file_use f }
+-- the place of the F card of a file
+abbrev pub place_named : List SpecCard → Option (List ℕ) → Option ℕ
+place_named cards name = option_and_then (λ n. first_file (is_file_named n) cards) name
 
 -- what an open group comes to, and that there is one
 pub record IsOpen (H F : Type 0) (cards : List SpecCard) (o : Option (Group H F)) (g : Groups) : Type 0 where
   pub is_open : g.is_open ≡ is_some o
-  pub file : g.file ≡ option_map group_file (file_by (file_of_group o) cards)
+  pub file : g.file ≡ place_named cards (file_of_group o)
 
 -- what has been counted of the groups before a card: how many there are, and the open one
 pub record HasGroups (H F : Type 0) (role : Spec → Role H F) (cards before : List SpecCard) (g : Groups) : Type 0 where
@@ -34,10 +32,10 @@ pub record AreSheets (cards before : List SpecCard) (s : Sheets) : Type 0 where
   pub types : HasGroups RecordType InputSpec input_role cards before s.types
   pub lines : HasGroups OutputRecord OutputSpec output_role cards before s.lines
 
--- the file with the name, or the one before if there is no name
-abbrev pub file_or : List SpecCard → Option (List ℕ) → Option GroupFile → Option GroupFile
-file_or cards None file = file
-file_or cards (Some name) file = option_map group_file (file_named name cards)
+-- the place of the F card of the file with the name, or this place if there is no name
+abbrev pub file_or : List SpecCard → Option (List ℕ) → Option ℕ → Option ℕ
+file_or cards None place = place
+file_or cards (Some name) place = first_file (is_file_named name) cards
 
 -- what a card makes of them
 abbrev pub with_role : {H F : Type 0} → List SpecCard → Role H F → Groups → Groups

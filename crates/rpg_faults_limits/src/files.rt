@@ -1,6 +1,6 @@
 //! F7: files that are unknown, described twice or of the wrong use. F9 of lines: spaces and skips for the disk file.
 
-ghost use Rattle.std.specs.Prelude.{◌≡◌, ◌∷◌, ◌++◌, false, is_some, option_and_then, option_copied};
+ghost use Rattle.std.specs.Prelude.{◌≡◌, ◌∷◌, ◌++◌, false, is_some, option_and_then};
 ghost use Rattle.std.specs.Option.{option_map, option_map_or, option_or};
 ghost use Rattle.rpg_cards.specs.Cards.{output_record_on};
 ghost use Rattle.rpg_cards.specs.Files as known;
@@ -11,7 +11,7 @@ ghost use Rattle.rpg_faults_limits.specs.Files as rules;
 ghost use Rattle.rpg_faults_limits.specs.Sheets.{AreSheets};
 ghost use Rattle.rpg_faults_limits.specs.declared.files.FileUser.TheVariants as user;
 
-use crate::sheets::Sheets;
+use crate::sheets::{Sheets, file_or};
 use rpg_card_index::{FirstCards, IndexedCards};
 use rpg_cards::{FileUse, SpecCard, use_of};
 use rpg_sheet_specs::{ColumnRange, FileSpec, Movement, OutputRecord, Word};
@@ -131,11 +131,18 @@ fn file_with(card: &SpecCard, file: &FileSpec) -> FileOnCard
     }
 }
 
+/// Returns the file of the F card at a place.
+pub fn file_at(source: &IndexedCards, place: Option<usize>) -> Option<FileOnCard>
+    ensures { result ≡ causes.placed_file source.now place }
+{
+    let card = source.as_slice().get(place?)?;
+    Some(file_with(card, card.file()?))
+}
+
 /// Returns the first file with this name.
-pub fn file_of_name(name: &Word<8>, cards: &[SpecCard]) -> Option<FileOnCard>
+fn file_of_name(name: &Word<8>, cards: &[SpecCard]) -> Option<FileOnCard>
     ensures file { result ≡ causes.file_of_name name.now cards.now }
     ensures known { is_some result ≡ is_some (known.file_named name.now cards.now) }
-    ensures length_known { option_map (λ f. f.record_length) result ≡ option_map (λ f. f.record_length) (known.file_named name.now cards.now) }
     ensures use_known { option_map (λ f. f.serves_as) result ≡ option_map known.file_use (known.file_named name.now cards.now) }
 {
     for card in cards {
@@ -186,8 +193,7 @@ fn file_named(source: &IndexedCards, name: &Word<8>) -> Option<FileOnCard>
     ensures file { result ≡ causes.file_of_name name.now source.now }
     ensures use_known { option_map (λ f. f.serves_as) result ≡ option_map known.file_use (known.file_named name.now source.now) }
 {
-    source.file_named(name)?;
-    file_of_name(name, source.as_slice())
+    file_at(source, source.file_place(name))
 }
 
 fn of_file(first: &FirstCards, before: &[SpecCard], file: &FileSpec) -> Option<FileCause>
@@ -253,12 +259,6 @@ fn is_input(serves_as: FileUse) -> bool
     }
 }
 
-fn serves_as(source: &IndexedCards, name: &Word<8>) -> Option<FileUse>
-    ensures { result ≡ option_map known.file_use (known.file_named name.now source.now) }
-{
-    Some(use_of(source.file_named(name)?))
-}
-
 fn of_type(source: &IndexedCards, is_following: bool, name: &Option<Word<8>>) -> Option<FileCause>
     ensures cause { result ≡ causes.of_user source.now user.RecordType known.is_input is_following name.now }
     ensures rule { is_some result ≡ rules.lacks_file source.now known.is_input is_following name.now }
@@ -315,34 +315,25 @@ pub fn moved_disk(
     if !moves(&line.movement) {
         return None;
     }
-    if !is_for_disk(source, sheets, before, line) {
-        return None;
-    }
-    let name = line_file(card, open_line_file(before))?;
-    let file = file_named(source, name)?;
+    let file = file_of_line(source, sheets, before, line)?;
     match file.serves_as {
         FileUse::Disk => Some(file),
         FileUse::Primary | FileUse::Secondary | FileUse::Printer => None,
     }
 }
 
-/// Whether the line goes to the disk file, which it names or which the previous line goes to.
-fn is_for_disk(
+/// Returns the file of a line: the one that it names, or that of the previous line.
+fn file_of_line(
     source: &IndexedCards,
     sheets: &Sheets,
     before: &[SpecCard],
     line: &OutputRecord,
-) -> bool
+) -> Option<FileOnCard>
     requires { AreSheets source.now before.now sheets.now }
-    ensures { result ≡ option_map_or rules.is_disk_file (known.file_by (option_or line.now.file (open_file output_role before.now)) source.now) false }
+    ensures file { result ≡ causes.file_of_line source.now before.now line.now.file }
+    ensures disk { option_map_or causes.is_disk result false ≡ option_map_or rules.is_disk_file (known.file_by (option_or line.now.file (open_file output_role before.now)) source.now) false }
 {
-    match &line.file {
-        Some(name) => matches!(serves_as(source, name), Some(FileUse::Disk)),
-        None => match sheets.lines.file {
-            None => false,
-            Some(file) => matches!(file.serves_as, FileUse::Disk),
-        },
-    }
+    file_at(source, file_or(source, &line.file, sheets.lines.file))
 }
 
 /// Returns the columns of a line's first space or skip.
@@ -373,28 +364,4 @@ fn moves(movement: &Movement) -> bool
         || movement.space_after.is_some()
         || movement.skip_before.is_some()
         || movement.skip_after.is_some()
-}
-
-/// Returns the file of the last line before a card.
-pub fn open_line_file(before: &[SpecCard]) -> Option<&Word<8>>
-    ensures { option_copied result ≡ open_file output_role before.now }
-{
-    let mut name = None;
-    for card in before {
-        name = line_file(card, name);
-    }
-    name
-}
-
-/// Returns the file of the open line after one more card.
-fn line_file<'a>(card: &'a SpecCard, kept: Option<&'a Word<8>>) -> Option<&'a Word<8>>
-    ensures { option_copied result ≡ causes.with_line_file card.now (option_copied kept.entry) }
-{
-    match card.line() {
-        None => kept,
-        Some(line) => match &line.file {
-            Some(name) => Some(name),
-            None => kept,
-        },
-    }
 }

@@ -14,10 +14,9 @@ mod storage;
 mod types;
 
 pub use files::{
-    FileCause, FileOnCard, FileUser, file_cause, file_of_name, lacks_input, moved_disk,
-    movement_range, open_line_file,
+    FileCause, FileOnCard, FileUser, file_at, file_cause, lacks_input, moved_disk, movement_range,
 };
 pub use limits::limit_cause;
 pub use measures::{Limit, LimitCause};
-pub use sheets::{GroupFile, Groups, Sheets};
+pub use sheets::{Groups, Sheets, file_or};
 pub use state::Limits;

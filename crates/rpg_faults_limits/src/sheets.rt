@@ -1,22 +1,13 @@
 //! The groups of the cards before a card.
 
 ghost use Rattle.std.specs.Prelude.{◌≡◌, ◌+◌, ◌≤◌, [], ◌∷◌, ◌++◌, length, true, List};
-ghost use Rattle.std.specs.Option.{option_map};
-ghost use Rattle.rpg_cards.specs.Files as files;
 ghost use Rattle.rpg_cards.specs.Groups.{input_role, output_role};
-ghost use Rattle.rpg_faults_limits.specs.Sheets.{AreSheets, file_or, group_file, with_role};
+ghost use Rattle.rpg_faults_limits.specs.Sheets.{AreSheets, file_or, with_role};
 ghost use Rattle.rpg_cards.specs.declared.spec_card.SpecCard.{SpecCard};
 
 use rpg_card_index::IndexedCards;
-use rpg_cards::{FileUse, SpecCard, use_of};
+use rpg_cards::SpecCard;
 use rpg_sheet_specs::{InputSpec, OutputSpec, Word};
-
-/// What the cards of a group need from its file.
-#[derive(Clone, Copy)]
-pub struct GroupFile {
-    pub record_length: u16,
-    pub serves_as: FileUse,
-}
 
 /// The groups of a sheet.
 #[derive(Clone, Copy)]
@@ -24,8 +15,8 @@ pub struct Groups {
     pub number: u16,
     /// Whether one is open, so that a further card would belong to it.
     pub is_open: bool,
-    /// The open group's file, if an F card describes it.
-    pub file: Option<GroupFile>,
+    /// The place of the F card that describes the open group's file, if there is one.
+    pub file: Option<usize>,
 }
 
 /// The groups of record types and of lines.
@@ -114,20 +105,17 @@ impl Groups {
         Groups {
             number: self.number + 1,
             is_open: true,
-            file: match file {
-                None => self.file,
-                Some(name) => group_file(source, name),
-            },
+            file: file_or(source, file, self.file),
         }
     }
 }
 
-fn group_file(source: &IndexedCards, name: &Word<8>) -> Option<GroupFile>
-    ensures { result ≡ option_map group_file (files.file_named name.now source.now) }
+/// Returns the place of the F card of the file that a card names, or this place if the card names none.
+pub fn file_or(source: &IndexedCards, name: &Option<Word<8>>, place: Option<usize>) -> Option<usize>
+    ensures { result ≡ file_or source.now name.now place }
 {
-    let file = source.file_named(name)?;
-    Some(GroupFile {
-        record_length: file.record_length,
-        serves_as: use_of(file),
-    })
+    match name {
+        None => place,
+        Some(name) => source.file_place(name),
+    }
 }

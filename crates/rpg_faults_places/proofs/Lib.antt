@@ -1,3 +1,4 @@
+pub mod CardFiles
 pub mod JoinRule
 pub mod JoinedLemmas
 pub mod LevelLemmas

@@ -1,14 +1,12 @@
 -- F16: columns outside the record or the line, fields too wide for their end position, control fields and match fields that don't agree.
-use Rattle.std.specs.Prelude.{◌≡◌, ℕ, ◌+◌, ◌-◌, List, [], ◌∷◌, map, Bool, false, not, ◌&&◌, ◌||◌, ◌==◌, nat_eq, nat_lt, nat_le, sum_by, Option, None, Some, if◌then◌else◌}
+use Rattle.std.specs.Prelude.{ℕ, ◌+◌, ◌-◌, List, [], ◌∷◌, map, Bool, false, not, ◌&&◌, ◌||◌, ◌==◌, nat_eq, nat_lt, nat_le, sum_by, Option, None, Some, if◌then◌else◌}
 use Rattle.std.specs.Cmp.Lexicographic.{pointwise}
 use Rattle.std.specs.List.{filter, list_any, range_with_len}
-use Rattle.std.specs.Option.{option_map, option_map_or, option_or}
+use Rattle.std.specs.Option.{option_map_or, option_or}
 use Rattle.rpg_cards.specs.Cards.{input_on, output_field_on}
 use Rattle.rpg_cards.specs.Files.{file_by}
 use Rattle.rpg_cards.specs.Groups.{Group, followers, groups, input_role, open_file, open_group, output_role}
 use Rattle.rpg_cards.specs.Levels.{control_level, fields_at, fields_with, is_at, is_match_field, match_level}
-use Rattle.rpg_faults_limits.specs.Sheets.{group_file}
-use Rattle.rpg_faults_limits.specs.declared.sheets.GroupFile.{GroupFile}
 use Rattle.rpg_cards.specs.declared.spec_card.SpecCard.{SpecCard}
 use Rattle.rpg_faults_operands.specs.Editing.{width}
 use Rattle.rpg_sheet_specs.specs.declared.file.FileSpec.{FileSpec}
@@ -181,11 +179,6 @@ abbrev pub own_file : List SpecCard → InputSpec → Option (List ℕ)
 own_file before (input.Type t) = option_or t.file (open_file input_role before)
 own_file before (input.And codes) = open_file input_role before
 own_file before (input.Field f) = open_file input_role before
-
--- the answer is the record length of an I card's own file, where `file` is the file of the type that is open before the card
-abbrev pub DetectsOwnLength : List SpecCard → InputSpec → Option GroupFile → Option ℕ → Type 0
-DetectsOwnLength cards i file answer =
-    (before : List SpecCard) → file ≡ option_map group_file (file_by (open_file input_role before) cards) → answer ≡ option_map (λ f. f.record_length) (file_by (own_file before i) cards)
 
 -- the card has a column outside the record or the line, or joins fields badly
 abbrev pub misplaces : List SpecCard → List SpecCard → SpecCard → List SpecCard → Bool

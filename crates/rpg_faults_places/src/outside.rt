@@ -1,10 +1,8 @@
 //! F16: columns outside the record, end positions outside the line, and fields that are too wide.
 
-ghost use Rattle.std.specs.Prelude.{◌≡◌, Option, is_some, option_copied, option_and_then};
+ghost use Rattle.std.specs.Prelude.{◌≡◌, List, Option, is_some, option_and_then};
 ghost use Rattle.std.specs.Option.{option_map};
-ghost use Rattle.rpg_cards.specs.Files.{file_by};
-ghost use Rattle.rpg_cards.specs.Groups.{input_role, open_file};
-ghost use Rattle.rpg_faults_limits.specs.FileCauses as files;
+ghost use Rattle.rpg_cards.specs.declared.spec_card.SpecCard.{SpecCard};
 ghost use Rattle.rpg_faults_limits.specs.Sheets.{AreSheets};
 ghost use Rattle.rpg_faults_places.specs.CardFiles as files_of;
 ghost use Rattle.rpg_faults_places.specs.Outside as causes;
@@ -14,11 +12,9 @@ ghost use Rattle.rpg_sheet_specs.specs.declared.file.FileSpec.{FileSpec};
 
 use rpg_card_index::IndexedCards;
 use rpg_cards::SpecCard;
-use rpg_faults_limits::{FileOnCard, GroupFile, Sheets, file_of_name, open_line_file};
+use rpg_faults_limits::{FileOnCard, Sheets, file_at, file_or};
 use rpg_faults_operands::width;
-use rpg_sheet_specs::{
-    ColumnRange, InputFieldSpec, InputSpec, OutputField, RecordCode, Three, Word,
-};
+use rpg_sheet_specs::{ColumnRange, InputFieldSpec, InputSpec, OutputField, RecordCode, Three};
 use std::marker::Model;
 
 /// What is outside a record or a line.
@@ -91,123 +87,62 @@ pub fn outside_cause(
     ensures rule { is_some result ≡ causes.is_outside source.now before.now card.now }
 {
     if let Some(input) = card.input() {
-        return of_input(&CardFile::of(source, sheets, before, card), input);
+        return of_input(&CardFile::of(source, sheets, card), input);
     }
     let field = card.output_field()?;
-    of_output(source, &CardFile::of(source, sheets, before, card), field)
+    of_output(source, &CardFile::of(source, sheets, card), field)
 }
 
 // ---- the file
 
-/// The file of an I or O card. Its F card is looked up only if a column is past its records.
+/// The file of an I or O card, by the place of its F card.
 #[derive(Drop)]
 struct CardFile<'a> {
     source: &'a IndexedCards<'a>,
-    before: &'a [SpecCard],
-    card: &'a SpecCard,
-    record_length: Option<u16>,
+    place: Option<usize>,
 }
 
 impl<'a> Model for CardFile<'a> {
-    ghost use Rattle.std.specs.Prelude.{◌≡◌, Option};
-    ghost use Rattle.std.specs.Option.{option_map};
+    ghost use Rattle.std.specs.Prelude.{Option};
+    ghost use Rattle.rpg_faults_limits.specs.FileCauses.{placed_file};
     ghost use Rattle.rpg_faults_limits.specs.declared.files.FileOnCard.{FileOnCard};
-    ghost use Rattle.rpg_faults_places.specs.CardFiles.{card_file, length_on_card};
 
     ghost Value = { Option FileOnCard };
 
-    ghost view = { λ f. card_file f.source.now f.before.now f.card.now };
-
-    ghost invariant = { λ f. f.record_length ≡ length_on_card f.source.now f.before.now f.card.now };
+    ghost view = { λ f. placed_file f.source.now f.place };
 }
 
 impl<'a> CardFile<'a> {
-    fn of(
-        source: &'a IndexedCards<'a>,
-        sheets: &Sheets,
-        before: &'a [SpecCard],
-        card: &'a SpecCard,
-    ) -> Self
-        requires { AreSheets source.now before.now sheets.now }
-        ensures { result ≡ files_of.card_file source.now before.now card.now }
+    fn of(source: &'a IndexedCards<'a>, sheets: &Sheets, card: &SpecCard) -> Self
+        ensures { (before : List SpecCard) → AreSheets source.now before sheets.now → result ≡ files_of.card_file source.now before card.now }
     {
-        let record_length = match card.input() {
-            Some(input) => own_length(source, sheets.types.file, input),
-            None => length_of(sheets.lines.file),
-        };
-        CardFile {
-            source,
-            before,
-            card,
-            record_length,
-        }
+        let place = place_on(source, sheets, card);
+        CardFile { source, place }
     }
 
     /// Returns the file with its F card.
     fn found(&self) -> Option<FileOnCard>
         ensures { result ≡ self.now }
     {
-        let name = match self.card.input() {
-            Some(input) => own_file(self.before, input),
-            None => open_line_file(self.before),
-        };
-        file_of_name(name?, self.source.as_slice())
+        file_at(self.source, self.place)
+    }
+
+    fn record_length(&self) -> Option<u16>
+        ensures { result ≡ option_map (λ f. f.record_length) self.now }
+    {
+        let card = self.source.as_slice().get(self.place?)?;
+        Some(card.file()?.record_length)
     }
 }
 
-fn open_type_file(before: &[SpecCard]) -> Option<&Word<8>>
-    ensures { option_copied result ≡ open_file input_role before.now }
+fn place_on(source: &IndexedCards, sheets: &Sheets, card: &SpecCard) -> Option<usize>
+    ensures { result ≡ files_of.place_on source.now sheets.now card.now }
 {
-    let mut name = None;
-    for card in before {
-        name = type_file(card, name);
+    match card.input() {
+        Some(InputSpec::Type(record_type)) => file_or(source, &record_type.file, sheets.types.file),
+        Some(InputSpec::And(_) | InputSpec::Field(_)) => sheets.types.file,
+        None => sheets.lines.file,
     }
-    name
-}
-
-/// Returns the file of the open record type after one more card.
-fn type_file<'a>(card: &'a SpecCard, kept: Option<&'a Word<8>>) -> Option<&'a Word<8>>
-    ensures { option_copied result ≡ files.with_type_file card.now (option_copied kept.entry) }
-{
-    match card.record_type() {
-        None => kept,
-        Some(record_type) => match &record_type.file {
-            Some(name) => Some(name),
-            None => kept,
-        },
-    }
-}
-
-fn own_file<'a>(before: &'a [SpecCard], input: &'a InputSpec) -> Option<&'a Word<8>>
-    ensures { option_copied result ≡ rules.own_file before.now input.now }
-{
-    let open = open_type_file(before);
-    match input {
-        InputSpec::Type(record_type) => match &record_type.file {
-            Some(name) => Some(name),
-            None => open,
-        },
-        InputSpec::And(_) | InputSpec::Field(_) => open,
-    }
-}
-
-/// Returns the record length of an I card's file: that of the open type, or of the file that a type card names.
-fn own_length(source: &IndexedCards, file: Option<GroupFile>, input: &InputSpec) -> Option<u16>
-    ensures { rules.DetectsOwnLength source.now input.now file result }
-{
-    match input {
-        InputSpec::Type(record_type) => match &record_type.file {
-            None => length_of(file),
-            Some(name) => Some(source.file_named(name)?.record_length),
-        },
-        _ => length_of(file),
-    }
-}
-
-fn length_of(file: Option<GroupFile>) -> Option<u16>
-    ensures { result ≡ option_map (λ f. f.record_length) file }
-{
-    Some(file?.record_length)
 }
 
 /// Returns the file, if a column is past its records.
@@ -215,7 +150,7 @@ fn if_past(file: &CardFile, column: u16) -> Option<FileOnCard>
     ensures file { result ≡ causes.file_passed column file.now }
     ensures rule { (known : Option FileSpec) → SameLength file.now known → is_some result ≡ rules.is_past known column }
 {
-    if file.record_length? < column {
+    if file.record_length()? < column {
         return file.found();
     }
     None

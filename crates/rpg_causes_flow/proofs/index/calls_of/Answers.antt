@@ -22,7 +22,7 @@ loop-card-preserved c =
     let was : c.loop-card.calls.items ≡ calls_after given [] (calculations_before before (card ∷ after)) = c.loop-card.invariant.calls ∙ ap (λ rest. calls_after given [] (calculations_before before rest)) c.in-Some.ensures.cases.0 in
     record {
       split = here ∙ sym (append_assoc before (card ∷ []) after) ∙ ap (λ b. b ++ after) (sym front);
-      flow = subst (λ b. IsFlow b after c.with-flow.result) (sym front) c.with-flow.ensures;
+      flow = subst (λ b. IsFlow b after c.pass.new.self) (sym front) c.pass.ensures;
       calls =
           c.in_ok-add_call.ensures ∙ ap (λ l. l ++ option_to_list c.call_at.result) was
           ∙ ap (λ x. calls_after given [] (calculations_before before (card ∷ after)) ++ option_to_list x) (c.call_at.ensures c.args.cards.now c.requires.index ∙ sym (call_at-is before card after c.loop-card.flow flow given))

@@ -32,7 +32,7 @@ loop-card-preserved c =
     let index = subst (λ rest. IsIndexOf c.loop-card.names.entries before rest) c.in-Some.ensures.cases.0 c.loop-card.invariant.index in
     record {
       split = here ∙ sym (append_assoc before (card ∷ []) after) ∙ ap (λ b. b ++ after) (sym front);
-      flow = subst (λ b. IsFlow b after c.with-flow.result) (sym front) c.with-flow.ensures;
+      flow = subst (λ b. IsFlow b after c.pass.new.self) (sym front) c.pass.ensures;
       index = subst (λ b. IsIndexOf c.note_label.new.names.entries b after) (sym front)
           (index_next before card after c.loop-card.flow flow c.loop-card.names.entries c.note_label.new.names.entries index c.in_ok-note_label.ensures);
     }

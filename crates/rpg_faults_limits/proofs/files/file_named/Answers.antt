@@ -1,10 +1,16 @@
-use Rattle.std.proofs.Common.{◌∙◌, ap, sym}
+use Rattle.std.proofs.Common.{◌∙◌, ap}
 use Rattle.std.specs.Cmp.Lexicographic.{pointwise}
-use Rattle.std.specs.Option.{is_some}
-use Rattle.std.specs.Prelude.{nat_eq, option_copied}
-use Rattle.rpg_faults_limits.proofs.FileLemmas.{none_found}
+use Rattle.std.specs.Option.{option_map}
+use Rattle.std.specs.Prelude.{nat_eq}
+use Rattle.rpg_faults_limits.proofs.FileLemmas.{placed, use_found}
+use Rattle.rpg_faults_limits.specs.FileCauses.{placed_file}
+use Rattle.rpg_faults_limits.specs.declared.files.FileOnCard.{FileOnCard}
 use Rattle.rpg_faults_limits.proofs.files.file_named.Goals as goal
 
-pub returns-in_err-file_named-clause-file : goal.returns-in_err-file_named-clause-file
-returns-in_err-file_named-clause-file c =
-    let none = sym (none_found (λ f. pointwise nat_eq c.args.name.now f.name) c.args.source.now (ap is_some (sym c.file_named.ensures) ∙ ap (λ o. is_some (option_copied o)) c.in_err-file_named.was)) in cc
+pub returns-clause-file : goal.returns-clause-file
+returns-clause-file c = c.file_at.ensures ∙ ap (placed_file c.args.source.now) c.file_place.ensures ∙ placed c.args.name.now c.args.source.now
+
+pub returns-clause-use_known : goal.returns-clause-use_known
+returns-clause-use_known c =
+    ap (option_map (λ (f : FileOnCard). f.serves_as)) (c.file_at.ensures ∙ ap (placed_file c.args.source.now) c.file_place.ensures ∙ placed c.args.name.now c.args.source.now)
+    ∙ use_found (λ f. pointwise nat_eq c.args.name.now f.name) c.args.source.now

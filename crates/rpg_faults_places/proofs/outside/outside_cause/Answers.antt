@@ -49,7 +49,7 @@ returns-in-Some-clause-rule c =
     let card = c.args.card.now in
     let i = c.in-Some.input.now in
     let on = sym c.input.ensures ∙ ap option_copied c.in-Some.is in
-    let same = ap (option_map (λ (f : FileOnCard). f.record_length)) c.of.ensures
+    let same = ap (option_map (λ (f : FileOnCard). f.record_length)) (c.of.ensures before c.requires)
     ∙ length_found (file_name before card) cards
     ∙ ap (length_by cards before) on in
     c.of_input.ensures.rule (file_by (own_file before i) cards) same ∙ sym (of_input cards before card i on)
@@ -62,7 +62,7 @@ returns-clause-rule c =
     let f = c.in_ok-field.field.now in
     let off = sym c.input.ensures ∙ ap option_copied c.in_default.is in
     let on = sym c.output_field.ensures ∙ ap option_copied c.in_ok-field.was in
-    let same = ap (option_map (λ (f : FileOnCard). f.record_length)) c.of-2.ensures
+    let same = ap (option_map (λ (f : FileOnCard). f.record_length)) (c.of-2.ensures before c.requires)
     ∙ length_found (file_name before card) cards
     ∙ ap (length_by cards before) off in
     c.of_output.ensures.rule (file_by (open_file output_role before) cards) same ∙ sym (of_field cards before card f off on)

@@ -2,7 +2,7 @@ use Rattle.std.proofs.Common.{◌∙◌, ap, sym, Some}
 use Rattle.std.specs.Prelude.{option_copied}
 use Rattle.rpg_faults_data.specs.Data.{entry_on}
 use Rattle.rpg_faults_data.proofs.EntryLemmas.{last_or-entries}
-use Rattle.rpg_faults_data.proofs.entries.last_entry.Goals as goal
+use Rattle.rpg_faults_data.proofs.wrong_entry.last_entry.Goals as goal
 
 pub returns-clause-last : goal.returns-clause-last
 returns-clause-last c =
