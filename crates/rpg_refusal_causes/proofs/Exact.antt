@@ -6,14 +6,16 @@ use Rattle.std.specs.Prelude.{IsSome, ◌↔◌}
 use Rattle.rpg_program.specs.Object.{Object}
 use Rattle.rpg_refusal_causes.proofs.First.{some_at, some_mapped}
 use Rattle.rpg_refusal_causes.proofs.HasLine.{line_has}
-use Rattle.rpg_refusal_causes.proofs.HasPlace.{judged, place_has, places_are}
+use Rattle.rpg_refusal_causes.proofs.HasPlace.{place_has}
 use Rattle.rpg_refusal_causes.proofs.HasSubroutine.{subroutine_has}
 use Rattle.rpg_refusal_causes.proofs.HasType.{type_has}
 use Rattle.rpg_refusal_causes.specs.Causes.{cause_in, refusal_cause_of, row_breaks}
 use Rattle.rpg_refusal_causes.specs.LineCauses.{line_cause}
-use Rattle.rpg_refusal_causes.specs.PlaceCauses.{all_placed, place_cause, placed_instruction}
+use Rattle.rpg_refusal_causes.specs.PlaceCauses.{place_cause}
 use Rattle.rpg_refusal_causes.specs.TypeCauses.{type_cause}
 use Rattle.rpg_refusal_causes.specs.declared.cause.RefusalCause.TheVariants as causes
+use Rattle.rpg_verify.proofs.Walking.{judged, places_are}
+use Rattle.rpg_verify.specs.Placed.{all_placed, placed_instruction}
 use Rattle.rpg_verify_rules.specs.Least.{IsBroken}
 use Rattle.rpg_verify_rules.specs.LineRules.{line_breaks}
 use Rattle.rpg_verify_rules.specs.Rules.{broken, lacks_printer, rule_number}

@@ -1,7 +1,6 @@
 -- An instruction that breaks a rule has a cause.
-use Rattle.std.proofs.Common.{◌≡◌, ℕ, ◌+◌, Bool, true, false, not, ◌&&◌, List, [], ◌∷◌, ◌++◌, map, cond, Option, Some, None, refl, sym, ap, ◌∙◌}
+use Rattle.std.proofs.Common.{◌≡◌, ℕ, Bool, true, false, not, ◌&&◌, cond, Option, Some, None, refl, sym}
 use Rattle.std.proofs.lemmas.Bool.{false≢true}
-use Rattle.std.proofs.lemmas.List.{map-append}
 use Rattle.std.specs.Option.{is_some, option_or}
 use Rattle.std.specs.Prelude.{◌||◌, nat_le}
 use Rattle.rpg_program.specs.Forms.{entries_of, form_at}
@@ -13,18 +12,17 @@ use Rattle.rpg_program.specs.declared.operation.Operand.{Operand}
 use Rattle.rpg_program.specs.declared.row.Row.{Row}
 use Rattle.rpg_program.specs.declared.row.Use.{Use}
 use Rattle.rpg_program.specs.ObjectInstructions.{columns}
-use Rattle.rpg_program.specs.Object.{Object, SubroutineRow}
+use Rattle.rpg_program.specs.Object.{Object}
 use Rattle.rpg_program.specs.declared.section.Section.{Section}
-use Rattle.rpg_program.specs.declared.section.Section.TheVariants.{Detail, Total, Subroutine}
 use Rattle.rpg_program.specs.declared.spans.Span.{Span}
 use Rattle.rpg_refusal_causes.proofs.First.{one_of_two, some_front, some_if, some_later, some_unless}
 use Rattle.rpg_refusal_causes.specs.First.{cause_if}
-use Rattle.rpg_refusal_causes.specs.PlaceCauses.{all_placed, call_cause, column_cause, entries_cause, found_cause, marked_cause, marks_cause, instruction_operand_cause, place_cause, placed_after_detail, placed_in, placed_in_subroutines, search_cause, short_cause, target_cause, unordered_cause}
+use Rattle.rpg_refusal_causes.specs.PlaceCauses.{call_cause, column_cause, entries_cause, found_cause, marked_cause, marks_cause, instruction_operand_cause, place_cause, search_cause, short_cause, target_cause, unordered_cause}
 use Rattle.rpg_refusal_causes.specs.declared.cause.Column.{Column}
 use Rattle.rpg_refusal_causes.specs.declared.cause.Column.TheVariants as column_names
-use Rattle.rpg_refusal_causes.specs.declared.cause.Placed.{Placed}
+use Rattle.rpg_verify.specs.declared.places.Placed.{Placed}
 use Rattle.rpg_refusal_causes.specs.declared.cause.RefusalCause.TheVariants as causes
-use Rattle.rpg_verify_rules.specs.PlaceRules.{are_marked, calls_higher, columns_of_kind, has_known_kind, is_ascending, is_ordered, is_searched_well, judged_after_detail, passing, place_breaks, places_judged, stays_inside, subroutines_judged, those_passing, written_columns, are_testable, holds_found}
+use Rattle.rpg_verify_rules.specs.PlaceRules.{are_marked, calls_higher, columns_of_kind, has_known_kind, is_ascending, is_ordered, is_searched_well, passing, place_breaks, stays_inside, those_passing, written_columns, are_testable, holds_found}
 use Rattle.rpg_verify_rules.specs.declared.rule.PlaceRule.{PlaceRule}
 use Rattle.rpg_verify_rules.specs.declared.rule.PlaceRule.TheVariants.{V16, V17, V18, V19, V20, V21, V22}
 
@@ -147,32 +145,3 @@ place_has V19 p x h = marks_has p x.instruction h
 place_has V20 p x h = search_has p x.instruction (written_columns p x.instruction) h
 place_has V21 p x h = target_has p x.span x.span.section x.instruction h
 place_has V22 p x h = call_has p x.span.section x.instruction h
-
--- ---- places
-
-abbrev pub judged : PlaceRule → Object → Placed → Bool
-judged r p x = place_breaks r p x.span.section x.instruction
-
-section_is : (r : PlaceRule) (p : Object) (s : Section) (xs : List (Instruction ℕ)) → map (place_breaks r p s) xs ≡ map (judged r p) (map (placed_in p s) xs)
-section_is r p s [] = refl
-section_is r p s (i ∷ is) = ap (λ bs. place_breaks r p s i ∷ bs) (section_is r p s is)
-
-subroutines_are : (r : PlaceRule) (p : Object) (n : ℕ) (ss : List SubroutineRow) → subroutines_judged r p n ss ≡ map (judged r p) (placed_in_subroutines p n ss)
-subroutines_are r p n [] = refl
-subroutines_are r p n (s ∷ ss) =
-    ap (λ bs. bs ++ subroutines_judged r p (n + 1) ss) (section_is r p (Subroutine n) s.instructions)
-    ∙ ap (λ bs. map (judged r p) (map (placed_in p (Subroutine n)) s.instructions) ++ bs) (subroutines_are r p (n + 1) ss)
-    ∙ sym (map-append (judged r p) (map (placed_in p (Subroutine n)) s.instructions) (placed_in_subroutines p (n + 1) ss))
-
-after_detail_are : (r : PlaceRule) (p : Object) → judged_after_detail r p ≡ map (judged r p) (placed_after_detail p)
-after_detail_are r p =
-    ap (λ bs. bs ++ subroutines_judged r p 0 p.subroutines) (section_is r p Total p.total)
-    ∙ ap (λ bs. map (judged r p) (map (placed_in p Total) p.total) ++ bs) (subroutines_are r p 0 p.subroutines)
-    ∙ sym (map-append (judged r p) (map (placed_in p Total) p.total) (placed_in_subroutines p 0 p.subroutines))
-
--- the rules judge the instructions place by place
-pub places_are : (r : PlaceRule) (p : Object) → places_judged r p ≡ map (judged r p) (all_placed p)
-places_are r p =
-    ap (λ bs. bs ++ judged_after_detail r p) (section_is r p Detail p.detail)
-    ∙ ap (λ bs. map (judged r p) (map (placed_in p Detail) p.detail) ++ bs) (after_detail_are r p)
-    ∙ sym (map-append (judged r p) (map (placed_in p Detail) p.detail) (placed_after_detail p))

@@ -5,4 +5,3 @@ pub mod HasLine
 pub mod HasPlace
 pub mod HasSubroutine
 pub mod HasType
-pub mod Placing

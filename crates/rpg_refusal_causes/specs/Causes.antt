@@ -4,12 +4,13 @@ use Rattle.std.specs.Option.{option_map, unwrap_or}
 use Rattle.rpg_program.specs.Object.{Object}
 use Rattle.rpg_refusal_causes.specs.First.{cause_of_row}
 use Rattle.rpg_refusal_causes.specs.LineCauses.{line_cause}
-use Rattle.rpg_refusal_causes.specs.PlaceCauses.{place_cause, placed_instruction}
+use Rattle.rpg_refusal_causes.specs.PlaceCauses.{place_cause}
 use Rattle.rpg_refusal_causes.specs.SubroutineCauses.{subroutine_cause}
 use Rattle.rpg_refusal_causes.specs.TypeCauses.{type_cause}
 use Rattle.rpg_refusal_causes.specs.declared.cause.Refusal.{Refusal}
 use Rattle.rpg_refusal_causes.specs.declared.cause.RefusalCause.{RefusalCause}
 use Rattle.rpg_refusal_causes.specs.declared.cause.RefusalCause.TheVariants as causes
+use Rattle.rpg_verify.specs.Placed.{placed_instruction}
 use Rattle.rpg_verify_rules.specs.Accepted.{IsLeastBroken}
 use Rattle.rpg_verify_rules.specs.Rules.{broken}
 use Rattle.rpg_verify_rules.specs.declared.rule.Rule.{Rule}

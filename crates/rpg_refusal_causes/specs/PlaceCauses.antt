@@ -1,5 +1,5 @@
 -- What in an instruction breaks V16 to V22.
-use Rattle.std.specs.Prelude.{ℕ, ◌+◌, Bool, false, not, ◌&&◌, nat_le, List, [], ◌∷◌, ◌++◌, map, Option, None, Some, slice_get}
+use Rattle.std.specs.Prelude.{ℕ, Bool, false, not, ◌&&◌, nat_le, List, Option, None, Some, slice_get}
 use Rattle.std.specs.Prelude.{if◌then◌else◌}
 use Rattle.std.specs.Option.{option_map, option_map_or, option_or}
 use Rattle.rpg_program.specs.Forms.{entries_of, form_at}
@@ -13,46 +13,16 @@ use Rattle.rpg_program.specs.declared.row.Row.{Row}
 use Rattle.rpg_program.specs.declared.row.Use.{Use}
 use Rattle.rpg_program.specs.ObjectInstructions.{columns}
 use Rattle.rpg_program.specs.Object.{Object, SubroutineRow}
-use Rattle.rpg_program.specs.Sections.{first_place, level_of, place_after}
-use Rattle.rpg_program.specs.declared.section.Section.{Section}
-use Rattle.rpg_program.specs.declared.section.Section.TheVariants.{Detail, Total, Subroutine}
 use Rattle.rpg_program.specs.declared.spans.Span.{Span}
 use Rattle.rpg_refusal_causes.specs.First.{cause_if}
 use Rattle.rpg_refusal_causes.specs.declared.cause.Column.{Column}
 use Rattle.rpg_refusal_causes.specs.declared.cause.Column.TheVariants as column_names
-use Rattle.rpg_refusal_causes.specs.declared.cause.Placed.{Placed}
+use Rattle.rpg_verify.specs.declared.places.Placed.{Placed}
 use Rattle.rpg_refusal_causes.specs.declared.cause.RefusalCause.{RefusalCause}
 use Rattle.rpg_refusal_causes.specs.declared.cause.RefusalCause.TheVariants as causes
 use Rattle.rpg_verify_rules.specs.PlaceRules.{are_marked, columns_of_kind, has_known_kind, is_ascending, written_columns}
 use Rattle.rpg_verify_rules.specs.declared.rule.PlaceRule.{PlaceRule}
 use Rattle.rpg_verify_rules.specs.declared.rule.PlaceRule.TheVariants.{V16, V17, V18, V19, V20, V21, V22}
-
--- ---- the instruction at a place
-
--- a section with its level, its first place and its end
-abbrev pub span_of : Object → Section → Span
-span_of p s = record { section = s; level = level_of p s; first = first_place p s; end = place_after p s }
-
--- an instruction of a section
-abbrev pub placed_in : Object → Section → Instruction ℕ → Placed
-placed_in p s i = record { span = span_of p s; instruction = i }
-
--- the instructions of the subroutines from a number on
-abbrev pub placed_in_subroutines : Object → ℕ → List SubroutineRow → List Placed
-placed_in_subroutines p n [] = []
-placed_in_subroutines p n (s ∷ ss) = map (placed_in p (Subroutine n)) s.instructions ++ placed_in_subroutines p (n + 1) ss
-
--- those after detail calculations
-abbrev pub placed_after_detail : Object → List Placed
-placed_after_detail p = map (placed_in p Total) p.total ++ placed_in_subroutines p 0 p.subroutines
-
--- all instructions of a program in the order of their places
-abbrev pub all_placed : Object → List Placed
-all_placed p = map (placed_in p Detail) p.detail ++ placed_after_detail p
-
--- the instruction at a place, with its section
-unfoldable pub placed_instruction : Object → ℕ → Option Placed
-placed_instruction p place = slice_get (all_placed p) place
 
 -- ---- which operand breaks a rule
 

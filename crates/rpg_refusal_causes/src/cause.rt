@@ -3,9 +3,8 @@
 use rpg_program::condition::Conditions;
 use rpg_program::input::{ControlField, InputField};
 use rpg_program::line::{LineField, Spacing};
-use rpg_program::operation::{Instruction, Operand};
+use rpg_program::operation::Operand;
 use rpg_program::row::{Marks, Use};
-use rpg_program::spans::Span;
 use rpg_verify_rules::BrokenRule;
 
 /// A column of an instruction.
@@ -160,11 +159,4 @@ pub enum RefusalCause {
 pub struct Refusal {
     pub broken: BrokenRule,
     pub cause: RefusalCause,
-}
-
-/// An instruction with its section.
-#[derive(Clone, Copy)]
-pub struct Placed {
-    pub span: Span,
-    pub instruction: Instruction<u16>,
 }

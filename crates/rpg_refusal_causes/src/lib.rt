@@ -11,6 +11,6 @@ mod searches;
 mod subroutines;
 mod types;
 
-pub use cause::{Column, Placed, Refusal, RefusalCause};
+pub use cause::{Column, Refusal, RefusalCause};
 pub use places::placed_at;
 pub use refusals::refusal;

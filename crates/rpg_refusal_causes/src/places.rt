@@ -1,13 +1,13 @@
 //! The instruction at a place, and what in it breaks V16 to V19, V21 and V22.
 
-ghost use Rattle.std.specs.Prelude.{◌≡◌, ◌+◌, length, map, slice_get};
+ghost use Rattle.std.specs.Prelude.{◌≡◌, map};
 ghost use Rattle.rpg_program.specs.Kept.{IsProgram};
 ghost use Rattle.rpg_program.specs.Object.{seen, subroutine_row};
-ghost use Rattle.rpg_program.specs.Spans.{IsSpan};
 ghost use Rattle.rpg_refusal_causes.specs.First.{cause_of_row};
 ghost use Rattle.rpg_refusal_causes.specs.PlaceCauses as words;
+ghost use Rattle.rpg_verify.specs.Placed.{placed_instruction};
 
-use crate::cause::{Column, Placed, RefusalCause};
+use crate::cause::{Column, RefusalCause};
 use crate::searches::{found_cause, shows_cause};
 use rpg_program::Program;
 use rpg_program::columns::{columns_of, is_current_table, is_valid, is_writable_use};
@@ -15,90 +15,14 @@ use rpg_program::condition::Conditions;
 use rpg_program::operation::{Instruction, Operand};
 use rpg_program::row::{Row, Use};
 use rpg_program::rows::Rows;
-use rpg_program::section::Section;
 use rpg_program::spans::Span;
+use rpg_verify::{Placed, at_place};
 use rpg_verify_rules::PlaceRule;
 use rpg_verify_rules::places::{has_known_kind, written_columns};
 
-// ---- the instruction at a place
-
-#[tactic(auto, using(crate::proofs::Placing::section_at))]
-fn in_section(rows: &Rows, span: Span, code: &[Instruction<u16>], place: usize) -> Option<Placed>
-    requires { IsSpan (seen rows.now) span }
-    ensures { result ≡ slice_get (map (words.placed_in (seen rows.now) span.section) code.now) place }
-{
-    let _rows = rows;
-    Some(Placed {
-        span,
-        instruction: *code.get(place)?,
-    })
-}
-
-fn in_subroutines(rows: &Rows, begin: usize, place: usize) -> Option<Placed>
-    requires program { IsProgram (seen rows.now) }
-    requires begin { begin ≡ length rows.now.detail.items + length rows.now.total.items }
-    ensures { result ≡ slice_get (words.placed_in_subroutines (seen rows.now) 0 (map subroutine_row rows.now.subroutines.items)) place }
-{
-    let mut first = begin;
-    let mut rest = place;
-    let mut number: u16 = 0;
-    for subroutine in &rows.subroutines {
-        let count = subroutine.instructions.len();
-        let span = Span {
-            section: Section::Subroutine(number),
-            level: subroutine.level,
-            first,
-            end: first + count,
-        };
-        match in_section(rows, span, &subroutine.instructions, rest) {
-            Some(placed) => return Some(placed),
-            None => {}
-        }
-        rest = rest.saturating_sub(count);
-        first += count;
-        number += 1;
-    }
-    None
-}
-
-fn after_detail(rows: &Rows, place: usize) -> Option<Placed>
-    requires { IsProgram (seen rows.now) }
-    ensures { result ≡ slice_get (words.placed_after_detail (seen rows.now)) place }
-{
-    let first = rows.detail.len();
-    let total = rows.total.len();
-    let span = Span {
-        section: Section::Total,
-        level: 0,
-        first,
-        end: first + total,
-    };
-    match in_section(rows, span, &rows.total, place) {
-        Some(placed) => Some(placed),
-        None => in_subroutines(rows, first + total, place.saturating_sub(total)),
-    }
-}
-
-fn at_place(rows: &Rows, place: usize) -> Option<Placed>
-    requires { IsProgram (seen rows.now) }
-    ensures { result ≡ words.placed_instruction (seen rows.now) place }
-{
-    let detail = rows.detail.len();
-    let span = Span {
-        section: Section::Detail,
-        level: 0,
-        first: 0,
-        end: detail,
-    };
-    match in_section(rows, span, &rows.detail, place) {
-        Some(placed) => Some(placed),
-        None => after_detail(rows, place.saturating_sub(detail)),
-    }
-}
-
 /// Returns the instruction at a place, counted through the whole program, with its section.
 pub fn placed_at(program: &Program, place: usize) -> Option<Placed>
-    ensures { result ≡ words.placed_instruction program.now place }
+    ensures { result ≡ placed_instruction program.now place }
 {
     at_place(program.rows(), place)
 }
@@ -229,7 +153,7 @@ fn cause_at(rule: PlaceRule, rows: &Rows, placed: Placed) -> Option<RefusalCause
 /// Returns what in the instruction at a place breaks a rule, if it does.
 pub(crate) fn place_cause(rule: PlaceRule, rows: &Rows, place: usize) -> Option<RefusalCause>
     requires { IsProgram (seen rows.now) }
-    ensures { result ≡ cause_of_row (words.place_cause rule (seen rows.now)) (words.placed_instruction (seen rows.now) place) }
+    ensures { result ≡ cause_of_row (words.place_cause rule (seen rows.now)) (placed_instruction (seen rows.now) place) }
 {
     cause_at(rule, rows, at_place(rows, place)?)
 }

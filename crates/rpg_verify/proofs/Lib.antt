@@ -5,3 +5,4 @@ pub mod Most
 pub mod PathCosts
 pub mod Placing
 pub mod Sizes
+pub mod Walking

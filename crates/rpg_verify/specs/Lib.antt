@@ -1,6 +1,6 @@
 pub mod Bound
 pub mod Greatest
 pub mod Paths
-pub mod Spans
+pub mod Placed
 pub mod Verified
 pub mod Weighing

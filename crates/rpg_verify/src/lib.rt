@@ -10,5 +10,6 @@ mod verified;
 mod weights;
 
 pub use least::{RULES, first_broken};
+pub use places::{Placed, at_place};
 pub use rpg_verify_rules::{BrokenRule, LineRule, PlaceRule, Rule, SubroutineRule, TypeRule};
 pub use verified::{Verified, VerifyFault, verify};

@@ -1,15 +1,11 @@
 //! Programs that may run.
 
-ghost use Rattle.std.specs.Prelude.{◌≡◌, ◌<◌, ◌≤◌, ◌^◌, IfErr, IfOk, slice_index};
-ghost use Rattle.rpg_program.specs.ObjectInstructions.{weight};
+ghost use Rattle.std.specs.Prelude.{◌≡◌, ◌<◌, ◌^◌, IfErr, IfOk};
 ghost use Rattle.rpg_program.specs.Kept.{IsProgram};
-ghost use Rattle.rpg_program.specs.Sections.{first_place, place_after};
-ghost use Rattle.rpg_program.specs.declared.section.Place.{Place};
 ghost use Rattle.rpg_verify_rules.specs.Accepted.{IsAccepted};
 ghost use Rattle.rpg_verify_rules.specs.Sound.{IsSound};
 ghost use Rattle.rpg_verify.specs.Bound as words;
-ghost use Rattle.rpg_verify.specs.Greatest.{AreGreatest};
-ghost use Rattle.rpg_verify.specs.Paths.{IsCost};
+ghost use Rattle.rpg_verify.specs.Greatest.{AreCostsOf, AreGreatest};
 ghost use Rattle.rpg_verify.specs.Verified.{IsRefusal};
 
 use crate::bound::{Measured, measure};
@@ -92,7 +88,7 @@ impl Verified {
     /// Returns, for each place, the greatest sum of weights along a forward path from it.
     pub fn path_costs(&self) -> &[u64]
         ensures costs { result.now ≡ words.costs self.now }
-        ensures greatest { (x : Place) → first_place self.now x.section ≤ x.number → x.number < place_after self.now x.section → IsCost (weight self.now) (words.code_of_section self.now x.section) x.number (slice_index result.now x.number) }
+        ensures greatest { AreCostsOf self.now result.now }
     {
         &self.costs
     }

@@ -1,5 +1,5 @@
 -- Tests over lists that are seen as other lists.
-use Rattle.std.proofs.Common.{◌≡◌, ℕ, suc, ◌+◌, Bool, true, false, not, ◌&&◌, ◌||◌, cond, List, [], ◌∷◌, ◌++◌, map, length, Option, Some, None, refl, ap, ◌∙◌, arith}
+use Rattle.std.proofs.Common.{◌≡◌, ℕ, suc, ◌+◌, Bool, true, false, not, ◌&&◌, ◌||◌, cond, List, [], ◌∷◌, map, length, Option, Some, None, refl, ap, ◌∙◌, arith}
 use Rattle.std.specs.Prelude.{nat_lt}
 use Rattle.std.specs.List.{list_all, list_any, position, position_or_len}
 use borrow.Author.Tests.{ltb-true, ltb-false}
@@ -44,32 +44,6 @@ map-map test f (x ∷ xs) = ap (λ ys. test (f x) ∷ ys) (map-map test f xs)
 -- rows that are seen as others
 pub position_seen : {X Y : Type 0} (test : Y → Bool) (f : X → Y) (xs : List X) → first_true 0 (map test (map f xs)) ≡ position (λ x. test (f x)) xs
 position_seen test f xs = ap (first_true 0) (map-map test f xs) ∙ position_is (λ x. test (f x)) xs
-
--- what is found in one list, or in those after it
-abbrev pub or_after : ℕ → Option ℕ → Option ℕ → Option ℕ
-or_after n None later = later
-or_after n (Some k) later = Some (n + k)
-
-pub found_in_both : {X : Type 0} (test : X → Bool) (n : ℕ) (xs : List X) (bs : List Bool) → first_true n (map test xs ++ bs) ≡ or_after n (position test xs) (first_true (n + length xs) bs)
-found_in_both test n [] bs = ap (λ k. first_true k bs) (omega arith)
-found_in_both {X} test n (x ∷ xs) bs = by_test (test x) (found_in_both test (n + 1) xs bs)
-  where
-    later : Option ℕ
-    later = first_true (n + suc (length xs)) bs
-
-    at_front : (b : Bool) → nat_lt 0 (suc (length xs)) ≡ b → Some n ≡ or_after n (cond b (Some 0) None) later
-    at_front true t = ap Some (omega arith)
-    at_front false t = absurd (omega (arith, ltb-false))
-
-    following : (at : ℕ) (a b : Bool) → nat_lt at (length xs) ≡ a → nat_lt (1 + at) (suc (length xs)) ≡ b → or_after (n + 1) (cond a (Some at) None) (first_true (n + 1 + length xs) bs) ≡ or_after n (cond b (Some (1 + at)) None) later
-    following at true true s t = ap Some (omega arith)
-    following at false false s t = ap (λ k. first_true k bs) (omega arith)
-    following at true false s t = absurd (omega (arith, ltb-true, ltb-false))
-    following at false true s t = absurd (omega (arith, ltb-true, ltb-false))
-
-    by_test : (b : Bool) → first_true (n + 1) (map test xs ++ bs) ≡ or_after (n + 1) (position test xs) (first_true (n + 1 + length xs) bs) → cond b (Some n) (first_true (n + 1) (map test xs ++ bs)) ≡ or_after n (cond (nat_lt (cond (not b) (1 + position_or_len test xs) 0) (suc (length xs))) (Some (cond (not b) (1 + position_or_len test xs) 0)) None) later
-    by_test true h = at_front _ refl
-    by_test false h = h ∙ following (position_or_len test xs) _ _ refl refl
 
 -- not all pass exactly if one doesn't
 pub not_all : {X : Type 0} (test : X → Bool) (xs : List X) → not (list_all test xs) ≡ list_any (λ x. not (test x)) xs

@@ -1,22 +1,47 @@
-use Rattle.std.proofs.Common.{Some, sym, ap, ◌∙◌, arith}
+use Rattle.std.proofs.Common.{◌+◌, cond, Some, sym, ap, ◌∙◌, arith}
 use Rattle.rpg_program.specs.Object.{seen}
-use Rattle.rpg_program.specs.declared.section.Section.TheVariants.{Detail}
 use Rattle.rpg_verify_rules.specs.Least.{first_true}
-use Rattle.rpg_verify_rules.specs.PlaceRules.{judged_after_detail, place_breaks}
 use Rattle.rpg_verify_rules.specs.Rules.{broken}
-use Rattle.rpg_verify_rules.proofs.Sectioning.{in_first, in_later}
+use Rattle.rpg_verify.proofs.Walking.{breaks_at, breaks_from, breaks_or_later, place_within, places_are}
 use Rattle.rpg_verify.proofs.places.first_place.Goals as goal
 
-pub returns-in-Some : goal.returns-in-Some
+pub returns-then-breaks : goal.returns-then-breaks
 unfolding broken
-returns-in-Some c =
+returns-then-breaks c =
     let p = seen c.args.rows.now in
-    ap Some (omega arith) ∙ sym (in_first (place_breaks c.args.rule p Detail) 0 p.detail (judged_after_detail c.args.rule p) c.in-Some.at c.in-Some.ensures.place)
+    let k = c.loop-placed.place in
+    ap (λ b. cond b (Some k) (breaks_from c.args.rule p (k + 1))) (sym c.if-breaks.true ∙ c.breaks.ensures)
+    ∙ ap (breaks_or_later c.args.rule p k) c.in-Some.ensures.placed
+    ∙ sym (breaks_at c.args.rule p k)
+    ∙ c.loop-placed.invariant
+    ∙ ap (first_true 0) (sym (places_are c.args.rule p))
 
-pub returns-in-None : goal.returns-in-None
+pub returns : goal.returns
 unfolding broken
-returns-in-None c =
+returns c =
     let p = seen c.args.rows.now in
-    c.first_after_detail.ensures
-    ∙ ap (λ k. first_true k (judged_after_detail c.args.rule p)) (omega arith)
-    ∙ sym (in_later (place_breaks c.args.rule p Detail) 0 p.detail (judged_after_detail c.args.rule p) (sym c.in-None.is ∙ c.first_in_detail.ensures.place))
+    let k = c.loop-placed.place in
+    ap (breaks_or_later c.args.rule p k) c.in_default.ensures.placed
+    ∙ sym (breaks_at c.args.rule p k)
+    ∙ c.loop-placed.invariant
+    ∙ ap (first_true 0) (sym (places_are c.args.rule p))
+
+pub overflow_add-place : goal.overflow_add-place
+overflow_add-place c =
+    let inside = place_within (seen c.args.rows.now) c.loop-placed.place c.in-Some.placed c.in-Some.ensures.placed in
+    let all = c.requires.few_instructions in
+    omega (arith, inside, all)
+
+pub loop-placed-smaller : goal.loop-placed-smaller
+loop-placed-smaller c =
+    let inside = place_within (seen c.args.rows.now) c.loop-placed.place c.in-Some.placed c.in-Some.ensures.placed in
+    omega (arith, inside)
+
+pub loop-placed-preserved : goal.loop-placed-preserved
+loop-placed-preserved c =
+    let p = seen c.args.rows.now in
+    let k = c.loop-placed.place in
+    ap (λ b. cond b (Some k) (breaks_from c.args.rule p (k + 1))) (sym c.if-breaks.false ∙ c.breaks.ensures)
+    ∙ ap (breaks_or_later c.args.rule p k) c.in-Some.ensures.placed
+    ∙ sym (breaks_at c.args.rule p k)
+    ∙ c.loop-placed.invariant

@@ -1,8 +1,8 @@
 use Rattle.std.proofs.Common.{◌≡◌, ◌+◌, ◌≤◌, map, drop, slice_get}
 use Rattle.rpg_program.specs.Object.{seen, subroutine_row}
 use Rattle.rpg_program.specs.Sections.{first_in, instructions_in}
-use Rattle.rpg_refusal_causes.specs.PlaceCauses.{placed_in_subroutines}
-use Rattle.rpg_refusal_causes.proofs.places.in_subroutines.Given as goal
+use Rattle.rpg_verify.specs.Placed.{placed_in_subroutines}
+use Rattle.rpg_verify.proofs.places.in_subroutines.Given as goal
 
 abbrev pub invariant-loop-subroutine : goal.invariant-loop-subroutine
 invariant-loop-subroutine l = record {
