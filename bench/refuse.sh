@@ -199,10 +199,10 @@ for written in print disk; do
     expected=$stock/balance.expected
 done
 
-# What rpg_show_cases reports of a job, cycle by cycle, with an allocation refused. The case expects `-`, so that all is reported.
+# What rpg_show_cases reports of a job, cycle by cycle, with an allocation refused.
 job_told() {
     { REFUSED=$2 LD_PRELOAD=$work/refuse.so "$cases" "$work/$1.rows" 2> "$work/line" || true; } |
-        sed -n "s/^DIFFERS: $1: //p"
+        sed -n "s/^$1: //p"
 }
 
 # Refuses the allocations of a job in turn, until 100 runs in a row end as without one. If a cycle runs out of memory, each one after it

@@ -169,10 +169,11 @@ def shown_rest(desk: Desk, call: Call) -> Outcome:
 
 
 def shown_read(desk: Desk, call: Call) -> Outcome:
-    """`read_zoned`: the number that a text of a record is; `= bad digit` where a job halts."""
+    """`read_zoned`: the number that a text of a record is; `= bad digit at 1` if a job halts, by its place in the text, counted from 0."""
     field = Operand(call.words[1], "0")
     printed = does(desk, [field], [], [card("O", _32="A", _40="  20")])[0]
-    return call.told("bad digit" if printed.startswith("halt 4,") else number_of(printed))
+    bad = re.search(r"^halt 4,.* in column (\d+) isn't a digit$", printed, re.S | re.M)
+    return call.told(f"bad digit at {int(bad[1]) - 1}" if bad else number_of(printed))
 
 
 def number_of(printed: str) -> str:

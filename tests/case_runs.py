@@ -116,7 +116,7 @@ def difference(run: Run, told: Told) -> tuple[str, str] | None:
 
 
 def show(program: Program, folder: Path, run: Run) -> Outcome:
-    """Does a run, and reports the result as rpg_show_cases does; a failure shows both sides as well."""
+    """Does a run, and reports its result; a failure shows both sides as well."""
     if run.unknown is not None:
         return Outcome(run.place, f"BAD: {run.name}: a mark that isn't known", f"--- {run.unknown}")
     found = difference(run, Runner(program, folder, run).told())

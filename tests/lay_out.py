@@ -1,5 +1,5 @@
 #!/usr/bin/env python3
-"""Lays out what only calls of the library show: the rows that rpg_show_cases does, and what it must print.
+"""Lays out what only calls of the library show: the rows that rpg_show_cases does, and what it must print of each.
 
 usage: tests/lay_out.py PROGRAM [FILE.cases ..]
 
@@ -34,7 +34,7 @@ FILE_ROW = re.compile(
 
 @dataclass(frozen=True)
 class Row:
-    """What rpg_show_cases is to do, over the object that stands before, and what it must tell of it."""
+    """What rpg_show_cases is to do, over the object that stands before, and what it must print of it."""
 
     task: str
     name: str
@@ -46,7 +46,7 @@ class Row:
     object: bytes | None = None
 
     def line(self) -> str:
-        columns = (self.task, self.name, self.told.hex(), self.date, self.input, self.secondary, self.devices)
+        columns = (self.task, self.name, self.date, self.input, self.secondary, self.devices)
         return "\t".join(columns)
 
 
@@ -184,17 +184,16 @@ def text_of_rows(rows: Iterable[Row]) -> str:
 
 
 def printed(rows: Iterable[Row]) -> str:
-    return "".join(f"ok: {it.name}: {it.told.decode('latin-1')}\n" for it in rows)
+    return "".join(f"{it.name}: {it.told.decode('latin-1')}\n" for it in rows)
 
 
 def laid_out(program: Program) -> dict[str, str]:
     """The files of rpg_show_cases that come of cases and rows: what each has."""
-    right, wrong = list(file_rows(HERE / "rows/files.rows")), []
+    rows = list(file_rows(HERE / "rows/files.rows"))
     for path in sorted((CRATE / "data").glob("*.cases")):
-        rows = wrong if path.with_suffix(".told").exists() else right
         rows += rows_in(program, path)
-    told = "".join((HERE / "rows" / it).read_text(encoding="ascii") for it in ("wrong.told", "calls.told"))
-    return {"data/all.rows": text_of_rows(right + wrong), "stdout": printed(right) + told}
+    calls = (HERE / "rows/calls.told").read_text(encoding="ascii")
+    return {"data/all.rows": text_of_rows(rows), "stdout": printed(rows) + calls}
 
 
 def main(words: list[str]) -> None:

@@ -3,7 +3,6 @@
 
 mod buffer;
 mod counting;
-pub mod fakes;
 mod input;
 mod line;
 mod reader;

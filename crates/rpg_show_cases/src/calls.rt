@@ -3,40 +3,18 @@
 
 use rpg_cli_text::TextWriter;
 use rpg_decimal::{
-    BadDigit, Num, Source, ZeroDivisor, compare_text, move_left, move_right, read_zoned, remainder,
+    BadDigit, Num, Source, ZeroDivisor, compare_text, move_left, move_right, remainder,
 };
 use rpg_edit_widths::EditFault;
-use rpg_faults::{FaultCode, SourceCode, SourceFault};
 use rpg_paper::NoMemory;
-use rpg_sheet::SheetCode;
-use rpg_symbols::{DefineFault, LevelFault};
 use std::cmp::Ordering;
-
-/// Rejections of sources.
-const REFUSALS: [SourceFault; 3] = [
-    SourceFault::At {
-        card: 5,
-        code: SourceCode::Sheet(SheetCode::S1),
-        columns: None,
-    },
-    SourceFault::At {
-        card: 5,
-        code: SourceCode::Fault(FaultCode::F16),
-        columns: None,
-    },
-    SourceFault::NoMemory,
-];
 
 /// The greatest number of 15 digits.
 const NINES: i64 = 999_999_999_999_999;
 
-/// Writes the places of bad digits, counted from 0 in what is read or moved.
+/// Writes the places of bad digits, counted from 0 in what is moved.
 fn write_places(out: &mut TextWriter) {
-    let numbers: [Result<i64, BadDigit>; 9] = [
-        read_zoned(b"1-2"),
-        read_zoned(b"J12"),
-        read_zoned(b"12S"),
-        read_zoned(b"1{A"),
+    let numbers: [Result<i64, BadDigit>; 5] = [
         move_right(Source::Text(b"1-2"), 98_765, 5),
         move_left(Source::Text(b"1-2"), 98_765, 5),
         move_left(Source::Text(b"7K"), 98_765, 5),
@@ -102,21 +80,10 @@ fn write_orders(out: &mut TextWriter) {
     }
 }
 
-fn write_errors(out: &mut TextWriter) {
-    write!(out, "{ZeroDivisor}\n{EditFault}\n{NoMemory}\n");
-    let (other, full, none) = (DefineFault::Other, DefineFault::Full, DefineFault::NoMemory);
-    write!(out, "{other}\n{full}\n{none}\n");
-    let cycle = LevelFault::Cycle { call: 1 };
-    write!(out, "{cycle}\n");
-}
-
 /// Writes a line for each of these.
 pub fn write_calls(out: &mut TextWriter) {
-    for fault in &REFUSALS {
-        write!(out, "{fault}\n");
-    }
     write_places(out);
     write_rests(out);
     write_orders(out);
-    write_errors(out);
+    write!(out, "{ZeroDivisor}\n{EditFault}\n{NoMemory}\n");
 }

@@ -1,10 +1,9 @@
 //! Readers and writers with short, interrupted and failing calls.
 
-ghost use Rattle.std.specs.Prelude.{Some};
+ghost use Rattle.std.specs.Prelude.{◌≤◌, IfOk, None};
 
-use rpg_files::fakes::{Interrupting, ShortReader, ShortWriter};
 use std::alloc::Global;
-use std::io::{self, Write};
+use std::io::{self, ErrorKind, Read, Write};
 
 /// What a reader or a writer does.
 #[derive(Clone, Copy)]
@@ -15,6 +14,27 @@ pub struct Device {
     until_fault: usize,
     /// How often it interrupts before each call.
     times: usize,
+    /// The interruptions since the last call.
+    interrupted: usize,
+}
+
+impl Device {
+    /// Returns how many bytes a call for this many takes.
+    fn take(&mut self, bytes: usize) -> io::Result<usize>
+        ensures { IfOk result (λ n. n ≤ bytes) }
+    {
+        if self.interrupted < self.times {
+            self.interrupted += 1;
+            return Err(io::Error::from(ErrorKind::Interrupted));
+        }
+        self.interrupted = 0;
+        if self.until_fault == 0 {
+            return Err(io::Error::from(ErrorKind::BrokenPipe));
+        }
+        let taken = self.pieces.min(self.until_fault).min(bytes);
+        self.until_fault -= taken;
+        Ok(taken)
+    }
 }
 
 /// A device without limits or failures.
@@ -22,6 +42,7 @@ const WHOLE: Device = Device {
     pieces: usize::MAX,
     until_fault: usize::MAX,
     times: 0,
+    interrupted: 0,
 };
 
 /// Parses a device of three numbers; `-` is without limit.
@@ -35,6 +56,7 @@ pub fn device_of(column: &str) -> Device {
         pieces,
         until_fault,
         times,
+        interrupted: 0,
     }
 }
 
@@ -52,56 +74,57 @@ pub fn devices_of(column: &str) -> Devices {
     devices
 }
 
-pub fn reader(device: Device, left: &[u8]) -> Interrupting<ShortReader<'_>> {
-    Interrupting {
-        device: ShortReader {
-            left,
-            most: device.pieces,
-            until_fault: device.until_fault,
-        },
-        times: u32::try_from(device.times).unwrap_or(u32::MAX),
-        interrupted: 0,
+/// Reads what is left. If it fails after these bytes, it doesn't report the end of the input.
+#[derive(Drop)]
+pub struct CaseReader<'a> {
+    device: Device,
+    left: &'a [u8],
+}
+
+impl<'a> CaseReader<'a> {
+    pub fn new(device: Device, left: &'a [u8]) -> CaseReader<'a> {
+        CaseReader { device, left }
     }
 }
 
-/// A writer that interrupts and fails, or accepts nothing without failing.
+impl Read for CaseReader<'_> {
+    ghost remaining = { λ _. None };
+
+    fn read(&mut self, buf: &mut [u8]) -> io::Result<usize> {
+        let taken = self.device.take(buf.len().min(self.left.len()))?;
+        let (now, later) = self.left.split_at(taken);
+        buf[..taken].copy_from_slice(now);
+        self.left = later;
+        Ok(taken)
+    }
+}
+
+/// Keeps what it accepts.
 #[derive(Drop)]
 pub struct CaseWriter {
-    device: Interrupting<ShortWriter>,
+    device: Device,
+    pub written: Vec<u8>,
 }
 
 impl CaseWriter {
-    /// Returns what it has accepted.
-    pub fn written(&self) -> &[u8] {
-        &self.device.device.written
+    pub fn new(alloc: Global, device: Device) -> CaseWriter {
+        CaseWriter {
+            device,
+            written: Vec::new(alloc),
+        }
     }
 }
 
 impl Write for CaseWriter {
-    ghost contents = { λ w. Some w.device.device.written.items };
+    ghost contents = { λ _. None };
 
     fn write(&mut self, buf: &[u8]) -> io::Result<usize> {
-        if self.device.device.most == 0 {
-            return Ok(0);
-        }
-        self.device.write(buf)
+        let taken = self.device.take(buf.len())?;
+        self.written.extend_from_slice(&buf[..taken])?;
+        Ok(taken)
     }
 
     fn flush(&mut self) -> io::Result<()> {
-        self.device.flush()
-    }
-}
-
-pub fn writer(alloc: Global, device: Device) -> CaseWriter {
-    CaseWriter {
-        device: Interrupting {
-            device: ShortWriter {
-                written: Vec::new(alloc),
-                most: device.pieces,
-                until_fault: device.until_fault,
-            },
-            times: u32::try_from(device.times).unwrap_or(u32::MAX),
-            interrupted: 0,
-        },
+        Ok(())
     }
 }

@@ -5,7 +5,7 @@ ghost use Rattle.rpg_files.specs.Counting.{faults_of};
 ghost use Rattle.rpg_files.specs.Reading.{reader_of};
 
 use crate::answers::write_bytes;
-use crate::devices::{device_of, reader, writer};
+use crate::devices::{CaseReader, CaseWriter, device_of};
 use crate::row::{Row, bytes_of};
 use rpg_cli_text::TextWriter;
 use rpg_files::{Counted, Next, ReadFault, RecordReader, RecordRoom, send};
@@ -58,7 +58,7 @@ pub fn read_records(alloc: Global, out: &mut TextWriter, row: &Row<'_>) -> Resul
     let times = row.secondary.parse().unwrap_or(1);
     let input = bytes_of(alloc, row.input)?.repeat(alloc, times)?;
     let room = RecordRoom::new(alloc, row.date.parse().unwrap_or(3))?;
-    let mut device = Counted::new(reader(device_of(row.devices), &input));
+    let mut device = Counted::new(CaseReader::new(device_of(row.devices), &input));
     let mut reader = RecordReader::new(&mut device, room);
     write_records(out, &mut reader, times == 1);
     let faults = reader.into_reader().faults();
@@ -69,13 +69,13 @@ pub fn read_records(alloc: Global, out: &mut TextWriter, row: &Row<'_>) -> Resul
 /// Sends the row's input to a writer.
 pub fn send_all(alloc: Global, out: &mut TextWriter, row: &Row<'_>) -> Result<(), AllocError> {
     let bytes = bytes_of(alloc, row.input)?;
-    let mut writer = Counted::new(writer(alloc, device_of(row.devices)));
+    let mut writer = Counted::new(CaseWriter::new(alloc, device_of(row.devices)));
     let sent = match send(&mut writer, &bytes) {
         Ok(()) => bytes.len(),
         Err(fault) => fault.sent,
     };
     let faults = writer.faults();
     out.fill("{} bytes, {} faults: ", &[sent.into(), faults.into()]);
-    write_bytes(out, writer.into_device().written());
+    write_bytes(out, &writer.into_device().written);
     Ok(())
 }

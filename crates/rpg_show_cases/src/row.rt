@@ -7,8 +7,6 @@ use std::alloc::{AllocError, Global};
 pub struct Row<'a> {
     pub task: &'a str,
     pub name: &'a str,
-    /// The expected result of the task, in hex.
-    pub wanted: &'a str,
     pub date: &'a str,
     /// Bytes in hex, or those of each record after a comma.
     pub input: &'a str,
@@ -26,11 +24,10 @@ pub fn row_of(line: &str) -> Row<'_> {
     Row {
         task: column(line, 0),
         name: column(line, 1),
-        wanted: column(line, 2),
-        date: column(line, 3),
-        input: column(line, 4),
-        secondary: column(line, 5),
-        devices: column(line, 6),
+        date: column(line, 2),
+        input: column(line, 3),
+        secondary: column(line, 4),
+        devices: column(line, 5),
     }
 }
 

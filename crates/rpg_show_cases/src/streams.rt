@@ -1,7 +1,7 @@
 //! Runs over readers and writers.
 
 use crate::answers::{write_answer, write_outputs};
-use crate::devices::{CaseWriter, Devices, devices_of, reader, writer};
+use crate::devices::{CaseReader, CaseWriter, Devices, devices_of};
 use crate::row::{Row, bytes_of};
 use rpg_cli_text::TextWriter;
 use rpg_engine::{Readers, Report, RunFault, Writers, execute};
@@ -46,12 +46,11 @@ impl Streamed {
 /// Runs an object over devices.
 pub fn run_over(alloc: Global, object: &[u8], given: &Given<'_>, devices: &Devices) -> Streamed {
     let [input, secondary, print, disk] = *devices;
-    let (input, secondary) = (
-        reader(input, &given.input),
-        reader(secondary, &given.secondary),
+    let mut readers = Readers::new(
+        CaseReader::new(input, &given.input),
+        CaseReader::new(secondary, &given.secondary),
     );
-    let mut readers = Readers::new(input, secondary);
-    let mut writers = Writers::new(writer(alloc, print), writer(alloc, disk));
+    let mut writers = Writers::new(CaseWriter::new(alloc, print), CaseWriter::new(alloc, disk));
     let reported = execute(alloc, object, given.date, &mut readers, &mut writers);
     Streamed {
         reported,
@@ -70,6 +69,6 @@ pub fn run_row(
     let given = Given::of(alloc, row)?;
     let streamed = run_over(alloc, object, &given, &devices_of(row.devices));
     write_answer(out, &streamed.reported);
-    write_outputs(out, streamed.print.written(), streamed.disk.written());
+    write_outputs(out, &streamed.print.written, &streamed.disk.written);
     Ok(())
 }

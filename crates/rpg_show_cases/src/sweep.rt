@@ -29,8 +29,8 @@ fn run(
     write_answer(&mut line, &streamed.reported);
     let line = line.finish()?;
     tally.add_bytes(line.as_bytes());
-    tally.add_bytes(streamed.print.written());
-    tally.add_bytes(streamed.disk.written());
+    tally.add_bytes(&streamed.print.written);
+    tally.add_bytes(&streamed.disk.written);
     tally.count(if streamed.is_past_bound() {
         "past the bound"
     } else {

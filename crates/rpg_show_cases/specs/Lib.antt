@@ -1,2 +1,0 @@
--- What a run gave beside what its case expects.
-pub mod Outcome
