@@ -1,14 +1,15 @@
 #!/usr/bin/env python3
-"""Tries wrong definitions: the proofs that the compiler's agree with those of what cards mean, and the equations of operations, must refuse each of them.
+"""Tries wrong definitions: the proofs that the compiler's agree with those of what cards mean, and the equations and laws of operations, must refuse each.
 
 usage, at the top of the repository, once the libraries stand (`rt ci`, or `rt all check`):
-    bench/wrong_definitions.py [--libraries FOLDER ..] [NAME..]
+    bench/wrong_definitions.py [--libraries FOLDER ..] [--laws] [NAME..]
 
 bench/wrong_definitions.txt has the wrong definitions, each an edit of a file of crates/*/specs. For each, the file is copied with its edit,
 and so are the definitions above it and the proofs of the equations. All copies are checked in one go, as one crate in a folder of its own.
 A wrong definition is refused if a proof over its copies isn't accepted. A control, which changes nothing, must be proved: a proof that
 is refused for another reason shows there.
 
+--laws tries the laws of rpg_operation_laws alone, for which only the libraries below that crate are needed. Their wrong definitions begin with P.
 --libraries names further copies of the repository whose libraries may be used. The last line is 'N as wanted, M not'.
 """
 
@@ -27,10 +28,14 @@ CRATE = "wrong_definitions"
 # the definitions that may be wrong, or that stand above such a one
 DEFINITIONS = (
     "rpg_program", "rpg_cards", "rpg_symbols", "rpg_faults_flow", "rpg_faults_operands", "rpg_faults_limits", "rpg_faults_data", "rpg_faults",
-    "rpg_compile_program", "rpg_meaning",
+    "rpg_compile_program", "rpg_meaning", "rpg_operation_laws",
 )
-# the proofs of the equations
-EQUATIONS = {
+# the proofs of the laws, and all proofs, which are also those of the equations
+LAWS = {
+    "rpg_program": ("PlaceLaws", "Searches"),
+    "rpg_operation_laws": ("Found", "Labels", "Lines", "Results"),
+}
+EQUATIONS = LAWS | {
     "rpg_meaning": (
         "Calculations.MeantLists", "Calculations.MeantFiles", "Calculations.MeantConstants", "Calculations.MeantSections", "Calculations.MeantForms",
         "Calculations.MeantLines", "Calculations.MeantCalculations", "Jobs.MeantTypes", "Jobs.MeantFirst", "Operations.Done",
@@ -90,10 +95,10 @@ def names_in(folder):
     return [".".join(path.relative_to(folder).with_suffix("").parts) for path in folder.rglob("*.antt")]
 
 
-def modules():
+def modules(proofs):
     """All modules that may be copied, with those of them that each uses."""
     every = {Module(crate, "specs", name) for crate in DEFINITIONS for name in names_in(Path("crates", crate, "specs"))}
-    every |= {Module(crate, "proofs", name) for crate, names in EQUATIONS.items() for name in names}
+    every |= {Module(crate, "proofs", name) for crate, names in proofs.items() for name in names}
     return {it: {Module(*found) for found in USE.findall(it.path.read_text(encoding="utf-8"))} & every for it in every}
 
 
@@ -137,11 +142,11 @@ def library(crate, folders):
     sys.exit(f"there is no library of {crate}: run rt ci, or name a copy of the repository that has it by --libraries")
 
 
-def checked(room, folders):
+def checked(room, proofs, folders):
     """What rattle prints of the room."""
     rows = [row for line in Path("crates.txt").read_text().splitlines() if (row := line.partition("#")[0].strip())]
     uses = {row.partition(":")[0].split()[0]: row.partition(":")[2].split() for row in rows}
-    wanted, left = {}, ["rpg_meaning"]
+    wanted, left = {}, list(proofs)
     while left:
         it = left.pop()
         if it in uses and it not in wanted:
@@ -175,10 +180,13 @@ def verdict(wrong, uses, printed):
 def main():
     words = argparse.ArgumentParser(usage=__doc__)
     words.add_argument("--libraries", action="append", default=[])
+    words.add_argument("--laws", action="store_true")
     words.add_argument("names", nargs="*")
     words = words.parse_args()
+    proofs = LAWS if words.laws else EQUATIONS
+    uses = modules(proofs)
     all_wrong = [it for it in wrong_definitions(Path("bench/wrong_definitions.txt").read_text(encoding="utf-8")) if not words.names or it.name in words.names]
-    uses = modules()
+    all_wrong = [it for it in all_wrong if not words.laws or it.name.startswith("P")]
     with tempfile.TemporaryDirectory(prefix="wrong-") as name:
         room = Path(name)
         for part in ("src", "specs", "proofs"):
@@ -188,9 +196,11 @@ def main():
             written(it, uses, room)
         for part in ("specs", "proofs"):
             (room / part / "Lib.antt").write_text("".join(f"pub mod {it.stem}\n" for it in sorted((room / part).glob("*.antt"))))
-        printed = checked(room, [".", *words.libraries])
+        printed = checked(room, proofs, [".", *words.libraries])
         if os.environ.get("KEEP"):
             Path(os.environ["KEEP"]).write_text(printed)
+        if not re.search(r"^logic=", printed, re.M):
+            sys.exit(f"the check didn't run to its end:\n{printed}")
     wanted = 0
     for it in all_wrong:
         good, text = verdict(it, uses, printed)

@@ -1,0 +1,4 @@
+pub mod Found
+pub mod Labels
+pub mod Output
+pub mod Results
