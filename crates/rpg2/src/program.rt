@@ -10,7 +10,7 @@ use rpg_cli_reports::{
     say,
 };
 use rpg_cli_run::{go_files, run_files};
-use rpg_cli_words::{Format, Request, refuse_bytes, refuse_same_file, request_of};
+use rpg_cli_words::{CommandName, Format, Request, refuse_bytes, refuse_same_file, request_of};
 use std::io::{Error, ErrorKind, Write};
 use std::process::ExitCode;
 use std::rt::{Clock, Env, Files};
@@ -18,28 +18,28 @@ use std::{env, io};
 
 fn answer_to<R: Clock + Env + Files + Input + Print + AllocGlobal, L: Listener>(
     rt: &R,
-    request: &Request,
+    request: &mut Request,
     listener: &mut L,
 ) -> Result<Answer, CommandStop> {
-    match request {
-        Request::Compile(arguments) => compile_files(rt, arguments, listener),
-        Request::Check(arguments) => check_files(rt, arguments, listener),
-        Request::List(arguments) => list_file(rt, arguments, listener),
-        Request::Cards(arguments) => cards_file(rt, arguments, listener),
-        Request::Records(arguments) => records_file(rt, arguments, listener),
-        Request::Fit(arguments) => fit_file(rt, arguments, listener),
-        Request::Verify(arguments) => verify_file(rt, arguments, listener),
-        Request::Show(arguments) => show_file(rt, arguments, listener),
-        Request::Run(arguments) => run_files(rt, arguments, listener),
-        Request::Go(arguments) => go_files(rt, arguments, listener),
-        Request::Explain(arguments) => explain(rt.alloc(), arguments, listener),
+    match request.command {
+        CommandName::Compile => compile_files(rt, request, listener),
+        CommandName::Check => check_files(rt, request, listener),
+        CommandName::List => list_file(rt, request, listener),
+        CommandName::Cards => cards_file(rt, request, listener),
+        CommandName::Records => records_file(rt, request, listener),
+        CommandName::Fit => fit_file(rt, request, listener),
+        CommandName::Verify => verify_file(rt, request, listener),
+        CommandName::Show => show_file(rt, request, listener),
+        CommandName::Run => run_files(rt, request, listener),
+        CommandName::Go => go_files(rt, request, listener),
+        CommandName::Explain => explain(rt.alloc(), request, listener),
     }
 }
 
 /// Runs a command, prints one line to `out`, and returns the exit status. If the arguments ask for JSON, diagnostics are objects.
 fn obey<R: Clock + Env + Files + Input + Print + Eprint + AllocGlobal, W: Write, L: Listener>(
     rt: &R,
-    request: &Request,
+    request: &mut Request,
     out: &mut W,
     listener: &mut L,
 ) -> u8
@@ -47,7 +47,7 @@ fn obey<R: Clock + Env + Files + Input + Print + Eprint + AllocGlobal, W: Write,
 {
     match files_of(rt.alloc(), request) {
         Ok(files) => {
-            let format = request.answer().format;
+            let format = request.answer.format;
             let mut listener = FormedListener::new(rt.alloc(), listener, files, format);
             obey_as_asked(rt, request, out, &mut listener)
         }
@@ -67,7 +67,7 @@ fn obey_as_asked<
     R: Clock + Env + Files + Input + Print + Eprint + AllocGlobal,
     W: Write,
     L: Listener,
->(rt: &R, request: &Request, out: &mut W, listener: &mut L) -> u8
+>(rt: &R, request: &mut Request, out: &mut W, listener: &mut L) -> u8
     ensures { PrintsALine (W.contents out.old) (W.contents out.new) result }
 {
     let alloc = rt.alloc();
@@ -99,7 +99,7 @@ fn arguments<R: Env + AllocGlobal>(rt: &R) -> io::Result<Vec<String>> {
 /// Runs a command over the standard streams, and returns the exit status.
 fn obey_on_streams<R: Clock + Env + Files + Input + Print + Eprint + AllocGlobal>(
     rt: &R,
-    request: &Request,
+    request: &mut Request,
     listener: &mut StandardStreams<'_, R>,
 ) -> u8 {
     if request.writes_standard_output() {
@@ -119,7 +119,7 @@ fn run_on_streams<R: Clock + Env + Files + Input + Print + Eprint + AllocGlobal>
     let mut listener = StandardStreams::new(rt, has_colours);
     match request_of(rt.alloc(), arguments) {
         Err(refusal) => refuse(rt, &refusal, &mut io::writer(rt), &mut listener),
-        Ok(request) => obey_on_streams(rt, &request, &mut listener),
+        Ok(mut request) => obey_on_streams(rt, &mut request, &mut listener),
     }
 }
 

@@ -1,7 +1,7 @@
 -- The fault of a file that a word names.
 use Rattle.std.specs.Prelude.{Result, Ok, Err}
 use Rattle.rpg_cli_files.specs.declared.files.FileFault.{FileFault}
-use Rattle.rpg_cli_words.specs.declared.request.FileArgument.{FileArgument}
+use Rattle.rpg_cli_words.specs.declared.files.FileArgument.{FileArgument}
 use Rattle.rpg_cli_answers.specs.declared.answer.Answer.{Answer}
 use Rattle.rpg_cli_answers.specs.declared.answer.Answer.TheVariants as answers
 

@@ -8,7 +8,7 @@ use rpg_cli_answers::{
 };
 use rpg_cli_files::{FileFault, Opened, Reason, file_bytes, lines, write_bytes};
 use rpg_cli_messages::{is_object, source_messages};
-use rpg_cli_words::{FileArgument, FitArguments, is_standard};
+use rpg_cli_words::{FileArgument, Request, is_standard};
 use rpg_faults::{CardFault, SourceCode, SourceFault, source_faults};
 use rpg_fit::{FitFault, FittedDeck, Settings, Switches, TableFile, fit};
 use rpg_sheet::{MOST_CARDS, SheetCode};
@@ -22,10 +22,10 @@ const PAST_LIMIT: u16 = MOST_CARDS + 1;
 /// Reads the records of the table files that the arguments name.
 fn table_records<R: Files + AllocGlobal>(
     rt: &R,
-    arguments: &FitArguments,
+    request: &Request,
 ) -> Result<Vec<Vec<u8>>, Answer> {
     let mut records = Vec::new(rt.alloc());
-    for (place, table) in arguments.tables.iter().enumerate() {
+    for (place, table) in request.tables.iter().enumerate() {
         let bytes = named(FileArgument::Table(place), file_bytes(rt, table.path))?;
         if records.push(bytes).is_err() {
             return Err(Answer::NoMemory);
@@ -37,11 +37,11 @@ fn table_records<R: Files + AllocGlobal>(
 /// Returns the table files with their names.
 fn table_files<'b>(
     alloc: Global,
-    arguments: &FitArguments<'b>,
+    request: &Request<'b>,
     records: &'b [Vec<u8>],
 ) -> Result<Vec<TableFile<'b>>, AllocError> {
     let mut files = Vec::new(alloc);
-    for (table, bytes) in arguments.tables.iter().zip(records) {
+    for (table, bytes) in request.tables.iter().zip(records) {
         files.push(TableFile {
             name: table.name.as_bytes(),
             records: bytes.as_slice(),
@@ -50,8 +50,8 @@ fn table_files<'b>(
     Ok(files)
 }
 
-fn switches_of(arguments: &FitArguments) -> Switches {
-    match arguments.switches {
+fn switches_of(request: &Request) -> Switches {
+    match request.switches {
         Some(digits) => Switches::of(digits.as_bytes()).unwrap_or(Switches::OFF),
         None => Switches::OFF,
     }
@@ -60,14 +60,14 @@ fn switches_of(arguments: &FitArguments) -> Switches {
 /// Rewrites a deck.
 fn rewrite(
     alloc: Global,
-    arguments: &FitArguments,
+    request: &Request,
     source: &[u8],
     records: &[Vec<u8>],
 ) -> Result<FittedDeck, FitFault> {
-    let tables = table_files(alloc, arguments, records)?;
+    let tables = table_files(alloc, request, records)?;
     let settings = Settings {
-        switches: switches_of(arguments),
-        keeps_forms: arguments.keeps_forms,
+        switches: switches_of(request),
+        keeps_forms: request.keeps_forms,
         tables: tables.as_slice(),
     };
     fit(alloc, source, &settings)
@@ -85,15 +85,15 @@ fn count_lines(text: &[u8]) -> usize {
 /// Reports that a deck has too many cards, or that the new one would, and returns the answer.
 fn refuse_long<L: Listener>(
     alloc: Global,
-    arguments: &FitArguments,
+    request: &Request,
     source: &[u8],
     listener: &mut L,
 ) -> Answer {
     let cards = count_lines(source);
     let message = if cards > usize::from(MOST_CARDS) {
-        long_deck_message(alloc, arguments.source, cards, PAST_LIMIT)
+        long_deck_message(alloc, request.source(), cards, PAST_LIMIT)
     } else {
-        too_many_message(alloc, arguments.source)
+        too_many_message(alloc, request.source())
     };
     report_message(listener, message);
     Answer::NewDeck(SourceFault::At {
@@ -106,31 +106,31 @@ fn refuse_long<L: Listener>(
 /// Reports why a deck isn't rewritten, and returns the answer.
 fn refuse<L: Listener>(
     alloc: Global,
-    arguments: &FitArguments,
+    request: &Request,
     source: &[u8],
     fault: &FitFault,
     listener: &mut L,
 ) -> Answer {
     match fault {
         FitFault::Refused(refusal) => {
-            let message = refusal_message(alloc, arguments.source, source, refusal);
+            let message = refusal_message(alloc, request.source(), source, refusal);
             report_refusal(listener, message);
             Answer::FitRefused {
                 card: refusal.card as u64,
                 rule: refusal.rule.number(),
             }
         }
-        FitFault::TooMany => refuse_long(alloc, arguments, source, listener),
+        FitFault::TooMany => refuse_long(alloc, request, source, listener),
         FitFault::NoMemory => Answer::NoMemory,
     }
 }
 
 /// Refuses to write the new deck over a file that is read.
-fn keep_files<R: Files>(rt: &R, arguments: &FitArguments, path: &str) -> Result<(), CommandStop> {
+fn keep_files<R: Files>(rt: &R, request: &Request, path: &str) -> Result<(), CommandStop> {
     let written = NamedFile::at(rt, FileArgument::Fitted, path);
-    let source = NamedFile::at(rt, FileArgument::Source, arguments.source);
+    let source = NamedFile::at(rt, FileArgument::Source, request.source());
     refuse_same_file(written, &[source])?;
-    for (place, table) in arguments.tables.iter().enumerate() {
+    for (place, table) in request.tables.iter().enumerate() {
         let file = NamedFile::at(rt, FileArgument::Table(place), table.path);
         refuse_same_file(written, &[file])?;
     }
@@ -152,17 +152,17 @@ fn show_new_deck<R: Files + Print>(rt: &R, new: &[u8]) -> Result<(), Answer> {
 /// Writes the new deck, if the arguments ask for it.
 fn write_new_deck<R: Files + Print + AllocGlobal>(
     rt: &R,
-    arguments: &FitArguments,
+    request: &Request,
     new: &[u8],
 ) -> Result<(), CommandStop> {
-    match arguments.new_deck {
+    match request.new_deck {
         None => Ok(()),
         Some(path) if is_standard(path) => {
-            keep_files(rt, arguments, "/dev/stdout")?;
+            keep_files(rt, request, "/dev/stdout")?;
             Ok(show_new_deck(rt, new)?)
         }
         Some(path) => {
-            keep_files(rt, arguments, path)?;
+            keep_files(rt, request, path)?;
             Ok(named(FileArgument::Fitted, write_bytes(rt, path, new))?)
         }
     }
@@ -171,14 +171,14 @@ fn write_new_deck<R: Files + Print + AllocGlobal>(
 /// Reports the changes of a deck, and the faults of the new one. If memory runs out for them, nothing is printed.
 fn report_fit<L: Listener>(
     alloc: Global,
-    arguments: &FitArguments,
+    request: &Request,
     source: &[u8],
     fit: &FittedDeck,
     listener: &mut L,
 ) {
-    let changes = change_messages(alloc, arguments.source, source, fit);
+    let changes = change_messages(alloc, request.source(), source, fit);
     report_message(listener, changes);
-    let faults = new_deck_messages(alloc, arguments.new_name(), arguments.source, fit);
+    let faults = new_deck_messages(alloc, request.new_name(), request.source(), fit);
     report_message(listener, faults);
 }
 
@@ -205,12 +205,12 @@ fn answer_of(fit: &FittedDeck) -> Answer {
 /// Reports that an object program is given in place of a deck, as for any source, and returns the answer.
 fn refuse_object<L: Listener>(
     alloc: Global,
-    arguments: &FitArguments,
+    request: &Request,
     object: &[u8],
     listener: &mut L,
 ) -> Result<Answer, Answer> {
     let judged = source_faults(alloc, object)?;
-    let messages = source_messages(alloc, arguments.source, object, &judged, 1);
+    let messages = source_messages(alloc, request.source(), object, &judged, 1);
     report_message(listener, messages);
     match first_fault(&judged.faults) {
         None => Ok(Answer::Faultless),
@@ -221,13 +221,13 @@ fn refuse_object<L: Listener>(
 /// Writes a new deck, and reports its changes.
 fn conclude<R: Files + Print + AllocGlobal, L: Listener>(
     rt: &R,
-    arguments: &FitArguments,
+    request: &Request,
     source: &[u8],
     fit: &FittedDeck,
     listener: &mut L,
 ) -> Result<Answer, CommandStop> {
-    write_new_deck(rt, arguments, fit.fitted.new.as_slice())?;
-    report_fit(rt.alloc(), arguments, source, fit, listener);
+    write_new_deck(rt, request, fit.fitted.new.as_slice())?;
+    report_fit(rt.alloc(), request, source, fit, listener);
     Ok(answer_of(fit))
 }
 
@@ -235,16 +235,16 @@ fn conclude<R: Files + Print + AllocGlobal, L: Listener>(
 /// object program, nothing is written.
 pub fn fit_file<R: Files + Print + AllocGlobal, L: Listener>(
     rt: &R,
-    arguments: &FitArguments,
+    request: &Request,
     listener: &mut L,
 ) -> Result<Answer, CommandStop> {
-    let source = named(FileArgument::Source, file_bytes(rt, arguments.source))?;
+    let source = named(FileArgument::Source, file_bytes(rt, request.source()))?;
     if is_object(&source) {
-        return Ok(refuse_object(rt.alloc(), arguments, &source, listener)?);
+        return Ok(refuse_object(rt.alloc(), request, &source, listener)?);
     }
-    let records = table_records(rt, arguments)?;
-    match rewrite(rt.alloc(), arguments, &source, records.as_slice()) {
-        Ok(fit) => conclude(rt, arguments, &source, &fit, listener),
-        Err(fault) => Ok(refuse(rt.alloc(), arguments, &source, &fault, listener)),
+    let records = table_records(rt, request)?;
+    match rewrite(rt.alloc(), request, &source, records.as_slice()) {
+        Ok(fit) => conclude(rt, request, &source, &fit, listener),
+        Err(fault) => Ok(refuse(rt.alloc(), request, &source, &fault, listener)),
     }
 }

@@ -10,7 +10,7 @@ use rpg_cli_files::{
 };
 use rpg_cli_messages::{is_object, object_message};
 use rpg_cli_words::{
-    FileArgument, RecordFraming, RecordsArguments, RecordsWay, SameFile, Shared, is_standard,
+    FileArgument, RecordFraming, RecordsWay, Request, SameFile, Shared, is_standard,
 };
 use rpg_record_decks::{DeckArguments, DeckFault, fitted_deck, layout_of};
 use rpg_record_lines::{
@@ -37,22 +37,23 @@ fn refusal(fault: DeckFault) -> Answer {
 /// Returns the layout of the records, from the deck. Reports a bad card.
 fn layout<L: Listener>(
     alloc: Global,
-    arguments: &RecordsArguments,
+    request: &Request,
     source: &[u8],
     listener: &mut L,
 ) -> Result<Layout, Answer> {
     let deck_arguments = DeckArguments {
-        file: arguments.file,
-        length: arguments.length,
-        are_lines: arguments.framing == RecordFraming::Lines,
+        file: request.file_name,
+        length: request.length,
+        are_lines: request.framing == RecordFraming::Lines,
     };
     match layout_of(alloc, source, deck_arguments) {
         Ok(layout) => Ok(layout),
         Err(fault) => {
+            let path = request.file(request.deck_argument());
             let message = if is_object(source) {
-                object_message(alloc, arguments.deck)
+                object_message(alloc, path)
             } else {
-                deck_message(alloc, arguments.deck, fault)
+                deck_message(alloc, path, fault)
             };
             report_refusal(listener, message);
             Err(refusal(fault))
@@ -60,39 +61,40 @@ fn layout<L: Listener>(
     }
 }
 
-fn format_of(arguments: &RecordsArguments) -> RecordFormat {
+fn format_of(request: &Request) -> RecordFormat {
     RecordFormat {
-        page: if arguments.is_ascii {
+        page: if request.is_ascii {
             Page::Ascii
         } else {
             Page::Ebcdic
         },
-        framing: match arguments.framing {
+        framing: match request.framing {
             RecordFraming::EndToEnd => Framing::EndToEnd,
             RecordFraming::Descriptors => Framing::Descriptors,
             RecordFraming::Lines => Framing::Lines,
         },
-        low_blank: arguments.low_blank,
-        dropped: arguments.dropped,
+        low_blank: request.low_blank,
+        dropped: request.dropped,
     }
 }
 
 /// Opens the input.
-fn opened_input<R: Files>(rt: &R, arguments: &RecordsArguments) -> Result<Opened<R::File>, Answer> {
-    if is_standard(arguments.input) {
+fn opened_input<R: Files>(rt: &R, request: &Request) -> Result<Opened<R::File>, Answer> {
+    let path = request.file(FileArgument::In);
+    if is_standard(path) {
         return Ok(Opened::Standard);
     }
-    let file = named(FileArgument::In, input_file(rt, arguments.input))?;
+    let file = named(FileArgument::In, input_file(rt, path))?;
     Ok(Opened::File(file))
 }
 
 /// Whether NEW and OUT would be the same file, if neither exists yet.
 fn is_shared<R: Files + AllocGlobal>(
     rt: &R,
-    arguments: &RecordsArguments,
+    request: &Request,
     pending: &Option<Pending<'_>>,
 ) -> Result<bool, Answer> {
-    match (pending, arguments.new_deck) {
+    match (pending, request.new_deck) {
         (Some(pending), Some(path)) => Ok(pending.goes_to(rt, path)?),
         _ => Ok(false),
     }
@@ -101,17 +103,17 @@ fn is_shared<R: Files + AllocGlobal>(
 /// Refuses to write a file that another argument names too.
 fn keep_files<R: Files + AllocGlobal>(
     rt: &R,
-    arguments: &RecordsArguments,
+    request: &Request,
     input: &Opened<R::File>,
     pending: &Option<Pending<'_>>,
 ) -> Result<(), CommandStop> {
-    let deck = NamedFile::at(rt, arguments.deck_argument(), arguments.deck);
+    let deck = NamedFile::named(rt, request.deck_argument(), request.deck);
     let input = NamedFile::opened(rt, FileArgument::In, input, "/dev/stdin");
-    let output = NamedFile::at(rt, FileArgument::Out, arguments.output);
-    let new_deck = NamedFile::named(rt, FileArgument::NewDeck, arguments.new_deck);
+    let output = NamedFile::named(rt, FileArgument::Out, request.output);
+    let new_deck = NamedFile::named(rt, FileArgument::NewDeck, request.new_deck);
     refuse_same_file(output, &[input, deck])?;
     refuse_same_file(new_deck, &[input, output, deck])?;
-    if is_shared(rt, arguments, pending)? {
+    if is_shared(rt, request, pending)? {
         return Err(CommandStop::SameFile(SameFile {
             earlier: FileArgument::Out,
             written: FileArgument::NewDeck,
@@ -129,7 +131,7 @@ fn reason_of(fault: Option<Reason>) -> Reason {
 /// Returns the answer for a conversion that ended early. Reports a bad record.
 fn early_answer<L: Listener>(
     alloc: Global,
-    arguments: &RecordsArguments,
+    request: &Request,
     fault: ConversionFault,
     read: Option<Reason>,
     written: Option<Reason>,
@@ -141,7 +143,8 @@ fn early_answer<L: Listener>(
             offset,
             fault,
         } => {
-            let message = record_message(alloc, arguments.input, number, offset, fault);
+            let path = request.file(FileArgument::In);
+            let message = record_message(alloc, path, number, offset, fault);
             report_refusal(listener, message);
             Answer::RecordRefused { number }
         }
@@ -160,13 +163,13 @@ fn early_answer<L: Listener>(
 /// Converts records to lines, or lines to records, and flushes the output.
 fn convert_all<S: Read, T: Write>(
     alloc: Global,
-    arguments: &RecordsArguments,
+    request: &Request,
     layout: &Layout,
     source: &mut S,
     target: &mut T,
 ) -> Result<Counts, ConversionFault> {
-    let format = format_of(arguments);
-    let counts = match arguments.way {
+    let format = format_of(request);
+    let counts = match request.way {
         RecordsWay::ToLines => records_to_lines(alloc, layout, format, source, target)?,
         RecordsWay::ToRecords => lines_to_records(alloc, layout, format, source, target)?,
     };
@@ -176,7 +179,7 @@ fn convert_all<S: Read, T: Write>(
     }
 }
 
-/// Like `convert_all`, for the files of the arguments. Reports what ends it early.
+/// Like `convert_all`, for the files of the request. Reports what ends it early.
 fn convert<
     F: Read + Drop,
     S: Read + Drop,
@@ -185,7 +188,7 @@ fn convert<
     L: Listener,
 >(
     alloc: Global,
-    arguments: &RecordsArguments,
+    request: &Request,
     layout: &Layout,
     mut source: RecordSource<F, S>,
     target: LineTarget<T, P>,
@@ -194,11 +197,11 @@ fn convert<
     let Ok(mut writer) = BufWriter::with_capacity(alloc, WRITE_ROOM, target) else {
         return Err(Answer::NoMemory);
     };
-    match convert_all(alloc, arguments, layout, &mut source, &mut writer) {
+    match convert_all(alloc, request, layout, &mut source, &mut writer) {
         Ok(counts) => Ok(counts),
         Err(fault) => {
             let (read, written) = (source.fault(), writer.get_ref().fault());
-            Err(early_answer(alloc, arguments, fault, read, written, listener))
+            Err(early_answer(alloc, request, fault, read, written, listener))
         }
     }
 }
@@ -206,38 +209,38 @@ fn convert<
 /// Empties the output, unless another argument names the same file.
 fn empty_output<R: Files + AllocGlobal>(
     rt: &R,
-    arguments: &RecordsArguments,
+    request: &Request,
     input: &Opened<R::File>,
     output: &Opened<R::File>,
     pending: &Option<Pending<'_>>,
 ) -> Result<(), CommandStop> {
-    keep_files(rt, arguments, input, pending)?;
+    keep_files(rt, request, input, pending)?;
     Ok(named(FileArgument::Out, output.empty())?)
 }
 
 /// Converts the open files, unless another argument names a file that is written.
 fn convert_opened<R: Files + Input + Print + AllocGlobal, L: Listener>(
     rt: &R,
-    arguments: &RecordsArguments,
+    request: &Request,
     layout: &Layout,
     input: Opened<R::File>,
     output: Opened<R::File>,
     pending: &Option<Pending<'_>>,
     listener: &mut L,
 ) -> Result<Counts, CommandStop> {
-    empty_output(rt, arguments, &input, &output, pending)?;
+    empty_output(rt, request, &input, &output, pending)?;
     let (source, target) = (records(rt, input), lines(rt, output));
-    Ok(convert(rt.alloc(), arguments, layout, source, target, listener)?)
+    Ok(convert(rt.alloc(), request, layout, source, target, listener)?)
 }
 
 /// Writes the deck that reads the lines, if the arguments ask for it.
 fn write_deck<R: Files + AllocGlobal>(
     rt: &R,
-    arguments: &RecordsArguments,
+    request: &Request,
     source: &[u8],
     layout: &Layout,
 ) -> Result<(), Answer> {
-    let Some(path) = arguments.new_deck else {
+    let Some(path) = request.new_deck else {
         return Ok(());
     };
     let Ok(deck) = fitted_deck(rt.alloc(), source, layout) else {
@@ -271,13 +274,14 @@ fn conclude<R: Files>(
 /// Converts the records or the lines of a file.
 fn convert_file<R: Files + Input + Print + AllocGlobal, L: Listener>(
     rt: &R,
-    arguments: &RecordsArguments,
+    request: &Request,
     layout: &Layout,
     listener: &mut L,
 ) -> Result<Counts, CommandStop> {
-    let input = opened_input(rt, arguments)?;
-    let KeptFile { opened, pending } = named(FileArgument::Out, kept_file(rt, arguments.output))?;
-    let converted = convert_opened(rt, arguments, layout, input, opened, &pending, listener);
+    let input = opened_input(rt, request)?;
+    let place = request.file(FileArgument::Out);
+    let KeptFile { opened, pending } = named(FileArgument::Out, kept_file(rt, place))?;
+    let converted = convert_opened(rt, request, layout, input, opened, &pending, listener);
     match &pending {
         Some(pending) => conclude(rt, pending, converted),
         None => converted,
@@ -290,13 +294,14 @@ fn convert_file<R: Files + Input + Print + AllocGlobal, L: Listener>(
 /// unchanged.
 pub fn records_file<R: Files + Input + Print + AllocGlobal, L: Listener>(
     rt: &R,
-    arguments: &RecordsArguments,
+    request: &Request,
     listener: &mut L,
 ) -> Result<Answer, CommandStop> {
-    let source = named(arguments.deck_argument(), file_bytes(rt, arguments.deck))?;
-    let layout = layout(rt.alloc(), arguments, &source, listener)?;
-    let Counts { records, dropped } = convert_file(rt, arguments, &layout, listener)?;
-    write_deck(rt, arguments, &source, &layout)?;
+    let deck = request.deck_argument();
+    let source = named(deck, file_bytes(rt, request.file(deck)))?;
+    let layout = layout(rt.alloc(), request, &source, listener)?;
+    let Counts { records, dropped } = convert_file(rt, request, &layout, listener)?;
+    write_deck(rt, request, &source, &layout)?;
     Ok(Answer::Records {
         records,
         dropped,

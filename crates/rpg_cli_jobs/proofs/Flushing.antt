@@ -5,8 +5,8 @@ use Rattle.rpg_cli_jobs.specs.Running.{ReportsFaults}
 use Rattle.rpg_cli_answers.specs.declared.answer.Answer.{Answer}
 use Rattle.rpg_cli_answers.specs.declared.answer.Answer.TheVariants as answers
 use Rattle.rpg_cli_files.specs.declared.files.FileFault.{FileFault}
-use Rattle.rpg_cli_words.specs.declared.request.FileArgument.{FileArgument}
-use Rattle.rpg_cli_words.specs.declared.request.FileArgument.TheVariants as arguments
+use Rattle.rpg_cli_words.specs.declared.files.FileArgument.{FileArgument}
+use Rattle.rpg_cli_words.specs.declared.files.FileArgument.TheVariants as arguments
 use Rattle.rpg_engine.proofs.Outputs.{each_file}
 use Rattle.rpg_engine.proofs.Whose.{none_rises, only_rises}
 use Rattle.rpg_engine.specs.Faults.{Counts, NoneRises, OnlyRises, Reader, Writer}

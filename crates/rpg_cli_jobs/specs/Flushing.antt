@@ -4,7 +4,7 @@ use Rattle.std.specs.Io.KnownBytes.{Keeps}
 use Rattle.rpg_cli_answers.specs.declared.answer.Answer.{Answer}
 use Rattle.rpg_cli_answers.specs.declared.answer.Answer.TheVariants as answers
 use Rattle.rpg_cli_files.specs.declared.files.FileFault.{FileFault}
-use Rattle.rpg_cli_words.specs.declared.request.FileArgument.TheVariants as arguments
+use Rattle.rpg_cli_words.specs.declared.files.FileArgument.TheVariants as arguments
 use Rattle.rpg_engine.specs.Devices.{file_contents}
 use Rattle.rpg_engine.specs.Faults.{write_faults}
 use Rattle.rpg_engine.specs.declared.files.OutputFile.{OutputFile}

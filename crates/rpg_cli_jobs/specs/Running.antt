@@ -1,7 +1,7 @@
 -- The answer for a run whose writers are flushed after it.
 use Rattle.std.specs.Prelude.{ℕ, List, Option, Result, Ok, Err}
-use Rattle.rpg_cli_words.specs.declared.request.FileArgument.{FileArgument}
-use Rattle.rpg_cli_words.specs.declared.request.FileArgument.TheVariants as arguments
+use Rattle.rpg_cli_words.specs.declared.files.FileArgument.{FileArgument}
+use Rattle.rpg_cli_words.specs.declared.files.FileArgument.TheVariants as arguments
 use Rattle.rpg_engine.specs.Devices.{Lent}
 use Rattle.rpg_engine.specs.Faults.{Counts, FaultsAre, OnlyRises, Writer, device_counts}
 use Rattle.rpg_engine.specs.declared.fault.RunFault.{RunFault}

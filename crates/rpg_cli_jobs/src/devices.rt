@@ -7,7 +7,7 @@ use rpg_cli_files::{
     KeptFile, LineTarget, Opened, Pending, RecordSource, input_file, kept_file, lines, output_file,
     records,
 };
-use rpg_cli_words::{FileArgument, RunArguments, is_standard};
+use rpg_cli_words::{FileArgument, Request, is_standard};
 use std::io::Printer;
 use std::rt::Files;
 
@@ -23,26 +23,20 @@ pub struct RunFiles<F> {
 /// Opens the inputs, then the outputs. Those that are written beside their places go into `kept`.
 pub fn open_files<'a, R: Files + AllocGlobal>(
     rt: &R,
-    arguments: &RunArguments<'a>,
+    request: &Request<'a>,
     wanted: WantedFiles<'a>,
     kept: &mut Kept<'a>,
 ) -> Result<RunFiles<R::File>, Answer> {
-    let input = read_file(rt, FileArgument::Input, Some(arguments.input))?;
+    let input = read_file(rt, FileArgument::Input, request.input)?;
     let secondary = read_file(rt, FileArgument::Secondary, wanted.secondary)?;
     let print = written_file(
         rt,
-        arguments,
+        request,
         FileArgument::Print,
-        Some(arguments.print),
+        request.print,
         &mut kept.print,
     )?;
-    let disk = written_file(
-        rt,
-        arguments,
-        FileArgument::Disk,
-        wanted.disk,
-        &mut kept.disk,
-    )?;
+    let disk = written_file(rt, request, FileArgument::Disk, wanted.disk, &mut kept.disk)?;
     Ok(RunFiles {
         input,
         secondary,
@@ -67,7 +61,7 @@ fn read_file<R: Files>(
 /// Opens a file for writing, if there is one, or creates a new one beside it, which goes into `new`.
 fn written_file<'a, R: Files + AllocGlobal>(
     rt: &R,
-    arguments: &RunArguments,
+    request: &Request,
     argument: FileArgument,
     path: Option<&'a str>,
     new: &mut Option<Pending<'a>>,
@@ -75,7 +69,7 @@ fn written_file<'a, R: Files + AllocGlobal>(
     match path {
         None => Ok(Opened::Nothing),
         Some(path) if is_standard(path) => Ok(Opened::Standard),
-        Some(path) if arguments.keeps => {
+        Some(path) if request.keeps => {
             let KeptFile { opened, pending } = named(argument, kept_file(rt, path))?;
             *new = pending;
             Ok(opened)
@@ -85,15 +79,11 @@ fn written_file<'a, R: Files + AllocGlobal>(
 }
 
 /// Returns the files that a run reads: the object, its source and both inputs.
-fn read_files<R: Files>(
-    rt: &R,
-    arguments: &RunArguments,
-    files: &RunFiles<R::File>,
-) -> [NamedFile; 4] {
-    let stream = "/dev/stdin";
+fn read_files<R: Files>(rt: &R, request: &Request, files: &RunFiles<R::File>) -> [NamedFile; 4] {
+    let (stream, program) = ("/dev/stdin", request.program());
     [
-        NamedFile::at(rt, arguments.program, system_path(arguments.object)),
-        NamedFile::named(rt, FileArgument::OwnSource, arguments.source),
+        NamedFile::at(rt, program, system_path(request.file(program))),
+        NamedFile::named(rt, FileArgument::OwnSource, request.own_source),
         NamedFile::opened(rt, FileArgument::Input, &files.input, stream),
         NamedFile::opened(rt, FileArgument::Secondary, &files.secondary, stream),
     ]
@@ -102,12 +92,12 @@ fn read_files<R: Files>(
 /// Refuses to empty or replace a file that another argument names too.
 fn refuse_shared<R: Files + AllocGlobal>(
     rt: &R,
-    arguments: &RunArguments,
+    request: &Request,
     files: &RunFiles<R::File>,
     kept: &Kept<'_>,
 ) -> Result<(), CommandStop> {
     let stream = "/dev/stdout";
-    let [object, source, primary, secondary] = read_files(rt, arguments, files);
+    let [object, source, primary, secondary] = read_files(rt, request, files);
     let print = NamedFile::written(rt, FileArgument::Print, &files.print, &kept.print, stream);
     let disk = NamedFile::written(rt, FileArgument::Disk, &files.disk, &kept.disk, stream);
     let all = [object, source, primary, secondary, print, disk];
@@ -119,11 +109,11 @@ fn refuse_shared<R: Files + AllocGlobal>(
 /// Empties the output files, unless another argument names one of them.
 pub fn empty_files<R: Files + AllocGlobal>(
     rt: &R,
-    arguments: &RunArguments,
+    request: &Request,
     files: &RunFiles<R::File>,
     kept: &Kept<'_>,
 ) -> Result<(), CommandStop> {
-    refuse_shared(rt, arguments, files, kept)?;
+    refuse_shared(rt, request, files, kept)?;
     named(FileArgument::Print, files.print.empty())?;
     Ok(named(FileArgument::Disk, files.disk.empty())?)
 }

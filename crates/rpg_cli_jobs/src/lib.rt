@@ -8,7 +8,7 @@ mod limits;
 mod running;
 mod wanted;
 
-pub use dating::{JobDate, warn_of_date};
+pub use dating::settle_date;
 pub use devices::{Devices, RunFiles, devices_of, empty_files, open_files};
 pub use keeping::Kept;
 pub use limits::{program_of, source_files};

@@ -8,7 +8,7 @@ ghost use Rattle.rpg_engine.specs.Objects.{HasObjectFault, SpellsProgram};
 use crate::wanted::WantedFiles;
 use rpg_cli_answers::Answer;
 use rpg_cli_values::are_six_digits;
-use rpg_cli_words::RunArguments;
+use rpg_cli_words::Request;
 use rpg_engine::{ObjectFault, RunFault, Verified, accept, decode_object};
 use rpg_meaning::CompiledSource;
 use std::alloc::Global;
@@ -47,14 +47,14 @@ fn keeps_limit(
 /// Checks whether a program may run, if this must happen before the other files are opened.
 fn keeps_asked_limit(
     accepted: &Result<Verified, ObjectFault>,
-    arguments: &RunArguments,
+    request: &Request,
 ) -> Result<(), Answer>
-    ensures { OnOk result (IfSome arguments.now.most (λ most. IfOk accepted.now (λ program. bound program ≤ most))) }
+    ensures { OnOk result (IfSome request.now.most (λ most. IfOk accepted.now (λ program. bound program ≤ most))) }
 {
-    if let Some(most) = arguments.most {
-        keeps_limit(accepted, arguments.date_text(), most)
-    } else if arguments.keeps {
-        keeps_limit(accepted, arguments.date_text(), u64::MAX)
+    if let Some(most) = request.most {
+        keeps_limit(accepted, request.date_text(), most)
+    } else if request.keeps {
+        keeps_limit(accepted, request.date_text(), u64::MAX)
     } else {
         Ok(())
     }
@@ -66,34 +66,34 @@ fn keeps_asked_limit(
 /// arguments name a limit, or output files keep their contents, the rules, the date and the limit are checked next, before the other files.
 pub fn program_of<'a>(
     alloc: Global,
-    arguments: &RunArguments<'a>,
+    request: &Request<'a>,
     object: &[u8],
 ) -> Result<(Result<Verified, ObjectFault>, WantedFiles<'a>), Answer>
     ensures spelled { IfOk result (λ reported. IfOk reported.0 (λ program. SpellsProgram object.now program)) }
     ensures refused { IfOk result (λ reported. IfErr reported.0 (λ fault. HasObjectFault fault object.now)) }
-    ensures limit { IfOk result (λ reported. IfSome arguments.now.most (λ most. IfOk reported.0 (λ program. bound program ≤ most))) }
+    ensures limit { IfOk result (λ reported. IfSome request.now.most (λ most. IfOk reported.0 (λ program. bound program ≤ most))) }
 {
     let program = decode_object(alloc, object)?;
-    let wanted = WantedFiles::of(&program, arguments)?;
+    let wanted = WantedFiles::of(&program, request)?;
     let accepted = accept(alloc, program);
-    keeps_asked_limit(&accepted, arguments)?;
+    keeps_asked_limit(&accepted, request)?;
     Ok((accepted, wanted))
 }
 
 /// Returns the files that the program of a compiled source needs besides those of every run. A missing date, the date and the limit are
 /// checked next, as for an object.
 pub fn source_files<'a>(
-    arguments: &RunArguments<'a>,
+    request: &Request<'a>,
     compiled: &CompiledSource,
 ) -> Result<WantedFiles<'a>, Answer>
-    ensures limit { OnOk result (IfSome arguments.now.most (λ most. bound compiled.now.program ≤ most)) }
+    ensures limit { OnOk result (IfSome request.now.most (λ most. bound compiled.now.program ≤ most)) }
 {
     let program = compiled.program();
-    let wanted = WantedFiles::of(program.program(), arguments)?;
-    if let Some(most) = arguments.most {
-        keeps_bound(program, arguments.date_text(), most)?;
-    } else if arguments.keeps {
-        keeps_bound(program, arguments.date_text(), u64::MAX)?;
+    let wanted = WantedFiles::of(program.program(), request)?;
+    if let Some(most) = request.most {
+        keeps_bound(program, request.date_text(), most)?;
+    } else if request.keeps {
+        keeps_bound(program, request.date_text(), u64::MAX)?;
     }
     Ok(wanted)
 }

@@ -4,7 +4,7 @@
 use crate::dating::has_date;
 use rpg_cli_answers::{Answer, Listener, report_message, report_refusal};
 use rpg_cli_text::TextWriter;
-use rpg_cli_words::RunArguments;
+use rpg_cli_words::Request;
 use rpg_engine::{Program, has_disk_file, has_secondary_file};
 use std::alloc::{AllocError, Global};
 
@@ -30,22 +30,15 @@ pub struct WantedFiles<'a> {
 
 impl<'a> WantedFiles<'a> {
     /// Returns those that the arguments name. The disk file is checked first, then the secondary file, and the date last.
-    pub(crate) fn of(
-        program: &Program,
-        arguments: &RunArguments<'a>,
-    ) -> Result<WantedFiles<'a>, Answer> {
-        let disk = wanted_path(
-            has_disk_file(program),
-            arguments.disk,
-            Answer::DiskFileWanted,
-        )?;
+    pub(crate) fn of(program: &Program, request: &Request<'a>) -> Result<WantedFiles<'a>, Answer> {
+        let disk = wanted_path(has_disk_file(program), request.disk, Answer::DiskFileWanted)?;
         let has_secondary = has_secondary_file(program);
         let secondary = wanted_path(
             has_secondary,
-            arguments.secondary,
+            request.secondary,
             Answer::SecondaryFileWanted,
         )?;
-        has_date(program, arguments.date)?;
+        has_date(program, request.date)?;
         Ok(WantedFiles { secondary, disk })
     }
 }
@@ -93,13 +86,13 @@ fn limit_message(alloc: Global, path: &str, bound: u64, most: u64) -> Result<Str
 /// Reports which file or date a program needs but the arguments don't name, or that its bound is over their limit, if that is the answer.
 pub fn report_wanted<L: Listener>(
     alloc: Global,
-    arguments: &RunArguments,
+    request: &Request,
     program: &Program,
     answer: Answer,
     listener: &mut L,
 ) {
-    let path = arguments.object;
-    match (answer, arguments.most) {
+    let path = request.file(request.program());
+    match (answer, request.most) {
         (Answer::DiskFileWanted | Answer::SecondaryFileWanted | Answer::DateWanted, _) => {
             report_message(listener, wanted_message(alloc, path, program, answer))
         }

@@ -6,7 +6,7 @@ use rpg_cli_reports::report_source_fault;
 use rpg_cli_text::TextWriter;
 use rpg_cli_warnings::judge_warnings;
 use rpg_cli_words::{
-    CheckArguments, FileArgument, Format, SameFile, Shared, WarningArguments, is_standard,
+    FileArgument, Format, Request, SameFile, Shared, WarningArguments, is_standard,
 };
 use rpg_faults::faultless_cards;
 use std::alloc::{AllocError, Global};
@@ -124,15 +124,15 @@ impl Tally {
 /// Checks sources one after another, and prints a line for each; if the command is quiet, only for those with a fault.
 fn check_each<R: Files + Input + AllocGlobal, L: Listener>(
     rt: &R,
-    arguments: &CheckArguments,
+    request: &Request,
     listener: &mut L,
 ) -> Result<Answer, CommandStop> {
     let mut tally = Tally::NONE;
-    for path in &arguments.sources {
-        let answer = answer_of(rt, path, arguments.warnings, listener);
+    for path in &request.sources {
+        let answer = answer_of(rt, path, request.warnings, listener);
         let status = line(&answer).status;
-        if status != 0 || !arguments.answer.is_quiet {
-            show_source(rt.alloc(), arguments.answer.format, path, &answer, listener)?;
+        if status != 0 || !request.answer.is_quiet {
+            show_source(rt.alloc(), request.answer.format, path, &answer, listener)?;
         }
         tally = tally.with(status);
     }
@@ -152,17 +152,17 @@ fn shared_input(sources: &[&str]) -> Option<SameFile> {
 /// Checks one source, or several.
 pub fn check_files<R: Files + Input + AllocGlobal, L: Listener>(
     rt: &R,
-    arguments: &CheckArguments,
+    request: &Request,
     listener: &mut L,
 ) -> Result<Answer, CommandStop> {
-    if let Some(same) = shared_input(&arguments.sources) {
+    if let Some(same) = shared_input(&request.sources) {
         return Err(same.into());
     }
-    match arguments.sources.as_slice() {
+    match request.sources.as_slice() {
         [path] => {
-            check_source(rt, path, arguments.warnings, listener)?;
+            check_source(rt, path, request.warnings, listener)?;
             Ok(Answer::Faultless)
         }
-        _ => check_each(rt, arguments, listener),
+        _ => check_each(rt, request, listener),
     }
 }

@@ -8,33 +8,24 @@ use rpg_cli_answers::{
 };
 use rpg_cli_files::write_bytes;
 use rpg_cli_warnings::judge_warnings;
-use rpg_cli_words::{CompileArguments, FileArgument};
+use rpg_cli_words::{FileArgument, Request};
 use std::rt::Files;
 
 /// Writes a compiled object to its file, unless a warning rejects the source or the two are the same file.
 fn write_object<R: Files + AllocGlobal, L: Listener>(
     rt: &R,
-    arguments: &CompileArguments,
+    request: &Request,
     text: &[u8],
     object: CompiledObject,
     listener: &mut L,
 ) -> Result<Answer, CommandStop> {
     let CompiledObject { source, bytes } = object;
-    judge_warnings(
-        rt.alloc(),
-        arguments.source,
-        text,
-        source,
-        arguments.warnings,
-        listener,
-    )?;
-    let source = NamedFile::at(rt, FileArgument::Source, system_path(arguments.source));
-    let written = NamedFile::at(rt, FileArgument::Object, arguments.object);
+    let (path, place) = (request.source(), request.file(FileArgument::Object));
+    judge_warnings(rt.alloc(), path, text, source, request.warnings, listener)?;
+    let source = NamedFile::at(rt, FileArgument::Source, system_path(path));
+    let written = NamedFile::at(rt, FileArgument::Object, place);
     refuse_same_file(written, &[source])?;
-    named(
-        FileArgument::Object,
-        write_bytes(rt, arguments.object, &bytes),
-    )?;
+    named(FileArgument::Object, write_bytes(rt, place, &bytes))?;
     Ok(Answer::Compiled)
 }
 
@@ -44,15 +35,15 @@ fn write_object<R: Files + AllocGlobal, L: Listener>(
 /// all its faults are reported.
 pub fn compile_files<R: Files + Input + AllocGlobal, L: Listener>(
     rt: &R,
-    arguments: &CompileArguments,
+    request: &Request,
     listener: &mut L,
 ) -> Result<Answer, CommandStop> {
-    let source = named(FileArgument::Source, source_bytes(rt, arguments.source))?;
-    match compiled(rt.alloc(), &source, arguments.allowance) {
-        Ok(object) => write_object(rt, arguments, &source, object, listener),
+    let path = request.source();
+    let source = named(FileArgument::Source, source_bytes(rt, path))?;
+    match compiled(rt.alloc(), &source, request.allowance) {
+        Ok(object) => write_object(rt, request, &source, object, listener),
         Err(answer) => {
-            let most = arguments.warnings.most;
-            report_faults(rt.alloc(), arguments.source, &source, most, listener);
+            report_faults(rt.alloc(), path, &source, request.warnings.most, listener);
             Err(answer.into())
         }
     }

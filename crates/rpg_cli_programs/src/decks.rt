@@ -3,7 +3,7 @@
 use rpg_cli_answers::{Answer, CommandStop, Listener, named, report_message, source_bytes};
 use rpg_cli_messages::{card_message, is_object, object_message};
 use rpg_cli_shorthand::{RULER, ShorthandFault, deck_of, line_message, shorthand_of};
-use rpg_cli_words::{CardsArguments, CardsWanted, FileArgument};
+use rpg_cli_words::{CardsWanted, FileArgument, Request};
 use rpg_faults::{CardFault, SourceFault};
 use std::alloc::Global;
 use std::rt::Files;
@@ -73,25 +73,24 @@ fn report_card<L: Listener>(
 /// Converts a file to cards or shorthand, as the arguments ask.
 fn wanted_text<L: Listener>(
     alloc: Global,
-    arguments: &CardsArguments,
+    request: &Request,
     source: &[u8],
     listener: &mut L,
 ) -> Result<String, Answer> {
-    match arguments.wanted {
-        CardsWanted::Cards | CardsWanted::RuledCards => {
-            deck_text(alloc, arguments.source, source, listener)
-        }
-        CardsWanted::Shorthand => shorthand_text(alloc, arguments.source, source, listener),
+    let path = request.source();
+    match request.cards {
+        CardsWanted::Cards | CardsWanted::RuledCards => deck_text(alloc, path, source, listener),
+        CardsWanted::Shorthand => shorthand_text(alloc, path, source, listener),
     }
 }
 
 /// Prints cards, below a ruler if the arguments ask for one, or shorthand.
 fn show_text<L: Listener>(
-    arguments: &CardsArguments,
+    request: &Request,
     text: &str,
     listener: &mut L,
 ) -> Result<Answer, CommandStop> {
-    if let CardsWanted::RuledCards = arguments.wanted {
+    if let CardsWanted::RuledCards = request.cards {
         listener.show(RULER)?;
     }
     listener.show(text)?;
@@ -101,10 +100,10 @@ fn show_text<L: Listener>(
 /// Prints the cards of a shorthand file, or the shorthand of a file of cards.
 pub fn cards_file<R: Files + Input + AllocGlobal, L: Listener>(
     rt: &R,
-    arguments: &CardsArguments,
+    request: &Request,
     listener: &mut L,
 ) -> Result<Answer, CommandStop> {
-    let source = named(FileArgument::Source, source_bytes(rt, arguments.source))?;
-    let text = wanted_text(rt.alloc(), arguments, &source, listener)?;
-    show_text(arguments, text.as_str(), listener)
+    let source = named(FileArgument::Source, source_bytes(rt, request.source()))?;
+    let text = wanted_text(rt.alloc(), request, &source, listener)?;
+    show_text(request, text.as_str(), listener)
 }

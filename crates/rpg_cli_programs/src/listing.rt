@@ -3,7 +3,7 @@
 use crate::sources::report_faults;
 use rpg_cli_answers::{Answer, CommandStop, Listener, named, source_bytes};
 use rpg_cli_list::source_listing;
-use rpg_cli_words::{FileArgument, Format, ListArguments};
+use rpg_cli_words::{FileArgument, Format, Request};
 use rpg_faults::{SourceFault, faultless_cards};
 use std::alloc::Global;
 use std::rt::Files;
@@ -11,19 +11,19 @@ use std::rt::Files;
 /// Reports all faults of a source as JSON objects, if the arguments ask for them; the lines for people are in the listing.
 fn report_as_objects<L: Listener>(
     alloc: Global,
-    arguments: &ListArguments,
+    request: &Request,
     source: &[u8],
     listener: &mut L,
 ) {
-    if arguments.answer.format == Format::Json {
-        report_faults(alloc, arguments.source, source, u16::MAX, listener);
+    if request.answer.format == Format::Json {
+        report_faults(alloc, request.source(), source, u16::MAX, listener);
     }
 }
 
 /// Prints the listing of a source, given its text.
 fn show_listing<L: Listener>(
     alloc: Global,
-    arguments: &ListArguments,
+    request: &Request,
     source: &[u8],
     listener: &mut L,
 ) -> Result<Answer, CommandStop> {
@@ -31,8 +31,8 @@ fn show_listing<L: Listener>(
     if let Some(SourceFault::NoMemory) = fault {
         return Err(Answer::NoMemory.into());
     }
-    let text = source_listing(alloc, arguments.source, source)?;
-    report_as_objects(alloc, arguments, source, listener);
+    let text = source_listing(alloc, request.source(), source)?;
+    report_as_objects(alloc, request, source, listener);
     listener.show(text.as_str())?;
     match fault {
         None => Ok(Answer::Faultless),
@@ -44,9 +44,9 @@ fn show_listing<L: Listener>(
 /// printed.
 pub fn list_file<R: Files + Input + AllocGlobal, L: Listener>(
     rt: &R,
-    arguments: &ListArguments,
+    request: &Request,
     listener: &mut L,
 ) -> Result<Answer, CommandStop> {
-    let source = named(FileArgument::Source, source_bytes(rt, arguments.source))?;
-    show_listing(rt.alloc(), arguments, &source, listener)
+    let source = named(FileArgument::Source, source_bytes(rt, request.source()))?;
+    show_listing(rt.alloc(), request, &source, listener)
 }

@@ -6,7 +6,7 @@ use crate::sources::{OwnSource, own_source};
 use rpg_cli_answers::{Answer, CommandStop, Listener, named};
 use rpg_cli_files::file_bytes;
 use rpg_cli_show::{program_overview, program_text};
-use rpg_cli_words::{FileArgument, Format, ShowArguments, VerifyArguments};
+use rpg_cli_words::{FileArgument, Format, Request};
 use rpg_engine::{Program, decode_object};
 use std::alloc::{AllocError, Global};
 use std::rt::Files;
@@ -14,13 +14,14 @@ use std::rt::Files;
 /// Verifies an object file. The answer has the bound of its program.
 pub fn verify_file<R: Files + AllocGlobal, L: Listener>(
     rt: &R,
-    arguments: &VerifyArguments,
+    request: &Request,
     listener: &mut L,
 ) -> Result<Answer, CommandStop> {
-    let object = named(FileArgument::Object, file_bytes(rt, arguments.object))?;
+    let path = request.file(FileArgument::Object);
+    let object = named(FileArgument::Object, file_bytes(rt, path))?;
     let bound = verified(rt.alloc(), &object);
     if let Err(Answer::Object(fault)) = bound {
-        report_object(rt.alloc(), arguments.object, &object, fault, listener);
+        report_object(rt.alloc(), path, &object, fault, listener);
     }
     Ok(Answer::Accepted { bound: bound? })
 }
@@ -28,11 +29,11 @@ pub fn verify_file<R: Files + AllocGlobal, L: Listener>(
 /// Returns the text of a program, with names and cards if its source is known.
 fn program_shown(
     alloc: Global,
-    arguments: &ShowArguments,
+    request: &Request,
     program: Program,
     source: Option<&OwnSource<'_>>,
 ) -> Result<String, AllocError> {
-    if !arguments.rows {
+    if !request.rows {
         return program_overview(alloc, program);
     }
     let rows = match source {
@@ -45,25 +46,26 @@ fn program_shown(
 /// Returns the text of an object file's program, if it encodes one, with names and cards if the arguments name its source.
 fn shown_text<R: Files + AllocGlobal, L: Listener>(
     rt: &R,
-    arguments: &ShowArguments,
+    request: &Request,
     object: &[u8],
     listener: &mut L,
 ) -> Result<String, Answer> {
     let program = decode_object(rt.alloc(), object)?;
-    let source = own_source(rt, arguments.source, object, listener)?;
-    Ok(program_shown(rt.alloc(), arguments, program, source.as_ref())?)
+    let source = own_source(rt, request.own_source, object, listener)?;
+    Ok(program_shown(rt.alloc(), request, program, source.as_ref())?)
 }
 
 /// Like `shown_text`, but reports what is wrong with the bytes.
 fn text_or_reported<R: Files + AllocGlobal, L: Listener>(
     rt: &R,
-    arguments: &ShowArguments,
+    request: &Request,
     object: &[u8],
     listener: &mut L,
 ) -> Result<String, Answer> {
-    let text = shown_text(rt, arguments, object, listener);
+    let text = shown_text(rt, request, object, listener);
     if let Err(Answer::Object(fault)) = &text {
-        report_object(rt.alloc(), arguments.object, object, *fault, listener);
+        let path = request.file(FileArgument::Object);
+        report_object(rt.alloc(), path, object, *fault, listener);
     }
     text
 }
@@ -71,26 +73,28 @@ fn text_or_reported<R: Files + AllocGlobal, L: Listener>(
 /// Reports a broken rule as a JSON object, if the arguments ask for JSON; the line for people is among the rows.
 fn report_as_object<R: Files + AllocGlobal, L: Listener>(
     rt: &R,
-    arguments: &ShowArguments,
+    request: &Request,
     object: &[u8],
     bound: Result<u64, Answer>,
     listener: &mut L,
 ) {
-    if let (Format::Json, Err(Answer::Object(fault))) = (arguments.answer.format, bound) {
-        report_object(rt.alloc(), arguments.object, object, fault, listener);
+    if let (Format::Json, Err(Answer::Object(fault))) = (request.answer.format, bound) {
+        let path = request.file(FileArgument::Object);
+        report_object(rt.alloc(), path, object, fault, listener);
     }
 }
 
 /// Prints the program of an object file, and answers as `verify_file` does.
 pub fn show_file<R: Files + AllocGlobal, L: Listener>(
     rt: &R,
-    arguments: &ShowArguments,
+    request: &Request,
     listener: &mut L,
 ) -> Result<Answer, CommandStop> {
-    let object = named(FileArgument::Object, file_bytes(rt, arguments.object))?;
-    let text = text_or_reported(rt, arguments, &object, listener)?;
+    let path = request.file(FileArgument::Object);
+    let object = named(FileArgument::Object, file_bytes(rt, path))?;
+    let text = text_or_reported(rt, request, &object, listener)?;
     let bound = verified(rt.alloc(), &object);
-    report_as_object(rt, arguments, &object, bound, listener);
+    report_as_object(rt, request, &object, bound, listener);
     listener.show(text.as_str())?;
     Ok(Answer::Accepted { bound: bound? })
 }

@@ -6,8 +6,8 @@ use Rattle.rpg_cli_answers.specs.Answers.{exit_status, line_text}
 use Rattle.rpg_cli_answers.specs.Json.{json_text}
 use Rattle.rpg_files.specs.Sending.{AppendsPrefix}
 use Rattle.rpg_cli_answers.specs.declared.answer.Answer.{Answer}
-use Rattle.rpg_cli_words.specs.declared.format.Format.{Format}
-use Rattle.rpg_cli_words.specs.declared.format.Format.TheVariants.{Text, Json}
+use Rattle.rpg_cli_words.specs.declared.options.Format.{Format}
+use Rattle.rpg_cli_words.specs.declared.options.Format.TheVariants.{Text, Json}
 
 -- what is printed for an answer
 abbrev pub answer_text : Format → Answer → List ℕ

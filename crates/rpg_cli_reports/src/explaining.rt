@@ -2,7 +2,7 @@
 
 use rpg_cli_answers::{Answer, CommandStop, Listener};
 use rpg_cli_text::{HALTS, Topic, all_pages, list_text, pages_text, topic_of};
-use rpg_cli_words::ExplainArguments;
+use rpg_cli_words::Request;
 use std::alloc::{AllocError, Global};
 
 /// Returns the halt with this number.
@@ -87,14 +87,14 @@ fn topics_of(alloc: Global, arguments: &[&str]) -> Result<Option<Vec<Topic>>, Al
 }
 
 /// Returns the requested pages, all of them, or the list of codes; None if a code doesn't exist.
-fn text_of(alloc: Global, arguments: &ExplainArguments) -> Result<Option<String>, AllocError> {
-    if arguments.lists {
+fn text_of(alloc: Global, request: &Request) -> Result<Option<String>, AllocError> {
+    if request.lists {
         return Ok(Some(list_text(alloc)?));
     }
-    if arguments.codes.is_empty() {
+    if request.codes.is_empty() {
         return Ok(Some(all_pages(alloc)?));
     }
-    match topics_of(alloc, &arguments.codes)? {
+    match topics_of(alloc, &request.codes)? {
         None => Ok(None),
         Some(topics) => Ok(Some(pages_text(alloc, &topics)?)),
     }
@@ -103,10 +103,10 @@ fn text_of(alloc: Global, arguments: &ExplainArguments) -> Result<Option<String>
 /// Prints the pages of codes.
 pub fn explain<L: Listener>(
     alloc: Global,
-    arguments: &ExplainArguments,
+    request: &Request,
     listener: &mut L,
 ) -> Result<Answer, CommandStop> {
-    match text_of(alloc, arguments) {
+    match text_of(alloc, request) {
         Ok(Some(text)) => {
             listener.show(text.as_str())?;
             Ok(Answer::Explained)

@@ -1,6 +1,6 @@
 //! Where the line of an answer goes.
 
-use rpg_cli_words::Request;
+use rpg_cli_words::{CommandName, Request};
 
 /// Where the line of an answer and the text before it go.
 #[derive(Clone, Copy)]
@@ -27,8 +27,8 @@ impl Outlet {
     };
 
     pub fn of(request: &Request) -> Outlet {
-        match request {
-            Request::List(_) | Request::Cards(_) | Request::Show(_) | Request::Explain(_) => {
+        match request.command {
+            CommandName::List | CommandName::Cards | CommandName::Show | CommandName::Explain => {
                 Outlet::PAGES
             }
             _ if request.writes_standard_output() => Outlet::STANDARD_ERROR,

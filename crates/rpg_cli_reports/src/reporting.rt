@@ -4,7 +4,7 @@ use crate::outlet::Outlet;
 use rpg_cli_answers::{Answer, Listener, Reasons, report_message};
 use rpg_cli_files::{FileFault, Reason};
 use rpg_cli_text::TextWriter;
-use rpg_cli_words::{DateArgument, FileArgument, Request, RunArguments};
+use rpg_cli_words::{DateArgument, FileArgument, Request};
 use rpg_engine::{InputFile, OutputFile, ReadFault, RunFault};
 use std::alloc::{AllocError, Global};
 
@@ -15,7 +15,7 @@ fn write_path(out: &mut TextWriter, path: &str, argument: FileArgument) {
 
 /// Writes a file that the arguments name.
 fn write_name(out: &mut TextWriter, request: &Request, argument: FileArgument) {
-    write_path(out, request.path(argument).unwrap_or(""), argument);
+    write_path(out, request.file(argument), argument);
 }
 
 /// Writes a file, and why it failed.
@@ -115,29 +115,24 @@ fn write_output_fault(
     }
 }
 
-fn write_bad_date(out: &mut TextWriter, arguments: &RunArguments) {
-    if let Some(DateArgument::Today(_)) = arguments.date {
+fn write_bad_date(out: &mut TextWriter, request: &Request) {
+    if let Some(DateArgument::Today(_)) = request.date {
         out.write_str("--date today: the system's clock can't be read\n");
         return;
     }
     out.write_str(
         "--date needs six digits, such as 112676, or today, today-dmy or today-ymd; it was '",
     );
-    out.write_shown(arguments.date_text().as_bytes());
+    out.write_shown(request.date_text().as_bytes());
     out.write_str("'\n");
 }
 
 /// Reports a device that failed during the job, or a bad date.
 fn write_run_fault(out: &mut TextWriter, request: &Request, fault: RunFault, reasons: Reasons) {
-    match (fault, request) {
-        (RunFault::Read { file, fault }, _) => {
-            write_input_fault(out, request, file, fault, reasons)
-        }
-        (RunFault::Write { file, sent }, _) => {
-            write_output_fault(out, request, file, sent, reasons)
-        }
-        (RunFault::BadDate, Request::Run(arguments)) => write_bad_date(out, arguments),
-        (RunFault::BadDate, Request::Go(arguments)) => write_bad_date(out, &arguments.run),
+    match fault {
+        RunFault::Read { file, fault } => write_input_fault(out, request, file, fault, reasons),
+        RunFault::Write { file, sent } => write_output_fault(out, request, file, sent, reasons),
+        RunFault::BadDate => write_bad_date(out, request),
         _ => {}
     }
 }
@@ -151,12 +146,7 @@ fn answer_message(
     let mut out = TextWriter::new(alloc);
     match *answer {
         Answer::File { argument, fault } => {
-            write_file_fault(
-                &mut out,
-                request.path(argument).unwrap_or(""),
-                argument,
-                fault,
-            )
+            write_file_fault(&mut out, request.file(argument), argument, fault)
         }
         Answer::Run(fault) => write_run_fault(&mut out, request, fault, reasons),
         Answer::OtherSource => write_fault(

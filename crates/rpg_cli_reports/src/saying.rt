@@ -121,7 +121,7 @@ pub fn conclude<W: Write, L: Listener>(
     ensures { PrintsALine (W.contents out.old) (W.contents out.new) result }
 {
     let outlet = Outlet::of(request);
-    let AnswerArguments { is_quiet, format } = request.answer();
+    let AnswerArguments { is_quiet, format } = request.answer;
     let status = say_if_wanted(out, outlet, is_quiet, format, answer, listener);
     report_answer(alloc, request, answer, reasons, listener);
     status

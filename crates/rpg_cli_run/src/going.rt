@@ -2,10 +2,10 @@
 
 use crate::jobs::run_own;
 use rpg_cli_answers::{Answer, CommandStop, Listener, named, source_bytes};
-use rpg_cli_jobs::{JobDate, report_wanted, warn_of_date};
+use rpg_cli_jobs::{report_wanted, settle_date};
 use rpg_cli_programs::{OwnSource, report_faults};
 use rpg_cli_warnings::deny_warnings;
-use rpg_cli_words::{FileArgument, GoArguments};
+use rpg_cli_words::{FileArgument, Request};
 use rpg_engine::Report;
 use rpg_meaning::CompiledSource;
 use std::rt::{Clock, Env, Files};
@@ -13,18 +13,17 @@ use std::rt::{Clock, Env, Files};
 /// Runs a compiled source, unless a warning rejects it. The diagnostic of a halt has cards and names.
 fn run_compiled<R: Files + Input + Print + AllocGlobal, L: Listener>(
     rt: &R,
-    arguments: &GoArguments,
+    request: &Request,
     compiled: CompiledSource,
     listener: &mut L,
 ) -> Result<Report, CommandStop> {
-    let path = arguments.run.object;
-    let (warnings, text) = (arguments.warnings, compiled.text());
-    deny_warnings(rt.alloc(), path, text, warnings, listener)?;
+    let (path, text) = (request.source(), compiled.text());
+    deny_warnings(rt.alloc(), path, text, request.warnings, listener)?;
     let source = OwnSource::of(rt.alloc(), path, compiled)?;
-    let ran = run_own(rt, &arguments.run, &source, listener);
+    let ran = run_own(rt, request, &source, listener);
     if let Err(CommandStop::Answer(answer)) = ran {
         let program = source.compiled.program().program();
-        report_wanted(rt.alloc(), &arguments.run, program, answer, listener);
+        report_wanted(rt.alloc(), request, program, answer, listener);
     }
     ran
 }
@@ -32,18 +31,18 @@ fn run_compiled<R: Files + Input + Print + AllocGlobal, L: Listener>(
 /// Compiles a source and runs its program over its files, which are opened only if the source has no faults.
 fn go_dated<R: Files + Input + Print + AllocGlobal, L: Listener>(
     rt: &R,
-    arguments: &GoArguments,
+    request: &Request,
     listener: &mut L,
 ) -> Result<Report, CommandStop> {
-    if let Some(same) = arguments.run.shared_stream() {
+    if let Some(same) = request.shared_stream() {
         return Err(same.into());
     }
-    let text = named(FileArgument::Source, source_bytes(rt, arguments.run.object))?;
-    match CompiledSource::new(rt.alloc(), text, arguments.allowance) {
-        Ok(compiled) => run_compiled(rt, arguments, compiled, listener),
+    let path = request.source();
+    let text = named(FileArgument::Source, source_bytes(rt, path))?;
+    match CompiledSource::new(rt.alloc(), text, request.allowance) {
+        Ok(compiled) => run_compiled(rt, request, compiled, listener),
         Err((text, fault)) => {
-            let most = arguments.warnings.most;
-            report_faults(rt.alloc(), arguments.run.object, &text, most, listener);
+            report_faults(rt.alloc(), path, &text, request.warnings.most, listener);
             Err(Answer::Source(fault).into())
         }
     }
@@ -52,11 +51,9 @@ fn go_dated<R: Files + Input + Print + AllocGlobal, L: Listener>(
 /// Compiles a source and runs its program over its files, on the date of the arguments or today's.
 pub fn go_files<R: Clock + Env + Files + Input + Print + AllocGlobal, L: Listener>(
     rt: &R,
-    arguments: &GoArguments,
+    request: &mut Request,
     listener: &mut L,
 ) -> Result<Answer, CommandStop> {
-    let date = JobDate::of(rt, &arguments.run)?;
-    warn_of_date(rt.alloc(), &arguments.run, listener);
-    let arguments = arguments.with(date.arguments(&arguments.run));
-    Ok(go_dated(rt, &arguments, listener)?.into())
+    settle_date(rt, request, listener)?;
+    Ok(go_dated(rt, request, listener)?.into())
 }

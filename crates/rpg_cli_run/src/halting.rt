@@ -5,7 +5,7 @@ use rpg_cli_files::{identity_at, input_file};
 use rpg_cli_halts::{
     HaltedCycle, HaltedRecord, HaltedSource, InputNames, halt_message, record_again,
 };
-use rpg_cli_words::{RunArguments, is_standard};
+use rpg_cli_words::{FileArgument, Request, is_standard};
 use rpg_engine::{JobEnd, Report, Verified};
 use std::alloc::AllocError;
 use std::io::BufReader;
@@ -29,28 +29,28 @@ fn opened_again<R: Files + AllocGlobal>(rt: &R, path: Option<&str>) -> Option<Bu
 /// Returns the record that a halt is about, if it is needed and can be read again.
 fn halted_record<R: Files + AllocGlobal>(
     rt: &R,
-    arguments: &RunArguments,
+    request: &Request,
     program: &Verified,
     halted: HaltedCycle,
 ) -> Option<HaltedRecord> {
     let cycles = halted.cycles_again(program)?;
-    let primary = opened_again(rt, arguments.input_file());
-    let secondary = opened_again(rt, arguments.secondary);
+    let primary = opened_again(rt, request.input);
+    let secondary = opened_again(rt, request.secondary);
     record_again(rt.alloc(), program, cycles, primary, secondary)
 }
 
 fn halted_message<R: Files + AllocGlobal>(
     rt: &R,
-    arguments: &RunArguments,
+    request: &Request,
     program: &Verified,
     halted: HaltedCycle,
     source: Option<HaltedSource<'_>>,
 ) -> Result<String, AllocError> {
     let names = InputNames {
-        primary: arguments.input,
-        secondary: arguments.secondary,
+        primary: request.file(FileArgument::Input),
+        secondary: request.secondary,
     };
-    let record = halted_record(rt, arguments, program, halted);
+    let record = halted_record(rt, request, program, halted);
     halt_message(rt.alloc(), names, program, halted, record.as_ref(), source)
 }
 
@@ -69,7 +69,7 @@ fn halt_of(report: Report) -> Option<HaltedCycle> {
 /// Reports where a job halted, if it did, reading again the records that the arguments name.
 pub(crate) fn report_halt<R: Files + AllocGlobal, L: Listener>(
     rt: &R,
-    arguments: &RunArguments,
+    request: &Request,
     program: &Verified,
     report: Report,
     source: Option<HaltedSource<'_>>,
@@ -78,6 +78,6 @@ pub(crate) fn report_halt<R: Files + AllocGlobal, L: Listener>(
     let Some(halted) = halt_of(report) else {
         return;
     };
-    let message = halted_message(rt, arguments, program, halted, source);
+    let message = halted_message(rt, request, program, halted, source);
     report_message(listener, message);
 }

@@ -8,12 +8,12 @@ use rpg_cli_answers::{Answer, CommandStop, Listener, Reasons, named};
 use rpg_cli_files::file_bytes;
 use rpg_cli_halts::HaltedSource;
 use rpg_cli_jobs::{
-    Devices, JobDate, Kept, WantedFiles, devices_of, empty_files, open_files, program_of,
-    report_wanted, run_over, run_source_over, source_files, warn_of_date,
+    Devices, Kept, WantedFiles, devices_of, empty_files, open_files, program_of, report_wanted,
+    run_over, run_source_over, settle_date, source_files,
 };
 use rpg_cli_programs::{OwnSource, own_source, report_object};
 use rpg_cli_show_fields::SourceRows;
-use rpg_cli_words::{FileArgument, RunArguments};
+use rpg_cli_words::{FileArgument, Request};
 use rpg_engine::{ObjectFault, Readers, Report, Verified, Watcher, Writers, decode_object};
 use std::alloc::Global;
 use std::fs::OpenFile;
@@ -114,18 +114,18 @@ pub(crate) fn run_devices<
 /// Opens the files of a run, empties the outputs, and runs the program over them.
 fn run_opened<'a, R: Files + Input + Print + AllocGlobal, L: Listener>(
     rt: &R,
-    arguments: &RunArguments<'a>,
+    request: &Request<'a>,
     accepted: Result<Runnable<'_>, ObjectFault>,
     wanted: WantedFiles<'a>,
     kept: &mut Kept<'a>,
     listener: &mut L,
 ) -> Result<Report, CommandStop> {
-    let files = open_files(rt, arguments, wanted, kept)?;
-    empty_files(rt, arguments, &files, kept)?;
+    let files = open_files(rt, request, wanted, kept)?;
+    empty_files(rt, request, &files, kept)?;
     match accepted {
         Ok(runnable) => run_as_asked(
             rt.alloc(),
-            arguments,
+            request,
             runnable,
             devices_of(rt, files),
             listener,
@@ -137,16 +137,16 @@ fn run_opened<'a, R: Files + Input + Print + AllocGlobal, L: Listener>(
 /// Runs an accepted program over its files, and reports where its job halted.
 fn run_accepted<R: Files + Input + Print + AllocGlobal, L: Listener>(
     rt: &R,
-    arguments: &RunArguments,
+    request: &Request,
     accepted: Result<Runnable<'_>, ObjectFault>,
     wanted: WantedFiles<'_>,
     listener: &mut L,
 ) -> Result<Report, CommandStop> {
     let mut kept = Kept::new();
-    let ran = run_opened(rt, arguments, accepted, wanted, &mut kept, listener);
+    let ran = run_opened(rt, request, accepted, wanted, &mut kept, listener);
     if let (Ok(report), Ok(runnable)) = (ran, accepted) {
         let program = runnable.program();
-        report_halt(rt, arguments, program, report, runnable.halted(), listener);
+        report_halt(rt, request, program, report, runnable.halted(), listener);
     }
     kept.finish(rt, ran, listener)
 }
@@ -154,72 +154,74 @@ fn run_accepted<R: Files + Input + Print + AllocGlobal, L: Listener>(
 /// Runs a compiled source over its files.
 pub(crate) fn run_own<R: Files + Input + Print + AllocGlobal, L: Listener>(
     rt: &R,
-    arguments: &RunArguments,
+    request: &Request,
     source: &OwnSource<'_>,
     listener: &mut L,
 ) -> Result<Report, CommandStop> {
-    let wanted = source_files(arguments, &source.compiled)?;
+    let wanted = source_files(request, &source.compiled)?;
     let runnable = Ok(Runnable::Source(source));
-    run_accepted(rt, arguments, runnable, wanted, listener)
+    run_accepted(rt, request, runnable, wanted, listener)
 }
 
 /// Runs the object program in these bytes. Rules and date are checked after its files are opened, unless the arguments name a limit or keep
 /// files.
 fn run_object<R: Files + Input + Print + AllocGlobal, L: Listener>(
     rt: &R,
-    arguments: &RunArguments,
+    request: &Request,
     object: &[u8],
     listener: &mut L,
 ) -> Result<Report, CommandStop> {
-    let (accepted, wanted) = program_of(rt.alloc(), arguments, object)?;
+    let (accepted, wanted) = program_of(rt.alloc(), request, object)?;
     let runnable = match &accepted {
         Ok(program) => Ok(Runnable::Object(program)),
         Err(fault) => Err(*fault),
     };
-    run_accepted(rt, arguments, runnable, wanted, listener)
+    run_accepted(rt, request, runnable, wanted, listener)
 }
 
 /// Runs the object program in these bytes, or the source that the arguments name, once it proves to be the object's.
 fn run_named<R: Files + Input + Print + AllocGlobal, L: Listener>(
     rt: &R,
-    arguments: &RunArguments,
+    request: &Request,
     object: &[u8],
     listener: &mut L,
 ) -> Result<Report, CommandStop> {
-    match own_source(rt, arguments.source, object, listener)? {
-        Some(source) => run_own(rt, arguments, &source, listener),
-        None => run_object(rt, arguments, object, listener),
+    match own_source(rt, request.own_source, object, listener)? {
+        Some(source) => run_own(rt, request, &source, listener),
+        None => run_object(rt, request, object, listener),
     }
 }
 
 /// Reports what is wrong with the bytes of a rejected object program, or what it needs.
 fn report_refused<L: Listener>(
     alloc: Global,
-    arguments: &RunArguments,
+    request: &Request,
     object: &[u8],
     answer: Answer,
     listener: &mut L,
 ) {
     if let Answer::Object(fault) = answer {
-        report_object(alloc, arguments.object, object, fault, listener);
+        let path = request.file(FileArgument::Object);
+        report_object(alloc, path, object, fault, listener);
     } else if let Ok(program) = decode_object(alloc, object) {
-        report_wanted(alloc, arguments, &program, answer, listener);
+        report_wanted(alloc, request, &program, answer, listener);
     }
 }
 
 /// Runs an object program over its files. Reports why it is rejected, or where its job halted.
 fn run_dated<R: Files + Input + Print + AllocGlobal, L: Listener>(
     rt: &R,
-    arguments: &RunArguments,
+    request: &Request,
     listener: &mut L,
 ) -> Result<Report, CommandStop> {
-    if let Some(same) = arguments.shared_stream() {
+    if let Some(same) = request.shared_stream() {
         return Err(same.into());
     }
-    let object = named(FileArgument::Object, file_bytes(rt, arguments.object))?;
-    let ran = run_named(rt, arguments, &object, listener);
+    let path = request.file(FileArgument::Object);
+    let object = named(FileArgument::Object, file_bytes(rt, path))?;
+    let ran = run_named(rt, request, &object, listener);
     if let Err(CommandStop::Answer(answer)) = ran {
-        report_refused(rt.alloc(), arguments, &object, answer, listener);
+        report_refused(rt.alloc(), request, &object, answer, listener);
     }
     ran
 }
@@ -227,10 +229,9 @@ fn run_dated<R: Files + Input + Print + AllocGlobal, L: Listener>(
 /// Runs an object program over its files, on the date of the arguments or today's.
 pub fn run_files<R: Clock + Env + Files + Input + Print + AllocGlobal, L: Listener>(
     rt: &R,
-    arguments: &RunArguments,
+    request: &mut Request,
     listener: &mut L,
 ) -> Result<Answer, CommandStop> {
-    let date = JobDate::of(rt, arguments)?;
-    warn_of_date(rt.alloc(), arguments, listener);
-    Ok(run_dated(rt, &date.arguments(arguments), listener)?.into())
+    settle_date(rt, request, listener)?;
+    Ok(run_dated(rt, request, listener)?.into())
 }

@@ -4,7 +4,7 @@ use crate::jobs::{Runnable, run_devices};
 use rpg_cli_answers::{CommandStop, Listener};
 use rpg_cli_jobs::Devices;
 use rpg_cli_trace::{JobNames, Looking};
-use rpg_cli_words::RunArguments;
+use rpg_cli_words::{FileArgument, Request};
 use rpg_engine::Report;
 use std::alloc::Global;
 use std::fs::OpenFile;
@@ -18,19 +18,19 @@ pub(crate) fn run_as_asked<
     L: Listener,
 >(
     alloc: Global,
-    arguments: &RunArguments,
+    request: &Request,
     runnable: Runnable<'_>,
     devices: Devices<F, S, P>,
     listener: &mut L,
 ) -> Result<Report, CommandStop> {
-    let date = arguments.date_text().as_bytes();
+    let date = request.date_text().as_bytes();
     let names = JobNames {
         program: runnable.program(),
-        primary: arguments.input,
-        secondary: arguments.secondary,
+        primary: request.file(FileArgument::Input),
+        secondary: request.secondary,
         source: runnable.rows(),
     };
-    let mut looking = Looking::new(alloc, arguments.looks, names, listener);
+    let mut looking = Looking::new(alloc, request.looks, names, listener);
     let ran = run_devices(alloc, runnable, date, devices, &mut looking);
     looking.finish();
     ran

@@ -1,6 +1,7 @@
 //! The argument for the date of a job.
 
 use crate::day::DateOrder;
+use std::str;
 
 /// The date of a job.
 #[derive(Clone, Copy)]
@@ -9,6 +10,8 @@ pub enum DateArgument<'a> {
     Written(&'a str),
     /// The day on which the job runs.
     Today(DateOrder),
+    /// That day, once it is read from the clock.
+    Clock([u8; 6]),
 }
 
 impl<'a> DateArgument<'a> {
@@ -19,6 +22,15 @@ impl<'a> DateArgument<'a> {
             "today-dmy" => DateArgument::Today(DateOrder::DayFirst),
             "today-ymd" => DateArgument::Today(DateOrder::YearFirst),
             _ => DateArgument::Written(text),
+        }
+    }
+
+    /// Returns the date as written, or the digits of the clock.
+    pub fn text(&self) -> &str {
+        match self {
+            DateArgument::Written(text) => text,
+            DateArgument::Today(_) => "today",
+            DateArgument::Clock(digits) => str::from_utf8(digits).unwrap_or(""),
         }
     }
 }

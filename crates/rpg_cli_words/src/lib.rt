@@ -3,26 +3,17 @@
 
 mod building;
 mod commands;
-mod fitting;
-mod format;
-mod given;
-mod going;
-mod listing;
-mod looks;
-mod records;
+mod faults;
+mod files;
+mod options;
+mod refusal;
 mod request;
-mod warned;
 
-pub use fitting::{FitArguments, TableArgument};
-pub use format::{AnswerArguments, Format};
-pub use going::GoArguments;
-pub use listing::{CardsArguments, CardsWanted, ListArguments};
-pub use looks::LookArguments;
-pub use records::{RecordFraming, RecordsArguments, RecordsWay};
-pub use request::{
-    CheckArguments, CompileArguments, ExplainArguments, FileArgument, Refusal, Request,
-    RunArguments, SameFile, Shared, ShowArguments, VerifyArguments, is_standard, refuse_bytes,
-    refuse_same_file, request_of,
+pub use files::{FileArgument, SameFile, Shared, is_standard};
+pub use options::{
+    AnswerArguments, CardsWanted, Format, LookArguments, RecordFraming, RecordsWay, TableArgument,
+    WarningArguments,
 };
+pub use refusal::{Refusal, refuse_bytes, refuse_same_file};
+pub use request::{CommandName, Request, request_of};
 pub use rpg_cli_values::DateArgument;
-pub use warned::WarningArguments;

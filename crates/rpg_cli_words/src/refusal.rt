@@ -1,0 +1,100 @@
+//! Why there is no request.
+
+ghost use Rattle.std.specs.Prelude.{◌≤◌, IfOk};
+
+use crate::building::fault;
+use crate::files::SameFile;
+use clap::Error;
+use clap::error::ErrorKind;
+use std::alloc::{AllocError, Global};
+use std::io;
+
+/// Why there is no request: a fault of the command line, a request for help, or memory that ran out.
+#[derive(Drop)]
+pub struct Refusal {
+    error: Error,
+}
+
+impl From<AllocError> for Refusal {
+    fn from(error: AllocError) -> Refusal {
+        Refusal {
+            error: Error::from(error),
+        }
+    }
+}
+
+impl Refusal {
+    pub(crate) fn from_clap(error: Error) -> Refusal {
+        Refusal { error }
+    }
+
+    pub(crate) fn of(reported: Result<Error, AllocError>) -> Refusal {
+        match reported {
+            Ok(error) => Refusal { error },
+            Err(error) => Refusal::from(error),
+        }
+    }
+
+    pub fn is_no_memory(&self) -> bool {
+        self.error.kind() == ErrorKind::OutOfMemory
+    }
+
+    /// Prints clap's text, a fault to standard error and help to standard output, and returns the exit status. The error is why help couldn't
+    /// be written.
+    pub fn explain<R: Print + Eprint + AllocGlobal>(&self, rt: &R) -> io::Result<u8>
+        ensures { IfOk result (λ status. status ≤ 2) }
+    {
+        let is_fault = self.error.use_stderr();
+        match self.error.print(rt) {
+            Ok(()) if is_fault => Ok(2),
+            Ok(()) => Ok(0),
+            Err(_) if is_fault => Ok(1),
+            Err(error) => Err(error),
+        }
+    }
+}
+
+/// The program's name in clap's texts if the arguments have none.
+const PROGRAM: &str = "rpg2";
+
+/// Rejects arguments of which one isn't UTF-8.
+pub fn refuse_bytes(alloc: Global) -> Refusal {
+    let message = "invalid UTF-8 was detected in one or more arguments";
+    Refusal::of(fault(alloc, PROGRAM, ErrorKind::InvalidValue, message))
+}
+
+/// Rejects arguments that name the same file.
+pub fn refuse_same_file(alloc: Global, same: SameFile) -> Refusal {
+    Refusal::of(same_file_error(alloc, same))
+}
+
+fn same_file_error(alloc: Global, same: SameFile) -> Result<Error, AllocError> {
+    let (written, earlier) = (same.written.text(), same.earlier.text());
+    let (between, after) = same.shared.texts();
+    let message = format!(in alloc; "'{written}' {between} '{earlier}'{after}")?;
+    fault(
+        alloc,
+        PROGRAM,
+        ErrorKind::ArgumentConflict,
+        message.as_str(),
+    )
+}
+
+/// Returns the program's name, which the first argument ends in.
+fn program_name(arguments: &[String]) -> &str {
+    let path = arguments.first().map_or(PROGRAM, |path| path.as_str());
+    path.rsplit_once('/').map_or(path, |(_, name)| name)
+}
+
+/// Returns the fault of arguments that clap accepts but that make no request.
+pub(crate) fn unread(
+    alloc: Global,
+    arguments: &[String],
+    bad_value: Option<&'static str>,
+) -> Result<Error, AllocError> {
+    let (kind, message) = match bad_value {
+        Some(message) => (ErrorKind::InvalidValue, message),
+        None => (ErrorKind::MissingSubcommand, "a command is required"),
+    };
+    fault(alloc, program_name(arguments), kind, message)
+}
