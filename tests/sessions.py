@@ -219,6 +219,13 @@ class Session:
         self.path(other).symlink_to(name)
         return b""
 
+    def do_mode(self, name: str, *mode: str) -> bytes:
+        """Gives a file permissions, in octal digits, or shows them."""
+        if mode:
+            self.path(name).chmod(int(mode[0], 8))
+            return b""
+        return f"{self.path(name).stat().st_mode & 0o7777:o}\n".encode()
+
     def do_copy(self, name: str, other: str) -> bytes:
         shutil.copyfile(self.path(name), self.path(other))
         return b""
