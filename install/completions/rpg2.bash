@@ -11,16 +11,16 @@ _rpg2() {
         --allow) COMPREPLY=($(compgen -W 'W1 W2 W3 W4 W5 W6 W7' -- "$cur")); return;;
         --format) COMPREPLY=($(compgen -W 'text json' -- "$cur")); return;;
         --allowance|--date|--drop|--faults|--file|--length|--most|--switches|--table|--trace) return;;
-        --by|--deck|--disk|--secondary|--source|--to) COMPREPLY=($(compgen -f -- "$cur")); return;;
+        --by|--deck|--disk|--output|--secondary|--source|--to) COMPREPLY=($(compgen -f -- "$cur")); return;;
     esac
     local options=
     case $command in
-        compile) options='--allowance --faults --deny --allow --format -q --quiet -h --help';;
+        compile) options='-o --output --allowance --faults --deny --allow --format -q --quiet -h --help';;
         check) options='--faults --deny --allow --format -q --quiet -h --help';;
         list) options='--format -h --help';;
         cards) options='--short --ruler -h --help';;
         records) options='--by --to --file --length --rdw --lines --ascii --low-blank --drop --deck --format -h --help';;
-        fit) options='--table --switches --forms --format -h --help';;
+        fit) options='--force --table --switches --forms --format -h --help';;
         verify) options='--format -q --quiet -h --help';;
         show) options='--source --rows --format -h --help';;
         run) options='--date --secondary --disk --most --keep --source --trace --watch --format -q --quiet -h --help';;

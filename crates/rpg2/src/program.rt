@@ -10,7 +10,9 @@ use rpg_cli_reports::{
     say,
 };
 use rpg_cli_run::{go_files, run_files};
-use rpg_cli_words::{CommandName, Format, Request, refuse_bytes, refuse_same_file, request_of};
+use rpg_cli_words::{
+    CommandName, Format, Request, refuse_bytes, refuse_same_file, refuse_unreplaced, request_of,
+};
 use std::io::{Error, ErrorKind, Write};
 use std::process::ExitCode;
 use std::rt::{Clock, Env, Files};
@@ -84,6 +86,9 @@ fn obey_as_asked<
             out,
             listener,
         ),
+        Err(CommandStop::Unreplaced(unreplaced)) => {
+            refuse(rt, &refuse_unreplaced(alloc, unreplaced), out, listener)
+        }
         Err(CommandStop::Unshown(reason)) => {
             report_unwritten(Outlet::of(request), reason, listener);
             1

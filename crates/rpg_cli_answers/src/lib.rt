@@ -19,6 +19,6 @@ pub use json::{JsonLine, json_line};
 pub use objects::source_object;
 pub use reading::{source_bytes, system_path};
 pub use rpg_cli_files::{Listener, report_message, report_refusal};
-pub use sharing::{NamedFile, refuse_same_file};
+pub use sharing::{NamedFile, refuse_replacing, refuse_same_file};
 pub use stop::{CommandStop, Reasons};
 pub use text::line;

@@ -1,7 +1,7 @@
-//! Files that two arguments name.
+//! Files that must not be written: that two arguments name, or that an output may not replace.
 
-use rpg_cli_files::{FileIdentity, Opened, Pending, identity, identity_at};
-use rpg_cli_words::{FileArgument, SameFile, Shared};
+use rpg_cli_files::{FileIdentity, Opened, Pending, begins_with, identity, identity_at};
+use rpg_cli_words::{Existing, FileArgument, SameFile, Shared, Unreplaced, may_replace};
 use std::rt::Files;
 
 /// An argument, and the regular file that it names, if any.
@@ -74,4 +74,29 @@ pub fn refuse_same_file(written: NamedFile, others: &[NamedFile]) -> Result<(), 
         }
     }
     Ok(())
+}
+
+/// Returns what is at the place of an output.
+fn existing_at<R: Files>(rt: &R, path: &str) -> Existing {
+    match begins_with(rt, path, b"RPGOBJ") {
+        None => Existing::Nothing,
+        Some(true) => Existing::ObjectProgram,
+        Some(false) if path.ends_with(".rpg") => Existing::Source,
+        Some(false) => Existing::Other,
+    }
+}
+
+/// Refuses to replace a file that an output may not replace.
+pub fn refuse_replacing<R: Files>(
+    rt: &R,
+    written: FileArgument,
+    path: Option<&str>,
+    is_forced: bool,
+) -> Result<(), Unreplaced> {
+    let existing = existing_at(rt, path.unwrap_or(""));
+    if may_replace(written, existing, is_forced) {
+        Ok(())
+    } else {
+        Err(Unreplaced { written, existing })
+    }
 }

@@ -2,7 +2,7 @@
 
 use crate::answer::Answer;
 use rpg_cli_files::Reason;
-use rpg_cli_words::SameFile;
+use rpg_cli_words::{SameFile, Unreplaced};
 use std::alloc::AllocError;
 
 /// What ends a command before its work is done.
@@ -11,6 +11,8 @@ pub enum CommandStop {
     Answer(Answer),
     /// A file that another argument names would be emptied.
     SameFile(SameFile),
+    /// A file would be replaced that its output may not replace.
+    Unreplaced(Unreplaced),
     /// A text couldn't be printed completely.
     Unshown(Reason),
     /// The job produced no report.
@@ -50,6 +52,12 @@ impl From<AllocError> for CommandStop {
 impl From<SameFile> for CommandStop {
     fn from(same: SameFile) -> CommandStop {
         CommandStop::SameFile(same)
+    }
+}
+
+impl From<Unreplaced> for CommandStop {
+    fn from(unreplaced: Unreplaced) -> CommandStop {
+        CommandStop::Unreplaced(unreplaced)
     }
 }
 

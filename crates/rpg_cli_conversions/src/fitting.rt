@@ -3,8 +3,8 @@
 use crate::changes::{change_messages, long_deck_message, refusal_message, too_many_message};
 use crate::new_deck::new_deck_messages;
 use rpg_cli_answers::{
-    Answer, CommandStop, Listener, NamedFile, named, refuse_same_file, report_message,
-    report_refusal,
+    Answer, CommandStop, Listener, NamedFile, named, refuse_replacing, refuse_same_file,
+    report_message, report_refusal,
 };
 use rpg_cli_files::{FileFault, Opened, Reason, file_bytes, lines, write_bytes};
 use rpg_cli_messages::{is_object, source_messages};
@@ -163,6 +163,7 @@ fn write_new_deck<R: Files + Print + AllocGlobal>(
         }
         Some(path) => {
             keep_files(rt, request, path)?;
+            refuse_replacing(rt, FileArgument::Fitted, Some(path), request.forces)?;
             Ok(named(FileArgument::Fitted, write_bytes(rt, path, new))?)
         }
     }

@@ -2,7 +2,8 @@
 
 use crate::refused::{deck_message, record_message};
 use rpg_cli_answers::{
-    Answer, CommandStop, Listener, NamedFile, named, refuse_same_file, report_refusal,
+    Answer, CommandStop, Listener, NamedFile, named, refuse_replacing, refuse_same_file,
+    report_refusal,
 };
 use rpg_cli_files::{
     FileFault, KeptFile, LineTarget, Opened, Pending, Reason, RecordSource, file_bytes, input_file,
@@ -100,7 +101,7 @@ fn is_shared<R: Files + AllocGlobal>(
     }
 }
 
-/// Refuses to write a file that another argument names too.
+/// Refuses to write a file that another argument names too, or that isn't replaced.
 fn keep_files<R: Files + AllocGlobal>(
     rt: &R,
     request: &Request,
@@ -120,7 +121,8 @@ fn keep_files<R: Files + AllocGlobal>(
             shared: Shared::File,
         }));
     }
-    Ok(())
+    refuse_replacing(rt, FileArgument::Out, request.output, false)?;
+    Ok(refuse_replacing(rt, FileArgument::NewDeck, request.new_deck, false)?)
 }
 
 /// Returns why a device failed, if it gave a reason.

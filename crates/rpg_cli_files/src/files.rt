@@ -7,7 +7,7 @@ ghost use Rattle.rpg_files.specs.Counting.{device_of, faults_after, faults_of};
 use crate::reason::Reason;
 use rpg_files::Counted;
 use std::fs::{self, File, Metadata, OpenFile};
-use std::io::{Error, ErrorKind, Read, Write};
+use std::io::{self, Error, ErrorKind, Read, Write};
 use std::os::unix::fs::MetadataExt;
 use std::rt::Files;
 
@@ -72,6 +72,22 @@ pub fn identity<F: OpenFile>(file: &F) -> Option<FileIdentity> {
 /// Returns the identity of the file at a path, if it is regular.
 pub fn identity_at<R: Files>(rt: &R, path: &str) -> Option<FileIdentity> {
     identity_in(&fs::metadata(rt, path).ok()?)
+}
+
+/// Whether a file that can be read begins with these bytes.
+fn has_mark<R: Files>(rt: &R, path: &str, mark: &[u8; 6]) -> io::Result<bool> {
+    let mut bytes = [0; 6];
+    fs::open(rt, path)?.read_exact(&mut bytes)?;
+    Ok(bytes == *mark)
+}
+
+/// Whether the file at a path begins with these six bytes. None if it isn't there, isn't regular or is empty: writing it loses nothing.
+pub fn begins_with<R: Files>(rt: &R, path: &str, mark: &[u8; 6]) -> Option<bool> {
+    let about = fs::metadata(rt, path).ok()?;
+    if !about.is_file() || about.len() == 0 {
+        return None;
+    }
+    Some(has_mark(rt, path, mark).unwrap_or(false))
 }
 
 /// Opens a file for reading, and returns it with its metadata. A folder isn't one.

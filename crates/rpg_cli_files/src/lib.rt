@@ -11,8 +11,8 @@ mod sending;
 mod streams;
 
 pub use files::{
-    FileFault, FileIdentity, file_bytes, flush_device, identity, identity_at, input_file,
-    output_file,
+    FileFault, FileIdentity, begins_with, file_bytes, flush_device, identity, identity_at,
+    input_file, output_file,
 };
 pub use listener::{Listener, report_message, report_refusal};
 pub use pending::{KeptFile, Pending, kept_file};

@@ -2,7 +2,9 @@
 
 use crate::keeping::Kept;
 use crate::wanted::WantedFiles;
-use rpg_cli_answers::{Answer, CommandStop, NamedFile, named, refuse_same_file, system_path};
+use rpg_cli_answers::{
+    Answer, CommandStop, NamedFile, named, refuse_replacing, refuse_same_file, system_path,
+};
 use rpg_cli_files::{
     KeptFile, LineTarget, Opened, Pending, RecordSource, input_file, kept_file, lines, output_file,
     records,
@@ -89,7 +91,7 @@ fn read_files<R: Files>(rt: &R, request: &Request, files: &RunFiles<R::File>) ->
     ]
 }
 
-/// Refuses to empty or replace a file that another argument names too.
+/// Refuses to empty or replace a file that another argument names too, or a program.
 fn refuse_shared<R: Files + AllocGlobal>(
     rt: &R,
     request: &Request,
@@ -103,7 +105,22 @@ fn refuse_shared<R: Files + AllocGlobal>(
     let all = [object, source, primary, secondary, print, disk];
     refuse_same_file(print, &all[..4])?;
     refuse_same_file(disk, &all[..5])?;
-    kept.refuse_shared(rt, &all)
+    kept.refuse_shared(rt, &all)?;
+    refuse_program(rt, FileArgument::Print, request.print, &files.print)?;
+    refuse_program(rt, FileArgument::Disk, request.disk, &files.disk)
+}
+
+/// Refuses to replace a program by what a run writes.
+fn refuse_program<R: Files>(
+    rt: &R,
+    argument: FileArgument,
+    path: Option<&str>,
+    file: &Opened<R::File>,
+) -> Result<(), CommandStop> {
+    match file {
+        Opened::Nothing | Opened::Standard => Ok(()),
+        Opened::File(_) | Opened::New(_) => Ok(refuse_replacing(rt, argument, path, false)?),
+    }
 }
 
 /// Empties the output files, unless another argument names one of them.

@@ -4,14 +4,15 @@ use crate::judging::compiled;
 use crate::sources::report_faults;
 use crate::translation::CompiledObject;
 use rpg_cli_answers::{
-    Answer, CommandStop, Listener, NamedFile, named, refuse_same_file, source_bytes, system_path,
+    Answer, CommandStop, Listener, NamedFile, named, refuse_replacing, refuse_same_file,
+    source_bytes, system_path,
 };
 use rpg_cli_files::write_bytes;
 use rpg_cli_warnings::judge_warnings;
 use rpg_cli_words::{FileArgument, Request};
 use std::rt::Files;
 
-/// Writes a compiled object to its file, unless a warning rejects the source or the two are the same file.
+/// Writes a compiled object to its file, unless a warning rejects the source, or the file may not be replaced.
 fn write_object<R: Files + AllocGlobal, L: Listener>(
     rt: &R,
     request: &Request,
@@ -25,6 +26,7 @@ fn write_object<R: Files + AllocGlobal, L: Listener>(
     let source = NamedFile::at(rt, FileArgument::Source, system_path(path));
     let written = NamedFile::at(rt, FileArgument::Object, place);
     refuse_same_file(written, &[source])?;
+    refuse_replacing(rt, FileArgument::Object, request.object, false)?;
     named(FileArgument::Object, write_bytes(rt, place, &bytes))?;
     Ok(Answer::Compiled)
 }

@@ -16,12 +16,10 @@ fn plain<'a>(alloc: Global, argument: Argument) -> Arg<'a> {
 
 /// Adds its name, unless it is positional.
 fn named<'a>(alloc: Global, argument: Argument) -> Arg<'a> {
-    if argument.is_placed() {
-        plain(alloc, argument)
-    } else if argument.is_quiet() {
-        plain(alloc, argument).long(argument.name).short('q')
-    } else {
-        plain(alloc, argument).long(argument.name)
+    match argument.short() {
+        _ if argument.is_placed() => plain(alloc, argument),
+        Some(short) => plain(alloc, argument).long(argument.name).short(short),
+        None => plain(alloc, argument).long(argument.name),
     }
 }
 

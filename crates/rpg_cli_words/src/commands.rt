@@ -6,12 +6,12 @@ use std::ops::RangeInclusive;
 
 /// The commands, in the order of the help: the name, the keys of the arguments, and what the command does.
 pub(crate) const COMMANDS: &str =
-    "compile: SRC OBJ.new allowance faults deny allow format quiet: Compiles the source SRC to the object program OBJ
+    "compile: SRC OBJ.new output allowance faults deny allow format quiet: Compiles the source SRC to the object program OBJ
 check: SRC.each faults deny allow format quiet: Reports all faults of each source SRC on standard error, and writes nothing
 list: SRC format: Lists the source SRC: its cards with their faults, record layouts, names, indicators and printed lines
 cards: SRC.short short ruler: Turns the lines of shorthand in SRC into cards, such as O 32=TOT 42=10
 records: IN OUT by to file length rdw lines ascii low-blank drop deck format: Converts a shop's records to lines, guided by the deck that reads them, or back
-fit: SRC.old NEW table switches forms format: Rewrites the old deck SRC as cards that are read, and reports each change
+fit: SRC.old NEW force table switches forms format: Rewrites the old deck SRC as cards that are read, and reports each change
 verify: OBJ format quiet: Verifies the object program OBJ, and prints the most steps that a cycle can take
 explain: CODE list: Explains codes, such as F16, S5, V21, B5 or halt 4, or all of them
 show: OBJ source rows format: Shows what the object program OBJ reads, writes and needs, or its rows
@@ -26,10 +26,12 @@ go: SRC INPUT PRINT.go date secondary disk most keep trace watch allowance fault
 /// | | |
 /// |---|---|
 /// | `R`, `P` | a positional argument; with `P` it is optional |
+/// | `U` | a positional argument, unless the other argument is there |
 /// | `S`, `M` | all arguments from its place on; with `M` there may be none |
 /// | `F` | nothing: a flag |
 /// | `Q` | nothing: the flag with the short form `-q` |
 /// | `V` | a value |
+/// | `O` | a value, with the short form `-o` |
 /// | `E` | a value, unless the other argument is there |
 /// | `W` | a value, several times |
 /// | `A` | an allowance: a number from 1 on, 1000 by default |
@@ -45,13 +47,15 @@ SRC.each S The sources, one card per line; - is standard input
 SRC.short R The lines of shorthand, or with --short the cards; - is standard input
 SRC.old R The old deck, one card per line
 OBJ R The object program
-OBJ.new R Where the object program goes
+OBJ.new U!output Where the object program goes; it replaces nothing but an object program
+output O=OBJ Where the object program goes, in place of OBJ
 INPUT R The records; - is standard input
 PRINT R Where the printed lines go; - is standard output, and the answer's line then goes to standard error
 PRINT.go P Where the printed lines go; standard output if it isn't given
 IN R The records; - is standard input
 OUT R Where the lines go; with --to, IN has the lines and the records go here
 NEW P Where the new deck goes; without it the changes are only reported
+force F Replaces NEW if it exists
 CODE M The codes, such as F16 or halt 4; all if none is given
 allowance A=N How many backward branches and calls a cycle may take
 faults N=N The most faults or warnings to list
@@ -175,12 +179,16 @@ impl Argument {
 
     /// Whether it is positional.
     pub fn is_placed(self) -> bool {
-        matches!(self.letter, b'R' | b'P' | b'S' | b'M')
+        matches!(self.letter, b'R' | b'P' | b'U' | b'S' | b'M')
     }
 
-    /// Whether it has the short form `-q`.
-    pub fn is_quiet(self) -> bool {
-        self.letter == b'Q'
+    /// Returns its short form.
+    pub fn short(self) -> Option<char> {
+        match self.letter {
+            b'Q' => Some('q'),
+            b'O' => Some('o'),
+            _ => None,
+        }
     }
 
     /// Returns the action of each use.
@@ -227,7 +235,7 @@ impl Argument {
 
     /// Returns the argument that can replace it.
     pub fn unless(self) -> Option<&'static str> {
-        if self.letter == b'E' {
+        if matches!(self.letter, b'E' | b'U') {
             self.other
         } else {
             None

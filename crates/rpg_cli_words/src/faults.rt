@@ -8,6 +8,7 @@ use rpg_cli_values::{are_switches, byte_of};
 
 /// The arguments that can't be a standard stream: the command, `.` for all of them; the argument; and the message if it is one.
 const FILES: &str = ". OBJ '<OBJ>' can't be '-', a standard stream; a file of that name is './-'
+. output '--output <OBJ>' can't be '-', a standard stream; a file of that name is './-'
 . source '--source <SRC>' can't be '-', a standard stream; a file of that name is './-'
 . by '--by <SRC>' can't be '-', a standard stream; a file of that name is './-'
 . to '--to <SRC>' can't be '-', a standard stream; a file of that name is './-'

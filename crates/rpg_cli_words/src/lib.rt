@@ -6,6 +6,7 @@ mod commands;
 mod faults;
 mod files;
 mod options;
+mod outputs;
 mod refusal;
 mod request;
 
@@ -14,6 +15,7 @@ pub use options::{
     AnswerArguments, CardsWanted, Format, LookArguments, RecordFraming, RecordsWay, TableArgument,
     WarningArguments,
 };
-pub use refusal::{Refusal, refuse_bytes, refuse_same_file};
+pub use outputs::{Existing, Unreplaced, may_replace};
+pub use refusal::{Refusal, refuse_bytes, refuse_same_file, refuse_unreplaced};
 pub use request::{CommandName, Request, request_of};
 pub use rpg_cli_values::DateArgument;

@@ -4,6 +4,7 @@ ghost use Rattle.std.specs.Prelude.{◌≤◌, IfOk};
 
 use crate::building::fault;
 use crate::files::SameFile;
+use crate::outputs::Unreplaced;
 use clap::Error;
 use clap::error::ErrorKind;
 use std::alloc::{AllocError, Global};
@@ -66,6 +67,22 @@ pub fn refuse_bytes(alloc: Global) -> Refusal {
 /// Rejects arguments that name the same file.
 pub fn refuse_same_file(alloc: Global, same: SameFile) -> Refusal {
     Refusal::of(same_file_error(alloc, same))
+}
+
+fn unreplaced_error(alloc: Global, unreplaced: Unreplaced) -> Result<Error, AllocError> {
+    let (written, text) = (unreplaced.written.text(), unreplaced.text());
+    let message = format!(in alloc; "'{written}' {text}")?;
+    fault(
+        alloc,
+        PROGRAM,
+        ErrorKind::ArgumentConflict,
+        message.as_str(),
+    )
+}
+
+/// Rejects an output that doesn't replace what is at its place.
+pub fn refuse_unreplaced(alloc: Global, unreplaced: Unreplaced) -> Refusal {
+    Refusal::of(unreplaced_error(alloc, unreplaced))
 }
 
 fn same_file_error(alloc: Global, same: SameFile) -> Result<Error, AllocError> {

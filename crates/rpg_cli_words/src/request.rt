@@ -98,6 +98,8 @@ pub struct Request<'a> {
     pub dropped: Option<u8>,
     /// The deck that reads the lines, or the rewritten form of an old deck.
     pub new_deck: Option<&'a str>,
+    /// Whether that form replaces a deck.
+    pub forces: bool,
     pub tables: Vec<TableArgument<'a>>,
     /// Eight digits: for each of U1 to U8 whether it is on. All are off by default.
     pub switches: Option<&'a str>,
@@ -186,7 +188,7 @@ fn request_with<'a>(command: CommandName, given: &ArgMatches<'a>, lists: Lists<'
     Request {
         command,
         sources: lists.sources,
-        object: given.get_str("OBJ"),
+        object: given.get_str("OBJ").or(given.get_str("output")),
         input: given.get_str("INPUT").or(given.get_str("IN")),
         print: given.get_str("PRINT").or(command.default_print()),
         date: given.get_str("date").map(DateArgument::of),
@@ -211,6 +213,7 @@ fn request_with<'a>(command: CommandName, given: &ArgMatches<'a>, lists: Lists<'
         low_blank: given.get_flag("low-blank"),
         dropped: given.get_str("drop").and_then(byte_of),
         new_deck: given.get_str("deck").or(given.get_str("NEW")),
+        forces: given.get_flag("force"),
         tables: lists.tables,
         switches: given.get_str("switches"),
         keeps_forms: given.get_flag("forms"),

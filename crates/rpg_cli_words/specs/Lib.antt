@@ -1,0 +1,2 @@
+-- What outputs replace.
+pub mod Outputs
