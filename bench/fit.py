@@ -69,7 +69,9 @@ class Room:
         return Answer(ran.stdout.strip(), ran.returncode, ran.stderr)
 
     def text(self, name):
-        return (self.folder / name).read_bytes().decode("latin-1")
+        """What a file has, or the part of it that a job left."""
+        part = self.folder / f"{name}.part"
+        return (part if part.exists() else self.folder / name).read_bytes().decode("latin-1")
 
     def fit(self, source, new):
         tables = ["--table", f"{old_deck_sources.TABLE_FILE}=table"] if self.job.table is not None else []

@@ -226,6 +226,15 @@ class Session:
             return b""
         return f"{self.path(name).stat().st_mode & 0o7777:o}\n".encode()
 
+    def do_group(self, name: str) -> bytes:
+        """Gives a file to another group of the user's, or to his own if he has no other."""
+        os.chown(self.path(name), -1, other_group())
+        return b""
+
+    def do_grouped(self, name: str) -> bytes:
+        """Whether a file belongs to the group that `group` gives files to."""
+        return b"the given group\n" if self.path(name).stat().st_gid == other_group() else b"another group\n"
+
     def do_copy(self, name: str, other: str) -> bytes:
         shutil.copyfile(self.path(name), self.path(other))
         return b""
@@ -250,6 +259,12 @@ class Session:
         pages = self.program.run(["explain"], self.folder).text
         is_same = self.path(name).read_bytes().startswith(pages + b"# ")
         return b"the pages of all codes\n" if is_same else b"another text\n"
+
+
+def other_group() -> int:
+    """A group that the user can give files to, not his own if he has another; root has any."""
+    own = os.getegid()
+    return 12 if os.geteuid() == 0 else max((it for it in os.getgroups() if it != own), default=own)
 
 
 def piece_of(pipe: IO[bytes]) -> bytes:

@@ -71,7 +71,7 @@ complete -c rpg2 -n '__fish_seen_subcommand_from go' -l date -x -d 'The date: si
 complete -c rpg2 -n '__fish_seen_subcommand_from go' -l secondary -r -F -d 'The records of a secondary file'
 complete -c rpg2 -n '__fish_seen_subcommand_from go' -l disk -r -F -d 'Where the records of a disk file go'
 complete -c rpg2 -n '__fish_seen_subcommand_from go' -l most -x -d 'Rejects a program if a cycle may take more than N steps'
-complete -c rpg2 -n '__fish_seen_subcommand_from go' -l keep -d 'Keeps the old PRINT and disk file until the job has ended well'
+complete -c rpg2 -n '__fish_seen_subcommand_from go' -l keep -d 'Is the default: keeps the old PRINT and disk file until the job has ended well'
 complete -c rpg2 -n '__fish_seen_subcommand_from go' -l trace -x -d 'Reports the first N cycles one by one: records, indicators, lines and fields'
 complete -c rpg2 -n '__fish_seen_subcommand_from go' -l watch -d 'Reports control fields that go down, and counts records and lines'
 complete -c rpg2 -n '__fish_seen_subcommand_from go' -l allowance -x -d 'How many backward branches and calls a cycle may take [default: 1000]'

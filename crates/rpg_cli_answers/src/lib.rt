@@ -4,6 +4,7 @@
 mod answer;
 mod diagnostic;
 mod formed;
+mod in_place;
 mod json;
 mod objects;
 mod picture;
@@ -15,6 +16,7 @@ mod text;
 
 pub use answer::{Answer, Line, named};
 pub use formed::FormedListener;
+pub use in_place::report_in_place;
 pub use json::{JsonLine, json_line};
 pub use objects::source_object;
 pub use reading::{source_bytes, system_path};

@@ -38,7 +38,7 @@ impl NamedFile {
     ) -> NamedFile {
         let identity = match file {
             Opened::Nothing => None,
-            Opened::File(file) | Opened::New(file) => identity(file),
+            Opened::File(file) | Opened::New(file) | Opened::InPlace(file, _) => identity(file),
             Opened::Standard => identity_at(rt, stream),
         };
         NamedFile { argument, identity }

@@ -3,11 +3,11 @@
 use crate::refused::{deck_message, record_message};
 use rpg_cli_answers::{
     Answer, CommandStop, Listener, NamedFile, named, refuse_replacing, refuse_same_file,
-    report_refusal,
+    report_in_place, report_refusal,
 };
 use rpg_cli_files::{
     FileFault, KeptFile, LineTarget, Opened, Pending, Reason, RecordSource, file_bytes, input_file,
-    kept_file, lines, records, write_bytes,
+    kept_file, lines, records,
 };
 use rpg_cli_messages::{is_object, object_message};
 use rpg_cli_words::{
@@ -20,7 +20,7 @@ use rpg_record_lines::{
 };
 use std::alloc::Global;
 use std::fs::OpenFile;
-use std::io::{BufWriter, Read, Write};
+use std::io::{self, BufWriter, Read, Write};
 use std::rt::Files;
 
 /// How many bytes of OUT are buffered.
@@ -89,15 +89,73 @@ fn opened_input<R: Files>(rt: &R, request: &Request) -> Result<Opened<R::File>, 
     Ok(Opened::File(file))
 }
 
-/// Whether NEW and OUT would be the same file, if neither exists yet.
-fn is_shared<R: Files + AllocGlobal>(
-    rt: &R,
-    request: &Request,
-    pending: &Option<Pending<'_>>,
-) -> Result<bool, Answer> {
-    match (pending, request.new_deck) {
-        (Some(pending), Some(path)) => Ok(pending.goes_to(rt, path)?),
-        _ => Ok(false),
+/// The files that are written beside their places.
+#[derive(Drop)]
+struct NewFiles<'a> {
+    lines: Option<Pending<'a>>,
+    deck: Option<Pending<'a>>,
+}
+
+impl<'a> NewFiles<'a> {
+    /// Opens NEW for writing, if the arguments ask for it.
+    fn opened_deck<R: Files + AllocGlobal>(
+        &mut self,
+        rt: &R,
+        request: &Request<'a>,
+    ) -> Result<Opened<R::File>, Answer> {
+        let Some(path) = request.new_deck else {
+            return Ok(Opened::Nothing);
+        };
+        let KeptFile { opened, pending } = named(FileArgument::NewDeck, kept_file(rt, path))?;
+        self.deck = pending;
+        Ok(opened)
+    }
+
+    /// Refuses to make one file of OUT and NEW, if neither exists yet.
+    fn refuse_shared<R: Files + AllocGlobal>(&self, rt: &R) -> Result<(), CommandStop> {
+        let (Some(lines), Some(deck)) = (&self.lines, &self.deck) else {
+            return Ok(());
+        };
+        match named(FileArgument::NewDeck, lines.goes_to(rt, deck.place()))? {
+            false => Ok(()),
+            true => Err(CommandStop::SameFile(SameFile {
+                earlier: FileArgument::Out,
+                written: FileArgument::NewDeck,
+                shared: Shared::File,
+            })),
+        }
+    }
+
+    /// Moves OUT to its place, then NEW.
+    fn put_in_place<R: Files>(&self, rt: &R) -> Result<(), Answer> {
+        if let Some(lines) = &self.lines {
+            named(FileArgument::Out, lines.put_in_place(rt))?;
+        }
+        match &self.deck {
+            Some(deck) => named(FileArgument::NewDeck, deck.put_in_place(rt)),
+            None => Ok(()),
+        }
+    }
+
+    /// Moves the files to their places once both are whole, or removes them.
+    fn conclude<R: Files>(
+        &self,
+        rt: &R,
+        converted: Result<Counts, CommandStop>,
+    ) -> Result<Counts, CommandStop> {
+        let concluded = match converted {
+            Ok(counts) => match self.put_in_place(rt) {
+                Ok(()) => Ok(counts),
+                Err(answer) => Err(answer.into()),
+            },
+            Err(stop) => Err(stop),
+        };
+        if concluded.is_err() {
+            for file in [&self.lines, &self.deck].into_iter().flatten() {
+                file.discard(rt);
+            }
+        }
+        concluded
     }
 }
 
@@ -106,7 +164,7 @@ fn keep_files<R: Files + AllocGlobal>(
     rt: &R,
     request: &Request,
     input: &Opened<R::File>,
-    pending: &Option<Pending<'_>>,
+    new: &NewFiles<'_>,
 ) -> Result<(), CommandStop> {
     let deck = NamedFile::named(rt, request.deck_argument(), request.deck);
     let input = NamedFile::opened(rt, FileArgument::In, input, "/dev/stdin");
@@ -114,13 +172,7 @@ fn keep_files<R: Files + AllocGlobal>(
     let new_deck = NamedFile::named(rt, FileArgument::NewDeck, request.new_deck);
     refuse_same_file(output, &[input, deck])?;
     refuse_same_file(new_deck, &[input, output, deck])?;
-    if is_shared(rt, request, pending)? {
-        return Err(CommandStop::SameFile(SameFile {
-            earlier: FileArgument::Out,
-            written: FileArgument::NewDeck,
-            shared: Shared::File,
-        }));
-    }
+    new.refuse_shared(rt)?;
     refuse_replacing(rt, FileArgument::Out, request.output, false)?;
     Ok(refuse_replacing(rt, FileArgument::NewDeck, request.new_deck, false)?)
 }
@@ -208,92 +260,94 @@ fn convert<
     }
 }
 
-/// Empties the output, unless another argument names the same file.
-fn empty_output<R: Files + AllocGlobal>(
-    rt: &R,
-    request: &Request,
-    input: &Opened<R::File>,
-    output: &Opened<R::File>,
-    pending: &Option<Pending<'_>>,
-) -> Result<(), CommandStop> {
-    keep_files(rt, request, input, pending)?;
-    Ok(named(FileArgument::Out, output.empty())?)
-}
-
-/// Converts the open files, unless another argument names a file that is written.
-fn convert_opened<R: Files + Input + Print + AllocGlobal, L: Listener>(
-    rt: &R,
-    request: &Request,
-    layout: &Layout,
-    input: Opened<R::File>,
-    output: Opened<R::File>,
-    pending: &Option<Pending<'_>>,
-    listener: &mut L,
-) -> Result<Counts, CommandStop> {
-    empty_output(rt, request, &input, &output, pending)?;
-    let (source, target) = (records(rt, input), lines(rt, output));
-    Ok(convert(rt.alloc(), request, layout, source, target, listener)?)
+/// The deck of the records, and their layout.
+#[derive(Clone, Copy)]
+struct RecordDeck<'a> {
+    source: &'a [u8],
+    layout: &'a Layout,
 }
 
 /// Writes the deck that reads the lines, if the arguments ask for it.
-fn write_deck<R: Files + AllocGlobal>(
+fn write_deck<R: Files + Print + AllocGlobal>(
     rt: &R,
-    request: &Request,
-    source: &[u8],
-    layout: &Layout,
+    deck: RecordDeck<'_>,
+    opened: Opened<R::File>,
 ) -> Result<(), Answer> {
-    let Some(path) = request.new_deck else {
+    if let Opened::Nothing = opened {
         return Ok(());
-    };
-    let Ok(deck) = fitted_deck(rt.alloc(), source, layout) else {
+    }
+    let Ok(text) = fitted_deck(rt.alloc(), deck.source, deck.layout) else {
         return Err(Answer::NoMemory);
     };
-    named(
-        FileArgument::NewDeck,
-        write_bytes(rt, path, deck.as_slice()),
-    )
+    named(FileArgument::NewDeck, opened.empty())?;
+    match write_whole(&mut lines(rt, opened), text.as_slice()) {
+        Ok(()) => Ok(()),
+        Err(error) => Err(Answer::File {
+            argument: FileArgument::NewDeck,
+            fault: FileFault::Output(Reason::of(error.kind())),
+        }),
+    }
 }
 
-/// Moves a file that was written beside its place to its place, or removes it.
-fn conclude<R: Files>(
+fn write_whole<W: Write>(out: &mut W, bytes: &[u8]) -> io::Result<()> {
+    out.write_all(bytes)?;
+    out.flush()
+}
+
+/// Converts the open files, unless another argument names a file that is written. NEW is written last.
+fn convert_opened<'a, R: Files + Input + Print + AllocGlobal, L: Listener>(
     rt: &R,
-    pending: &Pending<'_>,
-    converted: Result<Counts, CommandStop>,
+    request: &Request<'a>,
+    deck: RecordDeck<'_>,
+    input: Opened<R::File>,
+    output: Opened<R::File>,
+    new: &mut NewFiles<'a>,
+    listener: &mut L,
 ) -> Result<Counts, CommandStop> {
-    let concluded = match converted {
-        Ok(counts) => match named(FileArgument::Out, pending.put_in_place(rt)) {
-            Ok(()) => Ok(counts),
-            Err(answer) => Err(answer.into()),
-        },
-        Err(stop) => Err(stop),
-    };
-    if concluded.is_err() {
-        pending.discard(rt);
+    let new_deck = new.opened_deck(rt, request)?;
+    keep_files(rt, request, &input, new)?;
+    report_kept(rt.alloc(), request, &output, &new_deck, listener);
+    named(FileArgument::Out, output.empty())?;
+    let (from, to) = (records(rt, input), lines(rt, output));
+    let counts = convert(rt.alloc(), request, deck.layout, from, to, listener)?;
+    write_deck(rt, deck, new_deck)?;
+    Ok(counts)
+}
+
+/// Reports which outputs are written in place, though they were to be kept.
+fn report_kept<F, L: Listener>(
+    alloc: Global,
+    request: &Request,
+    output: &Opened<F>,
+    deck: &Opened<F>,
+    listener: &mut L,
+) {
+    for (argument, file) in [(FileArgument::Out, output), (FileArgument::NewDeck, deck)] {
+        report_in_place(alloc, argument, request.file(argument), file, listener);
     }
-    concluded
 }
 
 /// Converts the records or the lines of a file.
 fn convert_file<R: Files + Input + Print + AllocGlobal, L: Listener>(
     rt: &R,
     request: &Request,
-    layout: &Layout,
+    deck: RecordDeck<'_>,
     listener: &mut L,
 ) -> Result<Counts, CommandStop> {
     let input = opened_input(rt, request)?;
     let place = request.file(FileArgument::Out);
     let KeptFile { opened, pending } = named(FileArgument::Out, kept_file(rt, place))?;
-    let converted = convert_opened(rt, request, layout, input, opened, &pending, listener);
-    match &pending {
-        Some(pending) => conclude(rt, pending, converted),
-        None => converted,
-    }
+    let mut new = NewFiles {
+        lines: pending,
+        deck: None,
+    };
+    let converted = convert_opened(rt, request, deck, input, opened, &mut new, listener);
+    new.conclude(rt, converted)
 }
 
 /// Converts the records of a file to lines, or its lines to records.
 ///
-/// OUT, then NEW, are written only after all records are converted: if one is rejected, both stay
-/// unchanged.
+/// OUT and NEW are moved to their places once both are whole: otherwise both stay unchanged.
 pub fn records_file<R: Files + Input + Print + AllocGlobal, L: Listener>(
     rt: &R,
     request: &Request,
@@ -302,8 +356,11 @@ pub fn records_file<R: Files + Input + Print + AllocGlobal, L: Listener>(
     let deck = request.deck_argument();
     let source = named(deck, file_bytes(rt, request.file(deck)))?;
     let layout = layout(rt.alloc(), request, &source, listener)?;
-    let Counts { records, dropped } = convert_file(rt, request, &layout, listener)?;
-    write_deck(rt, request, &source, &layout)?;
+    let deck = RecordDeck {
+        source: &source,
+        layout: &layout,
+    };
+    let Counts { records, dropped } = convert_file(rt, request, deck, listener)?;
     Ok(Answer::Records {
         records,
         dropped,

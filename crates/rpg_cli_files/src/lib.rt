@@ -17,6 +17,6 @@ pub use files::{
 pub use listener::{Listener, report_message, report_refusal};
 pub use pending::{KeptFile, Pending, kept_file};
 pub use reason::Reason;
-pub use replacing::{Replaces, write_bytes};
+pub use replacing::{InPlace, Replaces, write_bytes};
 pub use sending::{send_line, send_text};
 pub use streams::{LineTarget, Opened, RecordSource, lines, records};

@@ -1,17 +1,20 @@
 //! Files of a job that are written beside their places, and moved there once they are complete.
 
 use crate::files::{FileFault, identity_at, output_fault, output_file};
-use crate::replacing::{Beside, Replaces, is_free, name_beside, new_file};
+use crate::replacing::{
+    Beside, Replaces, Target, Writing, Written, is_free, name_beside, new_file, target_of,
+};
 use crate::streams::Opened;
-use std::alloc::AllocError;
 use std::fs;
 use std::rt::Files;
 
 /// A new file that is written beside its place.
 #[derive(Drop)]
 pub struct Pending<'a> {
-    /// Where it goes when it is complete. The file there is kept until then.
+    /// What the arguments call its place.
     place: &'a str,
+    /// Where it goes when it is complete: the place, or where a link there leads. The file there is kept until then.
+    target: String,
     /// Where it goes if it is incomplete.
     part: String,
     new: String,
@@ -28,20 +31,21 @@ pub struct KeptFile<'a, F> {
     pub pending: Option<Pending<'a>>,
 }
 
-/// Opens a file for writing: a new one beside its place, or the existing one if that is a link, a device or a folder, or has another name
-/// or another owner.
+/// Opens a file for writing: a new one beside its place, or the existing one if that has nothing to lose, or has another name or another
+/// owner.
 pub fn kept_file<'a, R: Files + AllocGlobal>(
     rt: &R,
     place: &'a str,
 ) -> Result<KeptFile<'a, R::File>, FileFault> {
-    let Ok(part) = format!(in rt.alloc(); "{place}.part") else {
-        return Err(FileFault::NoMemory);
-    };
-    let Some(beside) = new_file(rt, place)? else {
-        return Ok(KeptFile {
-            opened: Opened::File(output_file(rt, place)?),
-            pending: None,
-        });
+    let Written { target, writing } = new_file(rt, place)?;
+    let beside = match writing {
+        Writing::Beside(beside) => beside,
+        Writing::InPlace(why) => {
+            return Ok(KeptFile {
+                opened: Opened::InPlace(output_file(rt, place)?, why),
+                pending: None,
+            });
+        }
     };
     let Beside {
         file,
@@ -49,10 +53,15 @@ pub fn kept_file<'a, R: Files + AllocGlobal>(
         number,
         replaces,
     } = beside;
+    let Ok(part) = format!(in rt.alloc(); "{target}.part") else {
+        let _removed = fs::remove_file(rt, path.as_str());
+        return Err(FileFault::NoMemory);
+    };
     Ok(KeptFile {
         opened: Opened::New(file),
         pending: Some(Pending {
             place,
+            target,
             part,
             new: path,
             number,
@@ -78,7 +87,7 @@ impl<'a> Pending<'a> {
 
     /// Moves the file to its place, and replaces what was there, unless this fails.
     pub fn put_in_place<R: Files>(&self, rt: &R) -> Result<(), FileFault> {
-        fs::rename(rt, self.new.as_str(), self.place).map_err(output_fault)
+        fs::rename(rt, self.new.as_str(), self.target.as_str()).map_err(output_fault)
     }
 
     /// Leaves the file as a part, replacing an older one, and returns where it is.
@@ -99,8 +108,11 @@ impl<'a> Pending<'a> {
     }
 
     /// Whether a path leads to the file's place, where there may be no file yet: the new one is found beside it.
-    pub fn goes_to<R: Files + AllocGlobal>(&self, rt: &R, path: &str) -> Result<bool, AllocError> {
-        let beside = name_beside(rt.alloc(), path, self.number)?;
+    pub fn goes_to<R: Files + AllocGlobal>(&self, rt: &R, path: &str) -> Result<bool, FileFault> {
+        let Target { path, .. } = target_of(rt, path)?;
+        let Ok(beside) = name_beside(rt.alloc(), path.as_str(), self.number) else {
+            return Err(FileFault::NoMemory);
+        };
         let own = identity_at(rt, self.new.as_str());
         Ok(own.is_some() && identity_at(rt, beside.as_str()) == own)
     }

@@ -9,6 +9,8 @@ pub enum Reason {
     NotAllowed,
     /// All names that were tried for a new file are taken.
     Taken,
+    /// A new file can't be given to the group of the old one.
+    Group,
     Folder,
     /// A part of the path is a file.
     NoFolder,
@@ -47,6 +49,7 @@ impl Reason {
             Reason::Missing => "no such file or directory",
             Reason::NotAllowed => "permission denied",
             Reason::Taken => "file exists",
+            Reason::Group => "its group can't be given to a new file",
             Reason::Folder => "is a directory",
             Reason::NoFolder => "a part of the path is no directory",
             Reason::ReadOnly => "the file system is read-only",

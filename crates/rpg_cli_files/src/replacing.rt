@@ -5,19 +5,60 @@ use crate::reason::Reason;
 use std::alloc::{AllocError, Global};
 use std::fs::{self, File, Metadata, OpenFile};
 use std::io::{ErrorKind, Write};
-use std::os::unix::fs::MetadataExt;
+use std::os::unix::fs::{MetadataExt, chown};
+use std::path::Path;
 use std::rt::Files;
 
 /// How many names are tried for a file beside another.
 const NAMES: u32 = 100;
 
+/// How many links lead to a file at most.
+const LINKS: u32 = 40;
+
 /// What exists at the place of a file.
+#[derive(Drop)]
 enum Place {
     Nothing,
     /// A regular file.
     File(Metadata),
-    /// A link, a device, a folder, or something that can't be examined, such as an empty path.
+    /// A device, a pipe or a folder, or nothing that has a path.
     Other,
+}
+
+/// Why a file is written in place.
+#[derive(Clone, Copy)]
+pub enum InPlace {
+    /// It is no regular file, and has nothing to lose.
+    NotAFile,
+    /// A new file would have only one of its names.
+    OtherNames,
+    /// A new file can't be given to its owner.
+    OtherOwner,
+}
+
+impl InPlace {
+    /// Returns the reason in words, if the file has something to lose.
+    pub fn text(self) -> Option<&'static str> {
+        match self {
+            InPlace::NotAFile => None,
+            InPlace::OtherNames => Some("it has another name"),
+            InPlace::OtherOwner => Some("it belongs to another user"),
+        }
+    }
+}
+
+/// How a file is written.
+#[derive(Drop)]
+pub(crate) enum Writing<F> {
+    Beside(Beside<F>),
+    InPlace(InPlace),
+}
+
+/// Where a file goes, without links on the last part of its path, and how it is written.
+#[derive(Drop)]
+pub(crate) struct Written<F> {
+    pub target: String,
+    pub writing: Writing<F>,
 }
 
 /// A new file in the folder of another.
@@ -37,24 +78,58 @@ pub enum Replaces {
     File,
 }
 
-fn place_at<R: Files>(rt: &R, path: &str) -> Place {
-    if path.is_empty() {
-        return Place::Other;
-    }
+/// Whether a file may go there: nothing is there, or a regular file.
+pub(crate) fn is_free<R: Files>(rt: &R, path: &str) -> bool {
     match fs::symlink_metadata(rt, path) {
-        Ok(about) if about.is_file() => Place::File(about),
-        Ok(_) => Place::Other,
-        Err(error) if error.kind() == ErrorKind::NotFound => Place::Nothing,
-        Err(_) => Place::Other,
+        Ok(about) => about.is_file(),
+        Err(error) => error.kind() == ErrorKind::NotFound,
     }
 }
 
-/// Whether a file may go there: nothing is there, or a regular file.
-pub(crate) fn is_free<R: Files>(rt: &R, path: &str) -> bool {
-    match place_at(rt, path) {
-        Place::Nothing | Place::File(_) => true,
-        Place::Other => false,
+/// Whether a path names an open stream, which no new file can replace.
+fn is_stream(path: &str) -> bool {
+    path.is_empty()
+        || path.starts_with("/dev/std")
+        || path.starts_with("/dev/fd/")
+        || path.starts_with("/proc/")
+}
+
+/// Returns where the link at a path leads.
+fn linked<R: Files + AllocGlobal>(rt: &R, path: &str) -> Result<String, FileFault> {
+    let link = fs::read_link(rt, path).map_err(output_fault)?;
+    match Path::new(path).with_file_name(rt.alloc(), link.as_str()) {
+        Ok(target) => Ok(target.into_string()),
+        Err(_) => Err(FileFault::NoMemory),
     }
+}
+
+/// A place without links on its last part: its path, and what exists there.
+#[derive(Drop)]
+pub(crate) struct Target {
+    pub path: String,
+    place: Place,
+}
+
+/// Follows the links at a path.
+pub(crate) fn target_of<R: Files + AllocGlobal>(rt: &R, path: &str) -> Result<Target, FileFault> {
+    let Ok(mut path) = format!(in rt.alloc(); "{path}") else {
+        return Err(FileFault::NoMemory);
+    };
+    for _ in 0..LINKS {
+        let place = match fs::symlink_metadata(rt, path.as_str()) {
+            _ if is_stream(path.as_str()) => Place::Other,
+            Ok(about) if about.is_symlink() => {
+                path = linked(rt, path.as_str())?;
+                continue;
+            }
+            Ok(about) if about.is_file() => Place::File(about),
+            Ok(_) => Place::Other,
+            Err(error) if error.kind() == ErrorKind::NotFound => Place::Nothing,
+            Err(error) => return Err(output_fault(error)),
+        };
+        return Ok(Target { path, place });
+    }
+    Err(FileFault::Output(Reason::Name))
 }
 
 /// Returns the name of a new file beside another.
@@ -98,45 +173,64 @@ fn new_beside<R: Files + AllocGlobal>(
     Err(FileFault::Beside(Reason::Taken))
 }
 
-/// Gives a new file the permissions of an old one. False if the old one has another name, or another owner than a new one.
-fn takes_place<F: OpenFile>(new: &F, old: &Metadata) -> bool {
-    let Ok(about) = new.metadata() else {
-        return false;
-    };
-    old.nlink() <= 1
-        && old.uid() == about.uid()
-        && old.gid() == about.gid()
-        && new.set_permissions(old.permissions()).is_ok()
+/// Gives a new file the owner, the group and the permissions of an old one. None if it can't belong to that owner.
+fn take_over<R: Files>(
+    rt: &R,
+    new: &Beside<R::File>,
+    old: &Metadata,
+) -> Result<Option<()>, FileFault> {
+    let about = new.file.metadata().map_err(beside_fault)?;
+    if (old.uid(), old.gid()) != (about.uid(), about.gid()) {
+        let given = chown(rt, new.path.as_str(), Some(old.uid()), Some(old.gid()));
+        if given.is_err() && old.uid() != about.uid() {
+            return Ok(None);
+        }
+        given.map_err(|_| FileFault::Beside(Reason::Group))?;
+    }
+    new.file
+        .set_permissions(old.permissions())
+        .map_err(beside_fault)?;
+    Ok(Some(()))
 }
 
-/// Creates a file beside an old one that can be written, to replace it; None if the old one has another name or owner.
+/// Creates a file beside an old one that can be written, to replace it.
 fn new_for<R: Files + AllocGlobal>(
     rt: &R,
     path: &str,
     old: &Metadata,
-) -> Result<Option<Beside<R::File>>, FileFault> {
+) -> Result<Writing<R::File>, FileFault> {
     File::options()
         .write(true)
         .open(rt, path)
         .map_err(output_fault)?;
+    if old.nlink() > 1 {
+        return Ok(Writing::InPlace(InPlace::OtherNames));
+    }
     let beside = new_beside(rt, path, Replaces::File)?;
-    if takes_place(&beside.file, old) {
-        return Ok(Some(beside));
+    let taken = take_over(rt, &beside, old);
+    if let Ok(Some(())) = taken {
+        return Ok(Writing::Beside(beside));
     }
     let _removed = fs::remove_file(rt, beside.path.as_str());
-    Ok(None)
+    taken?;
+    Ok(Writing::InPlace(InPlace::OtherOwner))
 }
 
-/// Creates a file to replace the one at a path; None if that is a link, a device or a folder, or has another name or another owner.
+/// Creates a file to replace the one at a path, or where a link there leads.
 pub(crate) fn new_file<R: Files + AllocGlobal>(
     rt: &R,
     path: &str,
-) -> Result<Option<Beside<R::File>>, FileFault> {
-    match place_at(rt, path) {
-        Place::Nothing => Ok(Some(new_beside(rt, path, Replaces::Nothing)?)),
-        Place::File(old) => new_for(rt, path, &old),
-        Place::Other => Ok(None),
-    }
+) -> Result<Written<R::File>, FileFault> {
+    let Target { path, place } = target_of(rt, path)?;
+    let writing = match place {
+        Place::Nothing => Writing::Beside(new_beside(rt, path.as_str(), Replaces::Nothing)?),
+        Place::File(old) => new_for(rt, path.as_str(), &old)?,
+        Place::Other => Writing::InPlace(InPlace::NotAFile),
+    };
+    Ok(Written {
+        target: path,
+        writing,
+    })
 }
 
 fn write_whole<F: Write>(file: &mut F, bytes: &[u8]) -> Result<(), FileFault> {
@@ -178,12 +272,16 @@ pub fn write_bytes<R: Files + AllocGlobal>(
     path: &str,
     bytes: &[u8],
 ) -> Result<(), FileFault> {
-    let beside = match new_file(rt, path) {
-        Err(FileFault::Beside(_)) => None,
-        made => made?,
-    };
-    match beside {
-        None => write_whole(&mut fs::create(rt, path).map_err(output_fault)?, bytes),
-        Some(beside) => replace_by(rt, beside, path, bytes),
+    match new_file(rt, path) {
+        Ok(
+            Written {
+                target,
+                writing: Writing::Beside(beside),
+            },
+        ) => replace_by(rt, beside, target.as_str(), bytes),
+        Ok(_) | Err(FileFault::Beside(_)) => {
+            write_whole(&mut fs::create(rt, path).map_err(output_fault)?, bytes)
+        }
+        Err(fault) => Err(fault),
     }
 }

@@ -2,6 +2,7 @@
 
 use crate::files::{FileFault, empty_file};
 use crate::reason::Reason;
+use crate::replacing::InPlace;
 use std::fs::OpenFile;
 use std::io::{self, Printer, Read, Write};
 use std::rt::Files;
@@ -14,6 +15,8 @@ pub enum Opened<F> {
     File(F),
     /// A new, empty file beside the one to be written.
     New(F),
+    /// A file that no new one can replace.
+    InPlace(F, InPlace),
     /// Standard input, or standard output.
     Standard,
 }
@@ -22,8 +25,18 @@ impl<F: OpenFile> Opened<F> {
     /// Empties the file to be written. A new file is already empty.
     pub fn empty(&self) -> Result<(), FileFault> {
         match self {
-            Opened::File(file) => empty_file(file),
+            Opened::File(file) | Opened::InPlace(file, _) => empty_file(file),
             Opened::Nothing | Opened::New(_) | Opened::Standard => Ok(()),
+        }
+    }
+}
+
+impl<F> Opened<F> {
+    /// Returns why the file is written in place, if its old contents were to be kept.
+    pub fn in_place(&self) -> Option<&'static str> {
+        match self {
+            Opened::InPlace(_, why) => why.text(),
+            _ => None,
         }
     }
 }
@@ -68,7 +81,7 @@ pub fn records<R: Files + Input>(
 ) -> RecordSource<R::File, R::Reader> {
     let from = match opened {
         Opened::Nothing => Source::Nothing,
-        Opened::File(file) | Opened::New(file) => Source::File(file),
+        Opened::File(file) | Opened::New(file) | Opened::InPlace(file, _) => Source::File(file),
         Opened::Standard => Source::StandardInput(rt.reader()),
     };
     RecordSource { from, fault: None }
@@ -81,7 +94,7 @@ pub fn lines<R: Files + Print>(
 ) -> LineTarget<R::File, Printer<'_, R>> {
     let to = match opened {
         Opened::Nothing => Target::Nothing,
-        Opened::File(file) => Target::File(file),
+        Opened::File(file) | Opened::InPlace(file, _) => Target::File(file),
         Opened::New(file) => Target::New(file),
         Opened::Standard => Target::StandardOutput(io::writer(rt)),
     };

@@ -3,7 +3,8 @@
 use crate::keeping::Kept;
 use crate::wanted::WantedFiles;
 use rpg_cli_answers::{
-    Answer, CommandStop, NamedFile, named, refuse_replacing, refuse_same_file, system_path,
+    Answer, CommandStop, Listener, NamedFile, named, refuse_replacing, refuse_same_file,
+    report_in_place, system_path,
 };
 use rpg_cli_files::{
     KeptFile, LineTarget, Opened, Pending, RecordSource, input_file, kept_file, lines, output_file,
@@ -119,20 +120,28 @@ fn refuse_program<R: Files>(
 ) -> Result<(), CommandStop> {
     match file {
         Opened::Nothing | Opened::Standard => Ok(()),
-        Opened::File(_) | Opened::New(_) => Ok(refuse_replacing(rt, argument, path, false)?),
+        _ => Ok(refuse_replacing(rt, argument, path, false)?),
     }
 }
 
-/// Empties the output files, unless another argument names one of them.
-pub fn empty_files<R: Files + AllocGlobal>(
+/// Empties the output files, unless another argument names one of them. Reports those that are written in place, though they were to be
+/// kept.
+pub fn empty_files<R: Files + AllocGlobal, L: Listener>(
     rt: &R,
     request: &Request,
     files: &RunFiles<R::File>,
     kept: &Kept<'_>,
+    listener: &mut L,
 ) -> Result<(), CommandStop> {
     refuse_shared(rt, request, files, kept)?;
-    named(FileArgument::Print, files.print.empty())?;
-    Ok(named(FileArgument::Disk, files.disk.empty())?)
+    for (argument, file) in [
+        (FileArgument::Print, &files.print),
+        (FileArgument::Disk, &files.disk),
+    ] {
+        report_in_place(rt.alloc(), argument, request.file(argument), file, listener);
+        named(argument, file.empty())?;
+    }
+    Ok(())
 }
 
 /// What a run reads and writes.

@@ -3,7 +3,9 @@
 ghost use Rattle.std.specs.Prelude.{◌≡◌, IfErr};
 ghost use Rattle.rpg_cli_jobs.specs.Keeping.{IsOfFile, KeepsAnswer, disposition_of};
 
-use rpg_cli_answers::{Answer, CommandStop, Listener, NamedFile, refuse_same_file, report_message};
+use rpg_cli_answers::{
+    Answer, CommandStop, Listener, NamedFile, named, refuse_same_file, report_message,
+};
 use rpg_cli_files::{FileFault, Pending, Replaces};
 use rpg_cli_text::TextWriter;
 use rpg_cli_words::{FileArgument, SameFile, Shared};
@@ -132,7 +134,7 @@ fn shared_place<R: Files + AllocGlobal>(
     rt: &R,
     print: &Pending<'_>,
     disk: &Pending<'_>,
-) -> Result<Option<SameFile>, AllocError> {
+) -> Result<Option<SameFile>, FileFault> {
     let (earlier, written, shared) = if print.goes_to(rt, disk.place())? {
         (FileArgument::Print, FileArgument::Disk, Shared::File)
     } else if print.goes_to(rt, disk.part())? {
@@ -168,7 +170,7 @@ impl<'a> Kept<'a> {
         let (Some(print), Some(disk)) = (&self.print, &self.disk) else {
             return Ok(());
         };
-        match shared_place(rt, print, disk)? {
+        match named(FileArgument::Disk, shared_place(rt, print, disk))? {
             None => Ok(()),
             Some(same) => Err(CommandStop::SameFile(same)),
         }

@@ -121,7 +121,7 @@ fn run_opened<'a, R: Files + Input + Print + AllocGlobal, L: Listener>(
     listener: &mut L,
 ) -> Result<Report, CommandStop> {
     let files = open_files(rt, request, wanted, kept)?;
-    empty_files(rt, request, &files, kept)?;
+    empty_files(rt, request, &files, kept, listener)?;
     match accepted {
         Ok(runnable) => run_as_asked(
             rt.alloc(),

@@ -196,7 +196,7 @@ fn request_with<'a>(command: CommandName, given: &ArgMatches<'a>, lists: Lists<'
         disk: given.get_str("disk"),
         own_source,
         most: given.get_one::<u64>("most"),
-        keeps: given.get_flag("keep"),
+        keeps: given.get_flag("keep") || command == CommandName::Go,
         looks: LookArguments::of(given),
         allowance: given.get_one::<u16>("allowance").unwrap_or(1000).max(1),
         warnings: WarningArguments::of(given),
