@@ -70,9 +70,14 @@ card_text card = codes "card " ++ decimal card ++ codes ": "
 abbrev pub denied_text : ℕ → WarningCode → List ℕ
 denied_text card code = card_text card ++ warning_text code
 
--- how many sources were checked, and how many rejected
-abbrev pub checked_text : ℕ → ℕ → List ℕ
-checked_text sources rejected = codes "sources " ++ decimal sources ++ codes ", rejected " ++ decimal rejected
+-- how many sources couldn't be read, if any
+abbrev pub unread_text : Option ℕ → List ℕ
+unread_text None = []
+unread_text (Some unread) = codes ", unread " ++ decimal unread
+
+-- how many sources were checked, how many rejected, and how many not read
+abbrev pub checked_text : ℕ → ℕ → Option ℕ → List ℕ
+checked_text sources rejected unread = codes "sources " ++ decimal sources ++ codes ", rejected " ++ decimal rejected ++ unread_text unread
 
 -- why a deck isn't rewritten
 abbrev pub refused_deck_text : Option ℕ → List ℕ
@@ -87,7 +92,7 @@ refused_card_text card rule = codes "card " ++ decimal card ++ codes ": A" ++ de
 abbrev pub line_text : Answer → List ℕ
 line_text answer.Compiled = codes "compiled"
 line_text answer.Faultless = codes "no fault"
-line_text (answer.Checked sources rejected status) = checked_text sources rejected
+line_text (answer.Checked sources rejected unread status) = checked_text sources rejected unread
 line_text (answer.Denied card code) = denied_text card code
 line_text (answer.Accepted bound) = codes "accepted, bound " ++ decimal bound
 line_text (answer.Ended report) = report_text report
@@ -142,7 +147,7 @@ run_status (runs.NoMemory cycles) = 1
 abbrev pub exit_status : Answer → ℕ
 exit_status answer.Compiled = 0
 exit_status answer.Faultless = 0
-exit_status (answer.Checked sources rejected status) = status
+exit_status (answer.Checked sources rejected unread status) = status
 exit_status (answer.Denied card code) = 3
 exit_status (answer.Accepted bound) = 0
 exit_status (answer.Ended report) = ending_status report.ending

@@ -1,5 +1,5 @@
 -- The object of JSON that is printed for an answer.
-use Rattle.std.specs.Prelude.{ℕ, List, [], ◌++◌, codes, decimal}
+use Rattle.std.specs.Prelude.{ℕ, List, [], ◌++◌, codes, decimal, Option, Some, None}
 use Rattle.rpg_engine.specs.Halts.{halt_number}
 use Rattle.rpg_engine.specs.JobEnd.{JobEnd}
 use Rattle.rpg_engine.specs.JobEnd.TheVariants as endings
@@ -25,9 +25,14 @@ halt_member (endings.Halt halt) = member (codes "halt") (halt_number halt)
 abbrev pub report_members : Report → List ℕ
 report_members report = halt_member report.ending ++ member (codes "cycles") report.cycles ++ member (codes "steps") report.most ++ member (codes "bound") report.bound
 
--- how many sources, and how many of them are rejected
-abbrev pub checked_members : (sources rejected : ℕ) → List ℕ
-checked_members sources rejected = member (codes "sources") sources ++ member (codes "rejected") rejected
+-- how many sources couldn't be read, if any
+abbrev pub unread_member : Option ℕ → List ℕ
+unread_member None = []
+unread_member (Some unread) = member (codes "unread") unread
+
+-- how many sources, how many of them are rejected, and how many not read
+abbrev pub checked_members : (sources rejected : ℕ) → (unread : Option ℕ) → List ℕ
+checked_members sources rejected unread = member (codes "sources") sources ++ member (codes "rejected") rejected ++ unread_member unread
 
 -- how many records were converted, how many left out, and how many columns a line has at most
 abbrev pub record_members : (records dropped columns : ℕ) → List ℕ
@@ -36,7 +41,7 @@ record_members records dropped columns = member (codes "records") records ++ mem
 -- the numbers of an answer that counts
 abbrev pub count_members : Answer → List ℕ
 count_members (answers.Ended report) = report_members report
-count_members (answers.Checked sources rejected status) = checked_members sources rejected
+count_members (answers.Checked sources rejected unread status) = checked_members sources rejected unread
 count_members (answers.Accepted bound) = member (codes "bound") bound
 count_members (answers.OverLimit bound) = member (codes "bound") bound
 count_members (answers.Records records dropped columns) = record_members records dropped columns

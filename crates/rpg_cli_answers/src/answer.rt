@@ -19,10 +19,12 @@ pub enum Answer {
     Compiled,
     /// The source has no faults.
     Faultless,
-    /// Several sources were checked: how many, how many of them were rejected, and the greatest exit status.
+    /// Several sources were checked: how many, how many of them were rejected, how many couldn't be read, if any, and the greatest
+    /// exit status.
     Checked {
         sources: u64,
         rejected: u64,
+        unread: Option<u64>,
         status: u8,
     },
     /// The source has a warning, and the arguments deny it.

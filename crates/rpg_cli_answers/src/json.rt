@@ -85,13 +85,25 @@ fn add_report(text: &mut Object, report: Report)
     add_number(text, b"bound", report.bound);
 }
 
-fn add_checked(text: &mut Object, sources: u64, rejected: u64)
+fn add_unread(text: &mut Object, unread: Option<u64>)
+    requires { array_vec_len text.old ≤ 180 }
+    ensures items { text.new.items ≡ text.old.items ++ json.unread_member unread }
+    ensures len { array_vec_len text.new ≤ array_vec_len text.old + 30 }
+{
+    match unread {
+        None => {}
+        Some(unread) => add_number(text, b"unread", unread),
+    }
+}
+
+fn add_checked(text: &mut Object, sources: u64, rejected: u64, unread: Option<u64>)
     requires { array_vec_len text.old ≤ 110 }
-    ensures items { text.new.items ≡ text.old.items ++ json.checked_members sources rejected }
+    ensures items { text.new.items ≡ text.old.items ++ json.checked_members sources rejected unread }
     ensures len { array_vec_len text.new ≤ array_vec_len text.old + 100 }
 {
     add_number(text, b"sources", sources);
     add_number(text, b"rejected", rejected);
+    add_unread(text, unread);
 }
 
 fn add_records(text: &mut Object, records: u64, dropped: u64, columns: u64)
@@ -115,8 +127,9 @@ fn add_counts(text: &mut Object, answer: &Answer)
         Answer::Checked {
             sources,
             rejected,
+            unread,
             ..
-        } => add_checked(text, sources, rejected),
+        } => add_checked(text, sources, rejected, unread),
         Answer::Accepted { bound } | Answer::OverLimit { bound } => {
             add_number(text, b"bound", bound)
         }

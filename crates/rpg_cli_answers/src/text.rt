@@ -85,14 +85,28 @@ fn put_denied(text: &mut Text, card: u16, code: WarningCode)
     put(text, code.text().as_bytes());
 }
 
-fn put_checked(text: &mut Text, sources: u64, rejected: u64)
+fn put_unread(text: &mut Text, unread: Option<u64>)
+    requires { array_vec_len text.old ≤ 64 }
+    ensures { text.new.items ≡ text.old.items ++ answers.unread_text unread }
+{
+    match unread {
+        None => {}
+        Some(unread) => {
+            put(text, b", unread ");
+            put_number(text, unread);
+        }
+    }
+}
+
+fn put_checked(text: &mut Text, sources: u64, rejected: u64, unread: Option<u64>)
     requires { array_vec_len text.old ≤ 4 }
-    ensures { text.new.items ≡ text.old.items ++ answers.checked_text sources rejected }
+    ensures { text.new.items ≡ text.old.items ++ answers.checked_text sources rejected unread }
 {
     put(text, b"sources ");
     put_number(text, sources);
     put(text, b", rejected ");
     put_number(text, rejected);
+    put_unread(text, unread);
 }
 
 fn put_source_fault(text: &mut Text, fault: SourceFault)
@@ -265,8 +279,9 @@ pub fn line(answer: &Answer) -> Line
         Answer::Checked {
             sources,
             rejected,
+            unread,
             ..
-        } => put_checked(&mut text, sources, rejected),
+        } => put_checked(&mut text, sources, rejected, unread),
         Answer::Denied { card, code } => put_denied(&mut text, card, code),
         Answer::Accepted { bound } => {
             put(&mut text, b"accepted, bound ");

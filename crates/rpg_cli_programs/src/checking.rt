@@ -92,6 +92,7 @@ fn show_source<L: Listener>(
 struct Tally {
     sources: u64,
     rejected: u64,
+    unread: u64,
     /// The greatest exit status.
     status: u8,
 }
@@ -100,14 +101,16 @@ impl Tally {
     const NONE: Tally = Tally {
         sources: 0,
         rejected: 0,
+        unread: 0,
         status: 0,
     };
 
-    /// Returns the tally after one more source.
+    /// Returns the tally after one more source. One with status 1 couldn't be read, or not be judged for want of memory.
     fn with(self, status: u8) -> Tally {
         Tally {
             sources: self.sources.saturating_add(1),
-            rejected: self.rejected.saturating_add(u64::from(status != 0)),
+            rejected: self.rejected.saturating_add(u64::from(status > 1)),
+            unread: self.unread.saturating_add(u64::from(status == 1)),
             status: self.status.max(status),
         }
     }
@@ -116,6 +119,7 @@ impl Tally {
         Answer::Checked {
             sources: self.sources,
             rejected: self.rejected,
+            unread: (self.unread > 0).then_some(self.unread),
             status: self.status,
         }
     }
