@@ -139,7 +139,7 @@ fn keep_files<R: Files>(rt: &R, request: &Request, path: &str) -> Result<(), Com
 
 /// Writes the new deck to standard output.
 fn show_new_deck<R: Files + Print>(rt: &R, new: &[u8]) -> Result<(), Answer> {
-    let mut target = lines(rt, Opened::<R::File>::Standard);
+    let mut target = lines(rt, Opened::<R::File>::Standard, None);
     match target.write_all(new) {
         Ok(()) => Ok(()),
         Err(_) => Err(Answer::File {

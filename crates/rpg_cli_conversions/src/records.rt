@@ -245,7 +245,7 @@ fn convert<
     request: &Request,
     layout: &Layout,
     mut source: RecordSource<F, S>,
-    target: LineTarget<T, P>,
+    target: LineTarget<'_, T, P>,
     listener: &mut L,
 ) -> Result<Counts, Answer> {
     let Ok(mut writer) = BufWriter::with_capacity(alloc, WRITE_ROOM, target) else {
@@ -280,7 +280,7 @@ fn write_deck<R: Files + Print + AllocGlobal>(
         return Err(Answer::NoMemory);
     };
     named(FileArgument::NewDeck, opened.empty())?;
-    match write_whole(&mut lines(rt, opened), text.as_slice()) {
+    match write_whole(&mut lines(rt, opened, None), text.as_slice()) {
         Ok(()) => Ok(()),
         Err(error) => Err(Answer::File {
             argument: FileArgument::NewDeck,
@@ -308,7 +308,7 @@ fn convert_opened<'a, R: Files + Input + Print + AllocGlobal, L: Listener>(
     keep_files(rt, request, &input, new)?;
     report_kept(rt.alloc(), request, &output, &new_deck, listener);
     named(FileArgument::Out, output.empty())?;
-    let (from, to) = (records(rt, input), lines(rt, output));
+    let (from, to) = (records(rt, input), lines(rt, output, None));
     let counts = convert(rt.alloc(), request, deck.layout, from, to, listener)?;
     write_deck(rt, deck, new_deck)?;
     Ok(counts)

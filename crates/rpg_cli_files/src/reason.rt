@@ -16,6 +16,8 @@ pub enum Reason {
     NoFolder,
     ReadOnly,
     Full,
+    /// The arguments allow no more bytes.
+    Limit,
     TooLarge,
     /// The reader of the output closed it.
     Closed,
@@ -54,6 +56,7 @@ impl Reason {
             Reason::NoFolder => "a part of the path is no directory",
             Reason::ReadOnly => "the file system is read-only",
             Reason::Full => "no space left on device",
+            Reason::Limit => "--most-bytes allows no more",
             Reason::TooLarge => "the file would be too large",
             Reason::Closed => "nobody reads it",
             Reason::Name => "no file can have that name",

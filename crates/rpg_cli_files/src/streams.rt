@@ -1,10 +1,13 @@
 //! The sources of records and targets of printed lines: files, or the standard streams.
 
+ghost use Rattle.std.specs.Prelude.{◌≡◌, ◌≤◌, min, IfSome, None};
+
 use crate::files::{FileFault, empty_file};
 use crate::reason::Reason;
 use crate::replacing::InPlace;
+use std::cell::Cell;
 use std::fs::OpenFile;
-use std::io::{self, Printer, Read, Write};
+use std::io::{self, Error, ErrorKind, Printer, Read, Write};
 use std::rt::Files;
 
 /// A file of a job, after it was opened.
@@ -60,9 +63,11 @@ enum Source<F, S> {
 ///
 /// It doesn't buffer: the engine's pieces are large, and its output should be visible before it reads again.
 #[derive(Drop)]
-pub struct LineTarget<F, P> {
+pub struct LineTarget<'r, F, P> {
     to: Target<F, P>,
     fault: Option<Reason>,
+    /// How many bytes may still be written, to this target and those that share the number; None without a limit.
+    room: Option<&'r Cell<u64>>,
 }
 
 #[derive(Drop)]
@@ -88,17 +93,22 @@ pub fn records<R: Files + Input>(
 }
 
 /// Returns the writer of an open file.
-pub fn lines<R: Files + Print>(
-    rt: &R,
+pub fn lines<'r, R: Files + Print>(
+    rt: &'r R,
     opened: Opened<R::File>,
-) -> LineTarget<R::File, Printer<'_, R>> {
+    room: Option<&'r Cell<u64>>,
+) -> LineTarget<'r, R::File, Printer<'r, R>> {
     let to = match opened {
         Opened::Nothing => Target::Nothing,
         Opened::File(file) | Opened::InPlace(file, _) => Target::File(file),
         Opened::New(file) => Target::New(file),
         Opened::Standard => Target::StandardOutput(io::writer(rt)),
     };
-    LineTarget { to, fault: None }
+    LineTarget {
+        to,
+        fault: None,
+        room,
+    }
 }
 
 /// Returns why a call failed, if it did.
@@ -128,21 +138,47 @@ impl<F: Read, S: Read> Read for RecordSource<F, S> {
     }
 }
 
-impl<F, P> LineTarget<F, P> {
+/// Returns how many of these bytes may be written, given how many are left if there is a limit.
+fn allowed(left: Option<u64>, bytes: usize) -> usize
+    ensures few { result ≤ bytes }
+    ensures limited { IfSome left (λ n. result ≡ min n bytes) }
+    ensures free { left ≡ None → result ≡ bytes }
+{
+    match left {
+        None => bytes,
+        Some(left) => left.min(bytes as u64) as usize,
+    }
+}
+
+impl<F, P> LineTarget<'_, F, P> {
     /// Returns why the last write failed, if it did.
     pub fn fault(&self) -> Option<Reason> {
         self.fault
     }
+
+    /// Counts the bytes that were written, and keeps why they weren't.
+    fn note(&mut self, answer: &io::Result<usize>) {
+        self.fault = fault_of(answer);
+        if let (Some(room), Ok(written)) = (self.room, answer) {
+            room.set(room.get().saturating_sub(*written as u64));
+        }
+    }
 }
 
-impl<F: Write + OpenFile, P: Write> Write for LineTarget<F, P> {
+impl<F: Write + OpenFile, P: Write> Write for LineTarget<'_, F, P> {
     fn write(&mut self, buf: &[u8]) -> io::Result<usize> {
+        let allowed = allowed(self.room.map(Cell::get), buf.len());
+        if allowed == 0 && !buf.is_empty() {
+            self.fault = Some(Reason::Limit);
+            return Err(Error::from(ErrorKind::QuotaExceeded));
+        }
+        let buf = &buf[..allowed];
         let answer = match &mut self.to {
             Target::Nothing => Ok(buf.len()),
             Target::File(file) | Target::New(file) => file.write(buf),
             Target::StandardOutput(printer) => printer.write(buf),
         };
-        self.fault = fault_of(&answer);
+        self.note(&answer);
         answer
     }
 

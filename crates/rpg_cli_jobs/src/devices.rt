@@ -11,6 +11,7 @@ use rpg_cli_files::{
     records,
 };
 use rpg_cli_words::{FileArgument, Request, is_standard};
+use std::cell::Cell;
 use std::io::Printer;
 use std::rt::Files;
 
@@ -146,22 +147,23 @@ pub fn empty_files<R: Files + AllocGlobal, L: Listener>(
 
 /// What a run reads and writes.
 #[derive(Drop)]
-pub struct Devices<F: Drop, S: Drop, P: Drop> {
+pub struct Devices<'r, F: Drop, S: Drop, P: Drop> {
     pub input: RecordSource<F, S>,
     pub secondary: RecordSource<F, S>,
-    pub print: LineTarget<F, P>,
-    pub disk: LineTarget<F, P>,
+    pub print: LineTarget<'r, F, P>,
+    pub disk: LineTarget<'r, F, P>,
 }
 
-/// Returns the readers and writers of a run's files.
-pub fn devices_of<R: Files + Input + Print>(
-    rt: &R,
+/// Returns the readers and writers of a run's files. All that is written may have as many bytes as there is room for.
+pub fn devices_of<'r, R: Files + Input + Print>(
+    rt: &'r R,
     files: RunFiles<R::File>,
-) -> Devices<R::File, R::Reader, Printer<'_, R>> {
+    room: Option<&'r Cell<u64>>,
+) -> Devices<'r, R::File, R::Reader, Printer<'r, R>> {
     Devices {
         input: records(rt, files.input),
         secondary: records(rt, files.secondary),
-        print: lines(rt, files.print),
-        disk: lines(rt, files.disk),
+        print: lines(rt, files.print, room),
+        disk: lines(rt, files.disk, room),
     }
 }

@@ -16,6 +16,7 @@ use rpg_cli_show_fields::SourceRows;
 use rpg_cli_words::{FileArgument, Request};
 use rpg_engine::{ObjectFault, Readers, Report, Verified, Watcher, Writers, decode_object};
 use std::alloc::Global;
+use std::cell::Cell;
 use std::fs::OpenFile;
 use std::io::{Read, Write};
 use std::rt::{Clock, Env, Files};
@@ -87,7 +88,7 @@ pub(crate) fn run_devices<
     alloc: Global,
     runnable: Runnable<'_>,
     date: &[u8],
-    devices: Devices<F, S, P>,
+    devices: Devices<'_, F, S, P>,
     watcher: &mut W,
 ) -> Result<Report, CommandStop> {
     let Devices {
@@ -122,16 +123,13 @@ fn run_opened<'a, R: Files + Input + Print + AllocGlobal, L: Listener>(
 ) -> Result<Report, CommandStop> {
     let files = open_files(rt, request, wanted, kept)?;
     empty_files(rt, request, &files, kept, listener)?;
-    match accepted {
-        Ok(runnable) => run_as_asked(
-            rt.alloc(),
-            request,
-            runnable,
-            devices_of(rt, files),
-            listener,
-        ),
-        Err(fault) => Err(Answer::Object(fault).into()),
-    }
+    let runnable = match accepted {
+        Ok(runnable) => runnable,
+        Err(fault) => return Err(Answer::Object(fault).into()),
+    };
+    let room = request.most_bytes.map(Cell::new);
+    let devices = devices_of(rt, files, room.as_ref());
+    run_as_asked(rt.alloc(), request, runnable, devices, listener)
 }
 
 /// Runs an accepted program over its files, and reports where its job halted.

@@ -20,7 +20,7 @@ pub(crate) fn run_as_asked<
     alloc: Global,
     request: &Request,
     runnable: Runnable<'_>,
-    devices: Devices<F, S, P>,
+    devices: Devices<'_, F, S, P>,
     listener: &mut L,
 ) -> Result<Report, CommandStop> {
     let date = request.date_text().as_bytes();

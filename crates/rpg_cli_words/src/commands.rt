@@ -15,8 +15,8 @@ fit: SRC.old NEW force table switches forms format: Rewrites the old deck SRC as
 verify: OBJ format quiet: Verifies the object program OBJ, and prints the most steps that a cycle can take
 explain: CODE list: Explains codes, such as F16, S5, V21, B5 or halt 4, or all of them
 show: OBJ source rows format: Shows what the object program OBJ reads, writes and needs, or its rows
-run: OBJ INPUT PRINT date secondary disk most keep source trace watch format quiet: Runs the object program OBJ over the records of INPUT, and prints to PRINT
-go: SRC INPUT PRINT.go date secondary disk most keep.go trace watch allowance faults deny allow format quiet: Compiles the source SRC and runs it over the records of INPUT";
+run: OBJ INPUT PRINT date secondary disk most most-bytes keep source trace watch format quiet: Runs the object program OBJ over the records of INPUT, and prints to PRINT
+go: SRC INPUT PRINT.go date secondary disk most most-bytes keep.go trace watch allowance faults deny allow format quiet: Compiles the source SRC and runs it over the records of INPUT";
 
 /// The arguments: the key, what the argument takes, and its help text. The key is the argument's name; if arguments of two commands share a
 /// name, a dot and another name follow.
@@ -85,6 +85,7 @@ date V=DATE The date: six digits, or today (month, day, year), today-dmy or toda
 secondary V=FILE The records of a secondary file
 disk V=FILE Where the records of a disk file go
 most B=N Rejects a program if a cycle may take more than N steps
+most-bytes B=N Ends a job that would write more than N bytes to PRINT and the disk file together
 keep F Keeps the old PRINT and disk file until the job has ended well
 keep.go F Is the default: keeps the old PRINT and disk file until the job has ended well
 trace B=N Reports the first N cycles one by one: records, indicators, lines and fields

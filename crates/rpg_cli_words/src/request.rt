@@ -71,6 +71,8 @@ pub struct Request<'a> {
     pub own_source: Option<&'a str>,
     /// The greatest bound that a program may have.
     pub most: Option<u64>,
+    /// How many bytes a job may write to all its files.
+    pub most_bytes: Option<u64>,
     /// Whether output files keep their contents until the job ends normally.
     pub keeps: bool,
     pub looks: LookArguments,
@@ -196,6 +198,7 @@ fn request_with<'a>(command: CommandName, given: &ArgMatches<'a>, lists: Lists<'
         disk: given.get_str("disk"),
         own_source,
         most: given.get_one::<u64>("most"),
+        most_bytes: given.get_one::<u64>("most-bytes"),
         keeps: given.get_flag("keep") || command == CommandName::Go,
         looks: LookArguments::of(given),
         allowance: given.get_one::<u16>("allowance").unwrap_or(1000).max(1),
