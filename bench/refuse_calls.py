@@ -7,8 +7,10 @@ strace makes one system call fail (-e inject) with each error that such a call c
     status 0        only if every output is whole: each file, or standard output
     another status  only with a line on standard output or a sentence on standard error; each file is as it was, or a first part of what is
                     expected, and as long as a message reports ('after N bytes')
-    run --keep      each file is as it was, or whole; what this run wrote of one that is as it was is beside it, if it wrote any, and the
+    run --keep, go  each file is as it was, or whole; what this run wrote of one that is as it was is beside it, if it wrote any, and the
                     message says where
+    records         each file is as it was, or whole, and nothing is beside it
+Each file that is kept until its job or its conversion has ended well is forced onto the disk.
 An interrupted call that isn't refused again must change nothing. No program of the kit sees a close that fails; here it loses nothing,
 since what was written is written. It prints a line for each call where this fails, and a count; its exit status is 1 if there is one.
 """
@@ -25,6 +27,7 @@ from pathlib import Path
 TOP = Path(__file__).resolve().parent.parent
 RPG2 = os.environ.get("RPG2", str(TOP / "crates/rpg2/out/rpg2"))
 OLD = b"what stood there\n"
+OLD_OBJECT = b"RPGOBJ, what stood there\n"
 STOCK = "run o.obj in p --date 010576 --disk d"
 
 # A command, and the files that it writes; '-' is standard output.
@@ -38,7 +41,12 @@ COMMANDS = {
     "keep": (STOCK + " --keep", ("p", "d")),
     "keep new": ("run o.obj in new --date 010576 --disk fresh --keep", ("new", "fresh")),
     "keep halt": ("run o.obj halting p --date 010576 --disk d --keep", ("p", "d")),
-    "compile": ("compile s.rpg p", ("p",)),
+    "keep go": ("go s.rpg in p --date 010576 --disk d", ("p", "d")),
+    "records": ("records e p --by v.rpg --deck d", ("p", "d")),
+    "records back": ("records l p --to v.rpg", ("p",)),
+    "fit": ("fit t.old p --table BRACKET=b.txt --force", ("p",)),
+    "fit stdout": ("fit t.old - --table BRACKET=b.txt", ("-",)),
+    "compile": ("compile s.rpg c", ("c",)),
     "check": ("check s.rpg", ("-",)),
     "list": ("list s.rpg", ("-",)),
     "cards": ("cards --short s.rpg", ("-",)),
@@ -46,6 +54,8 @@ COMMANDS = {
     "verify": ("verify o.obj", ("-",)),
     "explain": ("explain", ("-",)),
 }
+# The commands whose files are as they were, or whole.
+WHOLE = ("compile", "fit", "records", "records back")
 ERRORS = {
     "read": ("EIO", "EINTR", "EAGAIN"),
     "write": ("EIO", "ENOSPC", "EINTR", "EAGAIN", "EDQUOT"),
@@ -76,6 +86,9 @@ def begin():
     examples = TOP / "examples"
     for place, file in (("stock/stock.rpg", "s.rpg"), ("stock/moves.txt", "in"), ("accounts/masters.txt", "m"), ("accounts/movements.txt", "v")):
         shutil.copy(examples / place, file)
+    for place, file in (("stockval/stockval.ebc", "e"), ("stockval/stockval.rpg", "v.rpg"), ("taxes/taxes.old.rpg", "t.old"), ("taxes/brackets.txt", "b.txt")):
+        shutil.copy(examples / place, file)
+    subprocess.run([RPG2, "records", "e", "l", "--by", "v.rpg"], check=True, stdout=subprocess.DEVNULL)
     # a quantity that is no number halts the job
     Path("halting").write_text(Path("in").read_text(encoding="ascii") + "RE100 X0\n", encoding="ascii")
     Path("long").write_text((examples / "sales/sales.txt").read_text(encoding="ascii") * 40, encoding="ascii")
@@ -88,8 +101,8 @@ def outcome(command, refused=()):
     words, outputs = COMMANDS[command]
     for file in [*Path().glob("*.part"), *Path().glob("*.new"), Path("new"), Path("fresh")]:
         file.unlink(missing_ok=True)
-    for file in ("p", "d"):
-        Path(file).write_bytes(OLD)
+    for file, data in (("p", OLD), ("d", OLD), ("c", OLD_OBJECT)):
+        Path(file).write_bytes(data)
     ran = subprocess.run(["strace", "-o", "calls", "-qq", *refused, RPG2, *words.split()], capture_output=True, stdin=subprocess.DEVNULL, timeout=20, check=False)
     found = {it: ran.stdout if it == "-" else bytes_of(Path(it)) for it in outputs}
     beside = {str(it): it.read_bytes() for file in outputs for it in Path().glob(f"{file}.*") if it.suffix in (".part", ".new")}
@@ -120,7 +133,7 @@ def is_first_part(command, file, found, wanted):
     if file == "-":
         # the line of an answer may follow
         return whole.startswith(data) or whole.startswith(data[: data.rstrip(b"\n").rfind(b"\n") + 1])
-    if data == OLD:
+    if data in (OLD, OLD_OBJECT):
         return True
     role = b"(--disk FILE)" if file == "d" else b"(PRINT)"
     return whole.startswith(data) and not (told and role in found.diagnostics and int(told[1]) != len(data))
@@ -154,8 +167,10 @@ def what_is_wrong(command, error, found, wanted, is_heard):
         return "neither a line nor a message"
     if command.startswith("keep"):
         return what_is_wrong_beside(found, wanted, is_heard)
-    if command == "compile" and found.outputs["p"] not in (OLD, wanted.outputs["p"]):
-        return "the old object is gone"
+    if command in WHOLE and not all(data in (OLD, OLD_OBJECT, wanted.outputs[file]) for file, data in found.outputs.items()):
+        return "an old file is gone"
+    if command in WHOLE and found.beside:
+        return f"{min(found.beside)} is left"
     lost = [it for it in found.outputs if not is_first_part(command, it, found, wanted)]
     return f"{lost[0]} is no first part, or another one than the message says" if lost else None
 
@@ -164,6 +179,10 @@ def tried(command):
     """Refuses each call of a command, and gives how many were tried and how many went wrong."""
     wanted = outcome(command)
     count = wrong = 0
+    forced = Path("calls").read_text(encoding="utf-8", errors="replace").count("\nfsync(")
+    if command.startswith(("keep", "records")) and forced != len(COMMANDS[command][1]):
+        wrong += 1
+        print(f"{command}: {forced} files are forced onto the disk", flush=True)
     for name, number, is_diagnostic in list(calls_made()):
         for error in ERRORS[name]:
             count += 1
