@@ -2,7 +2,7 @@
 
 use rpg_cli_files::{Listener, Opened, report_message};
 use rpg_cli_text::TextWriter;
-use rpg_cli_words::FileArgument;
+use rpg_cli_words::{FileArgument, Request};
 use std::alloc::{AllocError, Global};
 
 fn in_place_message(
@@ -22,12 +22,13 @@ fn in_place_message(
 /// Reports an output that is written in place, if its old contents were to be kept.
 pub fn report_in_place<F, L: Listener>(
     alloc: Global,
+    request: &Request,
     argument: FileArgument,
-    path: &str,
     file: &Opened<F>,
     listener: &mut L,
 ) {
     if let Some(why) = file.in_place() {
+        let path = request.file(argument);
         report_message(listener, in_place_message(alloc, argument, path, why));
     }
 }

@@ -116,14 +116,14 @@ impl<'a> NewFiles<'a> {
         let (Some(lines), Some(deck)) = (&self.lines, &self.deck) else {
             return Ok(());
         };
-        match named(FileArgument::NewDeck, lines.goes_to(rt, deck.place()))? {
-            false => Ok(()),
-            true => Err(CommandStop::SameFile(SameFile {
+        if named(FileArgument::NewDeck, lines.goes_to(rt, deck.place()))? {
+            return Err(CommandStop::SameFile(SameFile {
                 earlier: FileArgument::Out,
                 written: FileArgument::NewDeck,
                 shared: Shared::File,
-            })),
+            }));
         }
+        Ok(())
     }
 
     /// Moves OUT to its place, then NEW.
@@ -151,11 +151,17 @@ impl<'a> NewFiles<'a> {
             Err(stop) => Err(stop),
         };
         if concluded.is_err() {
-            for file in [&self.lines, &self.deck].into_iter().flatten() {
-                file.discard(rt);
-            }
+            remove(rt, &self.lines);
+            remove(rt, &self.deck);
         }
         concluded
+    }
+}
+
+/// Removes a new file, if there is one.
+fn remove<R: Files>(rt: &R, file: &Option<Pending<'_>>) {
+    if let Some(pending) = file {
+        pending.discard(rt);
     }
 }
 
@@ -306,25 +312,19 @@ fn convert_opened<'a, R: Files + Input + Print + AllocGlobal, L: Listener>(
 ) -> Result<Counts, CommandStop> {
     let new_deck = new.opened_deck(rt, request)?;
     keep_files(rt, request, &input, new)?;
-    report_kept(rt.alloc(), request, &output, &new_deck, listener);
+    report_in_place(rt.alloc(), request, FileArgument::Out, &output, listener);
+    report_in_place(
+        rt.alloc(),
+        request,
+        FileArgument::NewDeck,
+        &new_deck,
+        listener,
+    );
     named(FileArgument::Out, output.empty())?;
     let (from, to) = (records(rt, input), lines(rt, output, None));
     let counts = convert(rt.alloc(), request, deck.layout, from, to, listener)?;
     write_deck(rt, deck, new_deck)?;
     Ok(counts)
-}
-
-/// Reports which outputs are written in place, though they were to be kept.
-fn report_kept<F, L: Listener>(
-    alloc: Global,
-    request: &Request,
-    output: &Opened<F>,
-    deck: &Opened<F>,
-    listener: &mut L,
-) {
-    for (argument, file) in [(FileArgument::Out, output), (FileArgument::NewDeck, deck)] {
-        report_in_place(alloc, argument, request.file(argument), file, listener);
-    }
 }
 
 /// Converts the records or the lines of a file.

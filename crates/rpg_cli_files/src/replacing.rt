@@ -263,6 +263,11 @@ fn replace_by<R: Files>(
     moved
 }
 
+/// Writes these bytes to a file in place.
+fn overwrite<R: Files>(rt: &R, path: &str, bytes: &[u8]) -> Result<(), FileFault> {
+    write_whole(&mut fs::create(rt, path).map_err(output_fault)?, bytes)
+}
+
 /// Writes these bytes to a file, which it creates or empties.
 ///
 /// If nothing or a regular file is there, the bytes are written beside it and then moved there, so that the old file stays until all of
@@ -272,16 +277,14 @@ pub fn write_bytes<R: Files + AllocGlobal>(
     path: &str,
     bytes: &[u8],
 ) -> Result<(), FileFault> {
-    match new_file(rt, path) {
-        Ok(
-            Written {
-                target,
-                writing: Writing::Beside(beside),
-            },
-        ) => replace_by(rt, beside, target.as_str(), bytes),
-        Ok(_) | Err(FileFault::Beside(_)) => {
-            write_whole(&mut fs::create(rt, path).map_err(output_fault)?, bytes)
-        }
-        Err(fault) => Err(fault),
+    let written = match new_file(rt, path) {
+        Ok(written) => written,
+        Err(FileFault::Beside(_)) => return overwrite(rt, path, bytes),
+        Err(fault) => return Err(fault),
+    };
+    let Written { target, writing } = written;
+    match writing {
+        Writing::Beside(beside) => replace_by(rt, beside, target.as_str(), bytes),
+        Writing::InPlace(_) => overwrite(rt, path, bytes),
     }
 }

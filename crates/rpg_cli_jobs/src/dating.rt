@@ -57,9 +57,10 @@ pub fn settle_date<R: Clock + Env + Files + AllocGlobal, L: Listener>(
     request: &mut Request,
     listener: &mut L,
 ) -> Result<(), Answer> {
-    match request.date {
+    let date = request.date;
+    match date {
         Some(DateArgument::Today(order)) => {
-            request.date = Some(DateArgument::Clock(todays_digits(rt, order)?));
+            request.set_today(todays_digits(rt, order)?);
         }
         Some(DateArgument::Written(text)) if are_no_date(text) => {
             report_message(listener, odd_date_message(rt.alloc(), text));

@@ -11,7 +11,9 @@ use rpg_cli_files::{
     records,
 };
 use rpg_cli_words::{FileArgument, Request, is_standard};
+use std::alloc::Global;
 use std::cell::Cell;
+use std::fs::OpenFile;
 use std::io::Printer;
 use std::rt::Files;
 
@@ -125,8 +127,19 @@ fn refuse_program<R: Files>(
     }
 }
 
-/// Empties the output files, unless another argument names one of them. Reports those that are written in place, though they were to be
-/// kept.
+/// Empties an output file. Reports one that is written in place, though it was to be kept.
+fn empty_file<F: OpenFile, L: Listener>(
+    alloc: Global,
+    request: &Request,
+    argument: FileArgument,
+    file: &Opened<F>,
+    listener: &mut L,
+) -> Result<(), Answer> {
+    report_in_place(alloc, request, argument, file, listener);
+    named(argument, file.empty())
+}
+
+/// Empties the output files, unless another argument names one of them, or it isn't replaced.
 pub fn empty_files<R: Files + AllocGlobal, L: Listener>(
     rt: &R,
     request: &Request,
@@ -135,14 +148,9 @@ pub fn empty_files<R: Files + AllocGlobal, L: Listener>(
     listener: &mut L,
 ) -> Result<(), CommandStop> {
     refuse_shared(rt, request, files, kept)?;
-    for (argument, file) in [
-        (FileArgument::Print, &files.print),
-        (FileArgument::Disk, &files.disk),
-    ] {
-        report_in_place(rt.alloc(), argument, request.file(argument), file, listener);
-        named(argument, file.empty())?;
-    }
-    Ok(())
+    let alloc = rt.alloc();
+    empty_file(alloc, request, FileArgument::Print, &files.print, listener)?;
+    Ok(empty_file(alloc, request, FileArgument::Disk, &files.disk, listener)?)
 }
 
 /// What a run reads and writes.

@@ -122,6 +122,11 @@ impl Request<'_> {
             Some(date) => date.text(),
         }
     }
+
+    /// Replaces `today` by its digits.
+    pub fn set_today(&mut self, digits: [u8; 6]) {
+        self.date = Some(DateArgument::Clock(digits));
+    }
 }
 
 /// Whether an argument, or the one that can replace it, is there, or it is optional.
