@@ -54,9 +54,9 @@ pub fn fit_by<R: Rules>(alloc: Global, source: &[u8], rules: &R) -> Result<Fitte
         return Err(FitFault::TooMany);
     }
     let mut editor = Editor::new(alloc, source)?;
-    let notes = notes(alloc, &editor.view(alloc)?)?;
-    apply_all(alloc, &mut editor, rules);
-    let fitted = editor.finish(alloc, source)?;
+    let notes = notes(&editor.view()?)?;
+    apply_all(&mut editor, rules);
+    let fitted = editor.finish(source)?;
     let judged = source_faults(alloc, fitted.new.as_slice())?;
     Ok(FittedDeck {
         fitted,

@@ -2,7 +2,7 @@
 
 use rpg_fit_deck::{Card, Seen, View};
 use rpg_fit_words::{is_card, printer_of};
-use std::alloc::{AllocError, Global};
+use std::alloc::AllocError;
 
 /// A note on a card.
 #[derive(Clone, Copy)]
@@ -14,8 +14,8 @@ pub struct Note {
 
 /// Returns the notes on the cards of a source: halt indicators that calculations turn on, and a printer without an overflow
 /// indicator.
-pub(crate) fn notes(alloc: Global, view: &View) -> Result<Vec<Note>, AllocError> {
-    let mut notes = Vec::new(alloc);
+pub(crate) fn notes(view: &View) -> Result<Vec<Note>, AllocError> {
+    let mut notes = Vec::new(view.alloc);
     for seen in &view.cards {
         if turns_halt_on(seen) {
             notes.push(Note {

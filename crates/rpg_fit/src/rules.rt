@@ -11,7 +11,6 @@ use rpg_fit_deck::{Editor, Rule};
 use rpg_fit_lines::{dollars, or_spaces, places, whole_outputs, words};
 use rpg_fit_overflow::{fetch, pages};
 use rpg_fit_terms::settle;
-use std::alloc::Global;
 
 /// The rules in order, since they depend on one another.
 pub const RULES: [Rule; 21] = [
@@ -39,45 +38,45 @@ pub const RULES: [Rule; 21] = [
 ];
 
 /// Applies a rule that looks at cards one by one.
-fn apply_to_cards(alloc: Global, editor: &mut Editor, settings: &Settings, rule: Rule) {
+fn apply_to_cards(editor: &mut Editor, settings: &Settings, rule: Rule) {
     let outcome = match rule {
-        Rule::Comments => comments(alloc, editor),
-        Rule::Columns => columns(alloc, editor),
-        Rule::Switches => switches(alloc, editor, &settings.switches),
-        Rule::Forms => forms(alloc, editor, settings),
-        Rule::Tables => tables(alloc, editor, settings),
-        Rule::NumberedPages => numbered_pages(alloc, editor),
-        Rule::Disks => disks(alloc, editor),
+        Rule::Comments => comments(editor),
+        Rule::Columns => columns(editor),
+        Rule::Switches => switches(editor, &settings.switches),
+        Rule::Forms => forms(editor, settings),
+        Rule::Tables => tables(editor, settings),
+        Rule::NumberedPages => numbered_pages(editor),
+        Rule::Disks => disks(editor),
         _ => Ok(()),
     };
     settle(editor, outcome);
 }
 
 /// Applies a rule about calculations or single lines.
-fn apply_to_calculations(alloc: Global, editor: &mut Editor, rule: Rule) {
+fn apply_to_calculations(editor: &mut Editor, rule: Rule) {
     let outcome = match rule {
-        Rule::Figures => figures(alloc, editor),
-        Rule::Moves => moves(alloc, editor),
-        Rule::WholeCalculations => whole_calculations(alloc, editor),
-        Rule::Dates => dates(alloc, editor),
-        Rule::OrSpaces => or_spaces(alloc, editor),
-        Rule::WholeOutputs => whole_outputs(alloc, editor),
-        Rule::Places => places(alloc, editor),
-        Rule::Words => words(alloc, editor),
-        Rule::Dollars => dollars(alloc, editor),
+        Rule::Figures => figures(editor),
+        Rule::Moves => moves(editor),
+        Rule::WholeCalculations => whole_calculations(editor),
+        Rule::Dates => dates(editor),
+        Rule::OrSpaces => or_spaces(editor),
+        Rule::WholeOutputs => whole_outputs(editor),
+        Rule::Places => places(editor),
+        Rule::Words => words(editor),
+        Rule::Dollars => dollars(editor),
         _ => Ok(()),
     };
     settle(editor, outcome);
 }
 
 /// Applies a rule about record types, pages or overflow.
-fn apply_to_cycle(alloc: Global, editor: &mut Editor, rule: Rule) {
+fn apply_to_cycle(editor: &mut Editor, rule: Rule) {
     let outcome = match rule {
-        Rule::OrTypes => or_types(alloc, editor),
-        Rule::Sequence => sequence(alloc, editor),
-        Rule::InputArrays => input_arrays(alloc, editor),
-        Rule::Pages => pages(alloc, editor),
-        Rule::Fetch => fetch(alloc, editor),
+        Rule::OrTypes => or_types(editor),
+        Rule::Sequence => sequence(editor),
+        Rule::InputArrays => input_arrays(editor),
+        Rule::Pages => pages(editor),
+        Rule::Fetch => fetch(editor),
         _ => Ok(()),
     };
     settle(editor, outcome);
@@ -92,7 +91,7 @@ pub trait Rules {
     ghost leaves: { Self → Rule → Editor → Editor → Type 0 };
 
     /// Applies a rule to a deck.
-    fn apply(&self, alloc: Global, editor: &mut Editor, rule: Rule)
+    fn apply(&self, editor: &mut Editor, rule: Rule)
         ensures { leaves self.now rule editor.old editor.new };
 }
 
@@ -105,28 +104,28 @@ pub(crate) struct OldDeckRules<'a> {
 impl Rules for OldDeckRules<'_> {
     ghost leaves = { λ _ _ _ _. Unit {0} };
 
-    fn apply(&self, alloc: Global, editor: &mut Editor, rule: Rule) {
+    fn apply(&self, editor: &mut Editor, rule: Rule) {
         editor.begin(rule);
-        apply_to_cards(alloc, editor, self.settings, rule);
-        apply_to_calculations(alloc, editor, rule);
-        apply_to_cycle(alloc, editor, rule);
+        apply_to_cards(editor, self.settings, rule);
+        apply_to_calculations(editor, rule);
+        apply_to_cycle(editor, rule);
     }
 }
 
 /// Applies a rule, unless an earlier one rejected the deck or memory ran out.
-fn apply_in_turn<R: Rules>(alloc: Global, editor: &mut Editor, rules: &R, rule: Rule)
+fn apply_in_turn<R: Rules>(editor: &mut Editor, rules: &R, rule: Rule)
     ensures { AppliedInTurn (R.leaves rules.now) rule editor.old editor.new }
 {
     if editor.continues() {
-        rules.apply(alloc, editor, rule);
+        rules.apply(editor, rule);
     }
 }
 
 /// Applies all rules, until one of them rejects the deck or memory runs out.
-pub(crate) fn apply_all<R: Rules>(alloc: Global, editor: &mut Editor, rules: &R)
+pub(crate) fn apply_all<R: Rules>(editor: &mut Editor, rules: &R)
     ensures { Applied (R.leaves rules.now) RULES editor.old editor.new }
 {
     for rule in RULES {
-        apply_in_turn(alloc, editor, rules, rule);
+        apply_in_turn(editor, rules, rule);
     }
 }

@@ -2,11 +2,10 @@
 
 use rpg_fit_deck::{Card, Editor, Seen, Sentence, View, Word};
 use rpg_fit_words::{
-    Calculation, Columns, Group, Indicator, Line, List, NewCard, Operand, Place, Printer, RuleStop,
-    Section, array_of, fresh_name, groups, has_overflow, insert_at, is_card, is_field_put_first,
-    is_name_used, is_total_skipped_late, lines, printer_of,
+    Columns, Done, Group, Indicator, Line, List, Operand, Place, Printer, RuleStop, Section,
+    array_of, calculation, fresh_name, groups, has_overflow, insert_at, is_card,
+    is_field_put_first, is_name_used, is_total_skipped_late, lines, printer_of,
 };
-use std::alloc::Global;
 
 /// A part of the date that the old system provided as a field.
 #[derive(Clone, Copy)]
@@ -27,6 +26,10 @@ impl DatePart {
             DatePart::Year => b"UYEAR",
         }
     }
+
+    fn word(self) -> Word {
+        Word::of(self.name())
+    }
 }
 
 /// Rewrites parts of the date as fields that calculations fill from UDATE.
@@ -34,18 +37,18 @@ impl DatePart {
 /// # Errors
 ///
 /// A line with a part of the date may be written before any calculation, no name is free, or memory runs out.
-pub fn dates(alloc: Global, editor: &mut Editor) -> Result<(), RuleStop> {
-    let view = editor.view(alloc)?;
-    let parts = undefined_parts(alloc, &view);
+pub fn dates(editor: &mut Editor) -> Done {
+    let view = editor.view()?;
+    let parts = undefined_parts(&view);
     match parts.checked()? {
         [] => Ok(()),
-        parts => fill(alloc, editor, &view, parts),
+        parts => fill(editor, &view, parts),
     }
 }
 
 /// Returns the parts of the date that a deck uses and no card defines.
-fn undefined_parts(alloc: Global, view: &View) -> List<DatePart> {
-    let mut found = List::new(alloc);
+fn undefined_parts(view: &View) -> List<DatePart> {
+    let mut found = List::new(view.alloc);
     for part in &DatePart::ALL {
         let name = part.name();
         if is_name_used(view, name) && !is_defined(view, name) {
@@ -56,22 +59,18 @@ fn undefined_parts(alloc: Global, view: &View) -> List<DatePart> {
 }
 
 /// Inserts the calculations that fill parts of the date.
-fn fill(
-    alloc: Global,
-    editor: &mut Editor,
-    view: &View,
-    parts: &[DatePart],
-) -> Result<(), RuleStop> {
-    check_lines(alloc, view, parts)?;
+fn fill(editor: &mut Editor, view: &View, parts: &[DatePart]) -> Done {
+    check_lines(view, parts)?;
     let number = first_card(view, parts);
     let filling = Filling {
+        parts,
         half: fresh_name(view, b"UDMD", number)?,
         number,
     };
-    if has_total(alloc, view)? {
-        filling.put(alloc, editor, parts, Place::TotalFront, Indicator::ALWAYS)?;
+    if has_total(view)? {
+        filling.put(editor, Place::TotalFront, Indicator::ALWAYS)?;
     }
-    filling.put(alloc, editor, parts, Place::DetailFront, Indicator::BLANK)?;
+    filling.put(editor, Place::DetailFront, Indicator::BLANK)?;
     editor.report(number, sentence(parts));
     Ok(())
 }
@@ -117,14 +116,8 @@ fn has_part(parts: &[DatePart], card: &Card, as_index: bool) -> bool {
 
 /// Whether an operand, or its index, is one of these parts of the date.
 fn is_operand(parts: &[DatePart], text: &[u8], as_index: bool) -> bool {
-    is_part(
-        parts,
-        if as_index {
-            Operand::of(text).index
-        } else {
-            text
-        },
-    )
+    let index = Operand::of(text).index;
+    is_part(parts, if as_index { index } else { text })
 }
 
 /// Returns the first card that has one of these parts of the date; if all are indexes, the first with one of those.
@@ -143,10 +136,10 @@ fn first_card(view: &View, parts: &[DatePart]) -> usize {
 }
 
 /// Rejects parts of the date on lines that may be written before any calculation.
-fn check_lines(alloc: Global, view: &View, parts: &[DatePart]) -> Result<(), RuleStop> {
+fn check_lines(view: &View, parts: &[DatePart]) -> Done {
     let printer = printer_of(view);
-    let lines = lines(alloc, view)?;
-    let is_late = is_total_skipped_late(alloc, view, printer, lines.as_slice())?;
+    let lines = lines(view)?;
+    let is_late = is_total_skipped_late(view, printer, lines.as_slice())?;
     for line in lines.iter() {
         check_line(printer, line, parts, is_late && has_overflow(printer, line))?;
     }
@@ -154,12 +147,7 @@ fn check_lines(alloc: Global, view: &View, parts: &[DatePart]) -> Result<(), Rul
 }
 
 /// Rejects parts of the date on a line. `is_early`: overflow may write it before any total calculation.
-fn check_line(
-    printer: Option<Printer>,
-    line: &Line,
-    parts: &[DatePart],
-    is_early: bool,
-) -> Result<(), RuleStop> {
+fn check_line(printer: Option<Printer>, line: &Line, parts: &[DatePart], is_early: bool) -> Done {
     for field in line.fields.iter() {
         let name = field.card.value(32, 37);
         if is_part(parts, name) && (is_early || is_field_put_first(printer, line, field)) {
@@ -171,8 +159,8 @@ fn check_line(
 }
 
 /// Whether a deck has total calculations or total lines.
-fn has_total(alloc: Global, view: &View) -> Result<bool, RuleStop> {
-    let groups = groups(alloc, view)?;
+fn has_total(view: &View) -> Result<bool, RuleStop> {
+    let groups = groups(view)?;
     Ok(has_total_line(view) || has_total_group(groups.as_slice()))
 }
 
@@ -194,60 +182,34 @@ fn has_total_group(groups: &[Group]) -> bool {
     false
 }
 
-/// Creates the calculations that fill parts of the date.
+/// The calculations that fill each part of the date, in order. The word is a field for the month and the day.
+const MOVES: [(DatePart, &[u8]); 4] = [
+    (DatePart::Month, b"||MOVEL|UDATE|UMONTH|  20"),
+    (DatePart::Day, b"||MOVEL|UDATE|%|  40"),
+    (DatePart::Day, b"||MOVE|%|UDAY|  20"),
+    (DatePart::Year, b"||MOVE|UDATE|UYEAR|  20"),
+];
+
+/// Fills parts of the date, as part of the change of a card.
 #[derive(Clone, Copy)]
-struct Filling {
+struct Filling<'a> {
+    parts: &'a [DatePart],
     /// A field for the month and the day.
     half: Word,
     number: usize,
 }
 
-impl Filling {
-    /// Inserts the calculations of these parts of the date at a place, at a level.
-    fn put(
-        &self,
-        alloc: Global,
-        editor: &mut Editor,
-        parts: &[DatePart],
-        place: Place,
-        level: Indicator,
-    ) -> Result<(), RuleStop> {
-        let mut cards = List::new(alloc);
-        for part in &[DatePart::Month, DatePart::Day, DatePart::Year] {
-            if is_part(parts, part.name()) {
-                self.push_part(&mut cards, *part, level);
+impl Filling<'_> {
+    /// Inserts the calculations at a place, at a level.
+    fn put(&self, editor: &mut Editor, place: Place, level: Indicator) -> Done {
+        let mut cards = List::new(editor.alloc());
+        for (part, template) in &MOVES {
+            if is_part(self.parts, part.name()) {
+                let filled = calculation(*template, &[self.half], self.number);
+                cards.push(filled.with(7, 8, level.word().text()));
             }
         }
-        insert_at(alloc, editor, place, cards.checked()?, self.number)
-    }
-
-    fn push_part(&self, cards: &mut List<NewCard>, part: DatePart, level: Indicator) {
-        let half = self.half;
-        match part {
-            DatePart::Month => cards.push(self.card(level, b"MOVEL", b"UDATE", b"UMONTH", 2)),
-            DatePart::Day => {
-                cards.push(self.card(level, b"MOVEL", b"UDATE", half.text(), 4));
-                cards.push(self.card(level, b"MOVE", half.text(), b"UDAY", 2));
-            }
-            DatePart::Year => cards.push(self.card(level, b"MOVE", b"UDATE", b"UYEAR", 2)),
-        }
-    }
-
-    /// Returns a move to a number without decimals.
-    fn card(
-        &self,
-        level: Indicator,
-        operation: &[u8],
-        from: &[u8],
-        to: &[u8],
-        length: usize,
-    ) -> NewCard {
-        Calculation::of(operation)
-            .at(level)
-            .factor2(from)
-            .result(to)
-            .of_length(length, b'0')
-            .made_of(self.number)
+        insert_at(editor, place, cards.checked()?, self.number)
     }
 }
 
@@ -256,19 +218,16 @@ fn sentence(parts: &[DatePart]) -> Sentence {
     match parts {
         [first, second, third] => Sentence::of_three(
             "%, %, % from UDATE, so --date is month, day, year",
-            Word::of(first.name()),
-            Word::of(second.name()),
-            Word::of(third.name()),
+            first.word(),
+            second.word(),
+            third.word(),
         ),
         [first, second] => Sentence::of_two(
             "%, % from UDATE, so --date is month, day, year",
-            Word::of(first.name()),
-            Word::of(second.name()),
+            first.word(),
+            second.word(),
         ),
-        [first, ..] => Sentence::about(
-            "% from UDATE, so --date is month, day, year",
-            Word::of(first.name()),
-        ),
+        [first, ..] => Sentence::about("% from UDATE, so --date is month, day, year", first.word()),
         [] => Sentence::of(""),
     }
 }

@@ -3,16 +3,14 @@
 use crate::figure::{Beside, Figure, Instead, Use, replacement};
 use rpg_fit_deck::{Card, Editor, Seen, Sentence, View, Word};
 use rpg_fit_words::{
-    Calculation, Columns, Indicator, Operand, Place, RuleStop, form_of, fresh_name, insert_at,
-    is_card,
+    Columns, Done, Operand, Place, RuleStop, calculation, form_of, fresh_name, insert_at, is_card,
 };
-use std::alloc::Global;
 
-/// The length of a field of blanks: that of the longest text.
-const BLANKS: usize = 256;
+/// The calculation that defines a field of blanks, as long as the longest text. It is never done.
+const BLANKS: &[u8] = b"NL0||MOVE|' '|%|256";
 
-/// The length of a field of zeros: the most digits of a number.
-const ZEROS: usize = 15;
+/// The calculation that defines a field of zeros, with the most digits of a number. It is never done.
+const ZEROS: &[u8] = b"NL0||Z-ADD|0|%| 150";
 
 /// Fields that nothing writes, for constants that are longer than a literal.
 #[derive(Clone, Copy)]
@@ -49,34 +47,22 @@ impl Fields {
 /// # Errors
 ///
 /// A constant has no such meaning with the other operand, a name is needed and none is free, or memory runs out.
-pub fn figures(alloc: Global, editor: &mut Editor) -> Result<(), RuleStop> {
-    let view = editor.view(alloc)?;
+pub fn figures(editor: &mut Editor) -> Done {
+    let view = editor.view()?;
     let mut fields = Fields::none();
     for seen in view.cards.iter() {
         if is_card(seen, b'C') {
-            rewrite_card(alloc, editor, &view, &mut fields, *seen)?;
+            let mut now = *seen;
+            now.card = rewritten(editor, &view, &mut fields, now, Columns::Factor1)?;
+            rewritten(editor, &view, &mut fields, now, Columns::Factor2)?;
         }
     }
     Ok(())
 }
 
-/// Rewrites the figurative constants of a calculation. The first one may change the operation for the second.
-fn rewrite_card(
-    alloc: Global,
-    editor: &mut Editor,
-    view: &View,
-    fields: &mut Fields,
-    seen: Seen,
-) -> Result<(), RuleStop> {
-    let mut now = seen;
-    now.card = rewritten(alloc, editor, view, fields, now, Columns::Factor1)?;
-    now.card = rewritten(alloc, editor, view, fields, now, Columns::Factor2)?;
-    Ok(())
-}
-
-/// Rewrites the figurative constant in columns of a card, also in the deck.
+/// Rewrites the figurative constant in columns of a card, and returns the card. The first one of a card may change the operation for the
+/// second.
 fn rewritten(
-    alloc: Global,
     editor: &mut Editor,
     view: &View,
     fields: &mut Fields,
@@ -91,11 +77,10 @@ fn rewritten(
     let text = match instead {
         Instead::Number => Word::of(b"0"),
         Instead::Literal(literal) => literal,
-        Instead::Field => field(alloc, editor, fields, figure, seen.number)?,
+        Instead::Field => field(editor, fields, figure, seen.number)?,
     };
     let card = columns.put(with_operation(seen.card, instead), text.text());
-    editor.change(seen.at, card, seen.number);
-    editor.report(seen.number, Sentence::of_two("% is %", constant, text));
+    editor.rewrite(&seen, card, Sentence::of_two("% is %", constant, text));
     Ok(card)
 }
 
@@ -155,7 +140,6 @@ fn with_operation(card: Card, instead: Instead) -> Card {
 
 /// Returns the field that replaces a figurative constant, created for the first card that needs it.
 fn field(
-    alloc: Global,
     editor: &mut Editor,
     fields: &mut Fields,
     figure: Figure,
@@ -164,33 +148,13 @@ fn field(
     if let Some(name) = fields.of(figure) {
         return Ok(name);
     }
-    let stem = match figure {
-        Figure::Blanks => b"BL$",
-        Figure::Zeros => b"ZE$",
+    let (stem, template): (&[u8], &[u8]) = match figure {
+        Figure::Blanks => (b"BL$", BLANKS),
+        Figure::Zeros => (b"ZE$", ZEROS),
     };
-    let name = fresh_name(&editor.view(alloc)?, stem, number)?;
-    let definition = definition(figure, name).unless(Indicator::ALWAYS);
-    insert_at(
-        alloc,
-        editor,
-        Place::DetailFront,
-        &[definition.made_of(number)],
-        number,
-    )?;
+    let name = fresh_name(&editor.view()?, stem, number)?;
+    let never = calculation(template, &[name], number);
+    insert_at(editor, Place::DetailFront, &[never], number)?;
     fields.keep(figure, name);
     Ok(name)
-}
-
-/// Returns the calculation that defines the field of a figurative constant.
-fn definition(figure: Figure, name: Word) -> Calculation {
-    match figure {
-        Figure::Blanks => Calculation::of(b"MOVE")
-            .factor2(b"' '")
-            .result(name.text())
-            .of_length(BLANKS, b' '),
-        Figure::Zeros => Calculation::of(b"Z-ADD")
-            .factor2(b"0")
-            .result(name.text())
-            .of_length(ZEROS, b'0'),
-    }
 }

@@ -2,45 +2,43 @@
 
 use crate::figure::is_literal;
 use crate::movea::{Entries, Moves, Side, moves_of};
-use crate::now::{Now, remark, replace};
+use crate::now::{Now, replace};
 use rpg_fit_deck::{Card, Editor, Seen, Sentence, View, Word};
 use rpg_fit_words::{
-    Array, Columns, Constant, Flagged, FreeIndicators, Group, List, NewCard, Operand, RuleStop,
-    array_of, entry, form_of, groups_now, under_flag, unused_prefix, with_room,
+    Array, Columns, Constant, Done, Flagged, FreeIndicators, Group, List, NewCard, Operand,
+    RuleStop, array_of, entry, form_of, groups_now, under_flag, unused_prefix,
 };
-use std::alloc::Global;
 
 /// Rewrites MOVEA as moves of single entries.
 ///
 /// # Errors
 ///
 /// A MOVEA can't be done entry by entry, a name or an indicator is needed and none is free, or memory runs out.
-pub fn moves(alloc: Global, editor: &mut Editor) -> Result<(), RuleStop> {
-    let found = groups_now(alloc, editor)?;
+pub fn moves(editor: &mut Editor) -> Done {
+    let found = groups_now(editor)?;
     let mut free = FreeIndicators::new();
     for group in found.iter() {
         if group.operation() == b"MOVEA".as_slice() {
-            rewrite_group(alloc, editor, &mut free, group)?;
+            rewrite_group(editor, &mut free, group)?;
         }
     }
     Ok(())
 }
 
 /// Rewrites a MOVEA. One whose operands can't be read stays, for the compiler to report.
-fn rewrite_group(
-    alloc: Global,
-    editor: &mut Editor,
-    free: &mut FreeIndicators,
-    group: &Group,
-) -> Result<(), RuleStop> {
-    let now = Now::of(alloc, editor, group)?;
+fn rewrite_group(editor: &mut Editor, free: &mut FreeIndicators, group: &Group) -> Done {
+    let mut now = Now::of(editor, group.last)?;
     match meaning(&now)? {
         None => Ok(()),
         Some(Moves::Left) => {
-            move_left(editor, &now.seen);
+            let card = now.seen.card.with(28, 32, b"MOVEL");
+            editor.rewrite(&now.seen, card, Sentence::of("MOVEA of fields is MOVEL"));
             Ok(())
         }
-        Some(moves) => move_entries(alloc, editor, free, group, moves),
+        Some(moves) => {
+            make_rooms(editor, &mut now)?;
+            move_entries(editor, free, group, &now, moves)
+        }
     }
 }
 
@@ -97,59 +95,43 @@ fn entries_side(array: Array, index: &[u8]) -> Option<Side> {
     }))
 }
 
-/// Rewrites a MOVEA between fields.
-fn move_left(editor: &mut Editor, seen: &Seen) {
-    editor.change(seen.at, seen.card.with(28, 32, b"MOVEL"), seen.number);
-    editor.report(seen.number, Sentence::of("MOVEA of fields is MOVEL"));
-}
-
 /// Rewrites a MOVEA with an array.
 fn move_entries(
-    alloc: Global,
     editor: &mut Editor,
     free: &mut FreeIndicators,
     group: &Group,
+    now: &Now,
     moves: Moves,
-) -> Result<(), RuleStop> {
-    make_rooms(alloc, editor, group)?;
-    let now = Now::of(alloc, editor, group)?;
+) -> Done {
     let work = work_prefix(&now.view, now.seen.number)?;
-    let under = under_flag(alloc, &now.view, group, free, false)?;
+    let under = under_flag(&now.view, group, free, false)?;
     let plan = Plan::of(&now.seen, &under, work);
-    plan.put(editor, group, under.before, moves)
+    let mut cards = under.before;
+    plan.push_moves(&mut cards, moves);
+    let count = cards.as_slice().len();
+    let remark = Sentence::counted("MOVEA is % calculation", "MOVEA is % calculations", count);
+    replace(editor, group, &cards, remark)
 }
 
 /// Gives the arrays of a MOVEA names with room for an index, in alphabetical order.
-fn make_rooms(alloc: Global, editor: &mut Editor, group: &Group) -> Result<(), RuleStop> {
-    let [first, second] = by_name(alloc, editor, group)?;
-    make_room(alloc, editor, group, first)?;
-    make_room(alloc, editor, group, second)
-}
-
-/// Returns the columns of a MOVEA's arrays, in alphabetical order of the names.
-fn by_name(alloc: Global, editor: &Editor, group: &Group) -> Result<[Columns; 2], RuleStop> {
-    let now = Now::of(alloc, editor, group)?;
+fn make_rooms(editor: &mut Editor, now: &mut Now) -> Done {
     let from = Operand::of(Columns::Factor2.value(&now.seen.card)).name;
     if from <= Operand::of(Columns::Result.value(&now.seen.card)).name {
-        Ok([Columns::Factor2, Columns::Result])
+        make_room(editor, now, Columns::Factor2)?;
+        make_room(editor, now, Columns::Result)
     } else {
-        Ok([Columns::Result, Columns::Factor2])
+        make_room(editor, now, Columns::Result)?;
+        make_room(editor, now, Columns::Factor2)
     }
 }
 
 /// Gives the array in columns a name with room for the index of its last entry.
-fn make_room(
-    alloc: Global,
-    editor: &mut Editor,
-    group: &Group,
-    columns: Columns,
-) -> Result<(), RuleStop> {
-    let now = Now::of(alloc, editor, group)?;
+fn make_room(editor: &mut Editor, now: &mut Now, columns: Columns) -> Done {
     let name = Operand::of(columns.value(&now.seen.card)).name;
-    if let Some(array) = array_of(&now.view, name) {
-        with_room(alloc, editor, name, Word::of_number(array.entries))?;
+    match array_of(&now.view, name) {
+        Some(array) => now.make_room(editor, array.name, Word::of_number(array.entries)),
+        None => Ok(()),
     }
-    Ok(())
 }
 
 /// Returns a prefix for work fields that no name has.
@@ -190,20 +172,6 @@ impl Plan {
         }
     }
 
-    /// Replaces a MOVEA by the moves of all entries, after these cards.
-    fn put(
-        &self,
-        editor: &mut Editor,
-        group: &Group,
-        before: List<NewCard>,
-        moves: Moves,
-    ) -> Result<(), RuleStop> {
-        let mut cards = before;
-        self.push_moves(&mut cards, moves);
-        let remark = remark("MOVEA is % calculation", "MOVEA is % calculations", &cards);
-        replace(editor, group, &cards, remark)
-    }
-
     /// Appends the moves of all entries.
     fn push_moves(&self, cards: &mut List<NewCard>, moves: Moves) {
         match moves {
@@ -223,16 +191,9 @@ impl Plan {
     /// Appends a MOVE for each entry.
     fn push_entry_to_entry(&self, cards: &mut List<NewCard>, from: usize, to: usize, count: usize) {
         for place in 0..count {
-            cards.push(
-                self.base
-                    .with(28, 32, b"MOVE")
-                    .with(
-                        33,
-                        42,
-                        numbered(self.from, from.saturating_add(place)).text(),
-                    )
-                    .with(43, 48, numbered(self.to, to.saturating_add(place)).text()),
-            );
+            let from = numbered(self.from, from.saturating_add(place));
+            let to = numbered(self.to, to.saturating_add(place));
+            cards.push(self.from(b"MOVE", from).with(43, 48, to.text()));
         }
     }
 
@@ -241,14 +202,10 @@ impl Plan {
         for place in 0..count {
             let number = place.saturating_add(1);
             let work = self.work_field(number);
+            let to = numbered(self.to, to.saturating_add(place));
             cards.push(self.to_work(b"MOVEL", work, number.saturating_mul(length)));
-            cards.push(
-                self.base
-                    .with(28, 32, b"MOVE")
-                    .with(33, 42, work.text())
-                    .with(43, 48, numbered(self.to, to.saturating_add(place)).text())
-                    .with(49, 52, b""),
-            );
+            let out = self.from(b"MOVE", work).with(43, 48, to.text());
+            cards.push(out.with(49, 52, b""));
         }
     }
 
@@ -259,17 +216,20 @@ impl Plan {
             let number = count.saturating_sub(place);
             let work = self.work_field(number);
             let last = numbered(self.from, from.saturating_add(number).saturating_sub(1));
-            let out = self.base.with(28, 32, b"MOVEL").with(33, 42, work.text());
-            cards.push(
-                self.to_work(b"MOVE", work, number.saturating_mul(length))
-                    .with(33, 42, last.text()),
-            );
+            let into = self.to_work(b"MOVE", work, number.saturating_mul(length));
+            cards.push(into.with(33, 42, last.text()));
+            let out = self.from(b"MOVEL", work);
             cards.push(if place == 0 {
                 out
             } else {
                 out.with(49, 52, b"")
             });
         }
+    }
+
+    /// Returns an operation with another factor 2.
+    fn from(&self, operation: &[u8], from: Word) -> NewCard {
+        self.base.with(28, 32, operation).with(33, 42, from.text())
     }
 
     fn work_field(&self, number: usize) -> Word {

@@ -1,12 +1,11 @@
 //! Calculations with whole arrays.
 
-use crate::now::{Now, remark, replace};
+use crate::now::{Now, replace};
 use rpg_fit_deck::{Card, Editor, Sentence, View, Word};
 use rpg_fit_words::{
-    Calculation, Columns, Flagged, FreeIndicators, FreshNames, Group, Indicator, List, NewCard,
-    Operand, RuleStop, array_of, entry, fresh_name, groups, under_flag, with_room,
+    Columns, Done, FreeIndicators, FreshNames, Group, Indicator, List, NewCard, Operand, RuleStop,
+    array_of, calculation, entry, fresh_name, groups, under_flag,
 };
-use std::alloc::Global;
 
 /// The least number of entries for which the calculations are a loop.
 const LOOP_FROM: usize = 31;
@@ -16,14 +15,14 @@ const LOOP_FROM: usize = 31;
 /// # Errors
 ///
 /// A calculation can't be done entry by entry, a name or an indicator is needed and none is free, or memory runs out.
-pub fn whole_calculations(alloc: Global, editor: &mut Editor) -> Result<(), RuleStop> {
-    let view = editor.view(alloc)?;
-    let found = groups(alloc, &view)?;
+pub fn whole_calculations(editor: &mut Editor) -> Done {
+    let view = editor.view()?;
+    let found = groups(&view)?;
     let mut free = FreeIndicators::new();
     for (place, group) in found.iter().enumerate() {
         if has_whole_array(&view, group) {
             let next = found.get(place.saturating_add(1));
-            rewrite_group(alloc, editor, &mut free, group, next)?;
+            rewrite_group(editor, &mut free, group, next)?;
         }
     }
     Ok(())
@@ -63,34 +62,35 @@ fn is_entry_of(text: &[u8], array: &[u8]) -> bool {
     text != array && Operand::of(text).name == array
 }
 
-/// Rejects a calculation with whole arrays that can't be done entry by entry.
-fn check(now: &Now, next: Option<&Group>) -> Result<(), RuleStop> {
-    check_calculation(now)?;
-    check_next(next)?;
-    check_own_entry(now)
-}
-
-/// Rejects an operation that can't be done entry by entry, a result that isn't a whole array, and resulting indicators.
-fn check_calculation(now: &Now) -> Result<(), RuleStop> {
-    let number = now.seen.number;
+/// Rejects an operation that can't be done entry by entry, a result that isn't a whole array or is a factor by one of its entries, and
+/// resulting indicators.
+fn check(now: &Now, next: Option<&Group>) -> Done {
     let card = &now.seen.card;
+    let number = now.seen.number;
     let operation = card.value(28, 32);
+    let array = Columns::Result.value(card);
     if !is_one_of(operation, &BY_ENTRY) {
         let why = "a whole array beside %";
         return Err(RuleStop::about(number, why, Word::of(operation)));
     }
-    if !is_whole(&now.view, Columns::Result.value(card)) {
+    if !is_whole(&now.view, array) {
         return Err(RuleStop::because(number, "a whole array into a field"));
     }
     if !card.is_blank(54, 59) {
-        let why = "resulting indicators of a whole array";
-        return Err(RuleStop::because(number, why));
+        return Err(RuleStop::because(number, "resulting indicators of a whole array"));
+    }
+    check_next(next)?;
+    if is_entry_of(Columns::Factor1.value(card), array)
+        || is_entry_of(Columns::Factor2.value(card), array)
+    {
+        let why = "an entry of % as a factor of the whole of it";
+        return Err(RuleStop::about(number, why, Word::of(array)));
     }
     Ok(())
 }
 
 /// Rejects MVR as the next calculation.
-fn check_next(next: Option<&Group>) -> Result<(), RuleStop> {
+fn check_next(next: Option<&Group>) -> Done {
     match next {
         Some(group) if matches!(group.operation(), b"MVR") => {
             let why = "MVR after a DIV of whole arrays";
@@ -100,75 +100,40 @@ fn check_next(next: Option<&Group>) -> Result<(), RuleStop> {
     }
 }
 
-/// Rejects an entry of the result as a factor.
-fn check_own_entry(now: &Now) -> Result<(), RuleStop> {
-    let card = &now.seen.card;
-    let array = Columns::Result.value(card);
-    if is_entry_of(Columns::Factor1.value(card), array)
-        || is_entry_of(Columns::Factor2.value(card), array)
-    {
-        let why = "an entry of % as a factor of the whole of it";
-        return Err(RuleStop::about(now.seen.number, why, Word::of(array)));
-    }
-    Ok(())
-}
-
 /// Returns the least number of entries of a calculation's whole arrays, or None if it has none.
 fn least_entries(view: &View, card: &Card) -> Option<usize> {
-    let least = least_with(view, Columns::Factor1.value(card), None);
-    let least = least_with(view, Columns::Factor2.value(card), least);
-    least_with(view, Columns::Result.value(card), least)
-}
-
-/// Returns the least number of entries, including an operand that may be a whole array.
-fn least_with(view: &View, operand: &[u8], least: Option<usize>) -> Option<usize> {
-    match array_of(view, operand) {
-        Some(array) => Some(array.entries.min(least.unwrap_or(array.entries))),
-        None => least,
+    let mut least = None;
+    for columns in &Columns::ALL {
+        if let Some(array) = array_of(view, columns.value(card)) {
+            least = Some(array.entries.min(least.unwrap_or(array.entries)));
+        }
     }
+    least
 }
 
 /// Rewrites a calculation with whole arrays.
 fn rewrite_group(
-    alloc: Global,
     editor: &mut Editor,
     free: &mut FreeIndicators,
     group: &Group,
     next: Option<&Group>,
-) -> Result<(), RuleStop> {
-    let now = Now::of(alloc, editor, group)?;
+) -> Done {
+    let mut now = Now::of(editor, group.last)?;
     check(&now, next)?;
     match least_entries(&now.view, &now.seen.card) {
         None | Some(0) => Ok(()),
-        Some(entries) if entries < LOOP_FROM => by_entry(alloc, editor, free, group, entries),
-        Some(entries) => by_loop(alloc, editor, free, group, entries),
+        Some(entries) if entries < LOOP_FROM => by_entry(editor, free, group, &mut now, entries),
+        Some(entries) => by_loop(editor, free, group, &mut now, entries),
     }
 }
 
-/// Gives the whole arrays of a calculation names with room for an index.
-fn make_rooms(
-    alloc: Global,
-    editor: &mut Editor,
-    group: &Group,
-    index: Word,
-) -> Result<(), RuleStop> {
-    make_room(alloc, editor, group, Columns::Factor1, index)?;
-    make_room(alloc, editor, group, Columns::Factor2, index)?;
-    make_room(alloc, editor, group, Columns::Result, index)
-}
-
-/// Gives the whole array in columns a name with room for a comma and an index.
-fn make_room(
-    alloc: Global,
-    editor: &mut Editor,
-    group: &Group,
-    columns: Columns,
-    index: Word,
-) -> Result<(), RuleStop> {
-    let now = Now::of(alloc, editor, group)?;
-    let name = columns.value(&now.seen.card);
-    if is_whole(&now.view, name) {
-        with_room(alloc, editor, name, index)?;
+/// Gives the whole arrays of a calculation names with room for a comma and an index.
+fn make_rooms(editor: &mut Editor, now: &mut Now, index: Word) -> Done {
+    for columns in &Columns::ALL {
+        let name = Word::of(columns.value(&now.seen.card));
+        if is_whole(&now.view, name.text()) {
+            now.make_room(editor, name, index)?;
+        }
     }
     Ok(())
 }
@@ -185,47 +150,37 @@ fn indexed(view: &View, card: Card, columns: Columns, index: Word) -> Card {
 
 /// Returns the calculation of an entry, with an index for each whole array.
 fn entry_card(now: &Now, base: NewCard, index: Word) -> NewCard {
-    let card = indexed(&now.view, base.card, Columns::Factor1, index);
-    let card = indexed(&now.view, card, Columns::Factor2, index);
+    let mut card = base.card;
+    for columns in &Columns::ALL {
+        card = indexed(&now.view, card, *columns, index);
+    }
     NewCard {
-        card: indexed(&now.view, card, Columns::Result, index),
+        card,
         number: base.number,
     }
 }
 
 /// Rewrites a calculation as one for each entry.
 fn by_entry(
-    alloc: Global,
     editor: &mut Editor,
     free: &mut FreeIndicators,
     group: &Group,
+    now: &mut Now,
     entries: usize,
-) -> Result<(), RuleStop> {
-    make_rooms(alloc, editor, group, Word::of_number(entries))?;
-    let now = Now::of(alloc, editor, group)?;
-    let under = under_flag(alloc, &now.view, group, free, false)?;
-    put_entries(editor, group, &now, under, entries)
-}
-
-/// Replaces a calculation by one for each entry.
-fn put_entries(
-    editor: &mut Editor,
-    group: &Group,
-    now: &Now,
-    under: Flagged,
-    entries: usize,
-) -> Result<(), RuleStop> {
+) -> Done {
+    make_rooms(editor, now, Word::of_number(entries))?;
+    let under = under_flag(&now.view, group, free, false)?;
     let base = base_of(now, under.level).with(9, 17, under.conditions.text());
     let mut cards = under.before;
     for place in 0..entries {
         let index = Word::of_number(place.saturating_add(1));
         cards.push(entry_card(now, base, index));
     }
-    let remark = remark(
+    let (one, several) = (
         "whole arrays: % calculation",
         "whole arrays: % calculations",
-        &cards,
     );
+    let remark = Sentence::counted(one, several, cards.as_slice().len());
     replace(editor, group, &cards, remark)
 }
 
@@ -239,42 +194,22 @@ fn base_of(now: &Now, level: Indicator) -> NewCard {
 
 /// Rewrites a calculation as a loop over the entries.
 fn by_loop(
-    alloc: Global,
     editor: &mut Editor,
     free: &mut FreeIndicators,
     group: &Group,
+    now: &mut Now,
     entries: usize,
-) -> Result<(), RuleStop> {
-    let index = fresh_index(alloc, editor, group)?;
-    make_rooms(alloc, editor, group, index)?;
-    let now = Now::of(alloc, editor, group)?;
-    let under = under_flag(alloc, &now.view, group, free, true)?;
+) -> Done {
+    let index = FreshNames::of(b"X#", 2).take(&now.view, now.seen.number)?;
+    make_rooms(editor, now, index)?;
+    let under = under_flag(&now.view, group, free, true)?;
     let Some(flag) = under.flag else {
         return Ok(());
     };
-    let frame = Loop::of(&now, under.level, flag, index)?;
-    let calculation = entry_card(&now, frame.base, index);
-    put_loop(editor, group, &frame, calculation, under.before, entries)
-}
-
-/// Returns a name for a loop's index.
-fn fresh_index(alloc: Global, editor: &Editor, group: &Group) -> Result<Word, RuleStop> {
-    let view = editor.view(alloc)?;
-    FreshNames::of(b"X#", 2).take(&view, group.last.number)
-}
-
-/// Replaces a calculation by a loop, after these cards.
-fn put_loop(
-    editor: &mut Editor,
-    group: &Group,
-    frame: &Loop,
-    calculation: NewCard,
-    before: List<NewCard>,
-    entries: usize,
-) -> Result<(), RuleStop> {
-    let mut cards = before;
+    let frame = Loop::of(now, under.level, flag, index)?;
+    let mut cards = under.before;
     cards.push_all(&frame.begin());
-    cards.push(calculation);
+    cards.push(entry_card(now, frame.base, index));
     cards.push_all(&frame.end(entries));
     let remark =
         "whole arrays: a loop of %; give --allowance more than 1000 where it is done often";
@@ -313,50 +248,28 @@ impl Loop {
         })
     }
 
-    fn card(&self, calculation: Calculation) -> NewCard {
-        calculation.at(self.level).made_of(self.number)
+    fn card(&self, template: &[u8], words: &[Word]) -> NewCard {
+        let card = calculation(template, words, self.number);
+        card.with(7, 8, self.level.word().text())
     }
 
     /// Returns the cards before the calculation, which set the index to 1.
     fn begin(&self) -> [NewCard; 3] {
         [
-            self.card(
-                Calculation::of(b"GOTO")
-                    .unless(self.flag)
-                    .factor2(self.done.text()),
-            ),
-            self.card(
-                Calculation::of(b"Z-ADD")
-                    .factor2(b"1")
-                    .result(self.index.text())
-                    .of_length(4, b'0'),
-            ),
-            self.card(Calculation::of(b"TAG").factor1(self.again.text())),
+            self.card(b"N%||GOTO|%", &[self.flag.word(), self.done]),
+            self.card(b"||Z-ADD|1|%|  40", &[self.index]),
+            self.card(b"|%|TAG", &[self.again]),
         ]
     }
 
     /// Returns the cards after the calculation: the next index, and back while it has an entry.
     fn end(&self, entries: usize) -> [NewCard; 4] {
+        let (flag, entries) = (self.flag.word(), Word::of_number(entries));
         [
-            self.card(
-                Calculation::of(b"ADD")
-                    .factor1(self.index.text())
-                    .factor2(b"1")
-                    .result(self.index.text()),
-            ),
-            self.card(
-                Calculation::of(b"COMP")
-                    .factor1(self.index.text())
-                    .factor2(Word::of_number(entries).text())
-                    .low(self.flag)
-                    .equal(self.flag),
-            ),
-            self.card(
-                Calculation::of(b"GOTO")
-                    .when(self.flag)
-                    .factor2(self.again.text()),
-            ),
-            self.card(Calculation::of(b"TAG").factor1(self.done.text())),
+            self.card(b"|%|ADD|1|%", &[self.index, self.index]),
+            self.card(b"|%|COMP|%||||%|%", &[self.index, entries, flag, flag]),
+            self.card(b" %||GOTO|%", &[flag, self.again]),
+            self.card(b"|%|TAG", &[self.done]),
         ]
     }
 }

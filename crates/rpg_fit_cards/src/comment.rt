@@ -1,19 +1,14 @@
 //! Turns directives for the listing, and DEBUG, into comments.
 
 use rpg_fit_deck::{Card, Editor, Seen, Sentence};
-use rpg_fit_words::{Group, RuleStop, groups_now};
-use std::alloc::Global;
+use rpg_fit_words::{Done, Group, groups_now};
 
 const DIRECTIVES: [&[u8]; 3] = [b"/TITLE", b"/EJECT", b"/SPACE"];
 
 /// Turns directives for the listing into comments, and DEBUG with the cards of its conditions.
-///
-/// # Errors
-///
-/// Memory runs out.
-pub fn comments(alloc: Global, editor: &mut Editor) -> Result<(), RuleStop> {
-    put_directives(alloc, editor)?;
-    put_debugs(alloc, editor)
+pub fn comments(editor: &mut Editor) -> Done {
+    put_directives(editor)?;
+    put_debugs(editor)
 }
 
 fn is_directive(card: &Card) -> bool {
@@ -27,25 +22,22 @@ fn is_directive(card: &Card) -> bool {
 }
 
 fn make_comment(editor: &mut Editor, seen: &Seen, with: usize) {
-    let mut card = seen.card;
-    card.put_column(7, b'*');
-    editor.change(seen.at, card, with);
+    editor.change(seen.at, seen.card.with(7, 7, b"*"), with);
 }
 
-fn put_directives(alloc: Global, editor: &mut Editor) -> Result<(), RuleStop> {
-    let view = editor.view(alloc)?;
+fn put_directives(editor: &mut Editor) -> Done {
+    let view = editor.view()?;
     for seen in &view.cards {
         if is_directive(&seen.card) {
             let sentence = Sentence::of("a directive for the listing is a comment now");
-            editor.report(seen.number, sentence);
-            make_comment(editor, seen, seen.number);
+            editor.rewrite(seen, seen.card.with(7, 7, b"*"), sentence);
         }
     }
     Ok(())
 }
 
-fn put_debugs(alloc: Global, editor: &mut Editor) -> Result<(), RuleStop> {
-    let groups = groups_now(alloc, editor)?;
+fn put_debugs(editor: &mut Editor) -> Done {
+    let groups = groups_now(editor)?;
     for group in groups.iter() {
         if group.operation() == b"DEBUG".as_slice() {
             put_debug(editor, group);

@@ -1,12 +1,10 @@
 //! Merges several disk files into one.
 
 use crate::cards::is_printer;
-use crate::draft::Draft;
 use crate::outputs::{OutputCard, OutputRole, output_cards};
 use rpg_fit_deck::{Card, Editor, Seen, Sentence, View, Word};
 use rpg_fit_terms::address_after;
-use rpg_fit_words::{List, RuleStop, is_card};
-use std::alloc::Global;
+use rpg_fit_words::{Done, List, is_card};
 
 /// A disk file that is written.
 #[derive(Clone, Copy)]
@@ -24,26 +22,17 @@ impl Disk {
 }
 
 /// Merges several disk files into one: column 1 of its records has a letter for the file.
-///
-/// # Errors
-///
-/// Memory runs out.
-pub fn disks(alloc: Global, editor: &mut Editor) -> Result<(), RuleStop> {
-    let view = editor.view(alloc)?;
-    let disks = written_disks(alloc, &view);
-    join_disks(alloc, editor, &view, disks.checked()?)
+pub fn disks(editor: &mut Editor) -> Done {
+    let view = editor.view()?;
+    let disks = written_disks(&view);
+    join_disks(editor, &view, disks.checked()?)
 }
 
 /// Merges these disk files, if there are several.
-fn join_disks(
-    alloc: Global,
-    editor: &mut Editor,
-    view: &View,
-    disks: &[Disk],
-) -> Result<(), RuleStop> {
+fn join_disks(editor: &mut Editor, view: &View, disks: &[Disk]) -> Done {
     if let [first, others @ ..] = disks {
         if !others.is_empty() {
-            let outputs = output_cards(alloc, view);
+            let outputs = output_cards(view);
             report_disks(editor, disks);
             move_outputs(editor, view, disks, first, outputs.checked()?);
             join_files(editor, first, others);
@@ -70,8 +59,8 @@ fn move_outputs(
 }
 
 /// Returns the disk files that are written; empty if one has no length, or there are too many.
-fn written_disks(alloc: Global, view: &View) -> List<Disk> {
-    let mut disks = List::new(alloc);
+fn written_disks(view: &View) -> List<Disk> {
+    let mut disks = List::new(view.alloc);
     let mut letter = b'A';
     for seen in &view.cards {
         if is_disk(seen) {
@@ -81,7 +70,7 @@ fn written_disks(alloc: Global, view: &View) -> List<Disk> {
                     length,
                     letter,
                 }),
-                _ => return List::new(alloc),
+                _ => return List::new(view.alloc),
             }
             letter = letter.saturating_add(1);
         }
@@ -123,32 +112,28 @@ fn disk_of<'a>(disks: &'a [Disk], file: &[u8]) -> Option<&'a Disk> {
 /// Puts the file's name on the card of a line, and moves a field of a disk file one to the right.
 fn move_output(editor: &mut Editor, disks: &[Disk], first: &Disk, output: &OutputCard) {
     let disk = disk_of(disks, output.file.text());
-    let with = match disk {
-        Some(disk) => disk.seen.number,
-        None => first.seen.number,
-    };
-    let mut draft = Draft::of(&output.seen);
-    match output.role {
-        OutputRole::Line => {
-            let name = match disk {
-                Some(_) => first.name(),
-                None => output.file.text(),
-            };
-            if draft.card.value(7, 14) != name {
-                draft.follow(editor, 7, 14, name, with);
-            }
-        }
-        OutputRole::Field if disk.is_some() => move_field(editor, &mut draft, with),
+    match (output.role, disk) {
+        (OutputRole::Line, Some(disk)) => put_file(editor, output, first.name(), disk),
+        (OutputRole::Line, None) => put_file(editor, output, output.file.text(), first),
+        (OutputRole::Field, Some(disk)) => move_field(editor, &output.seen, disk),
         _ => {}
     }
 }
 
-/// Moves the end position of a field by one.
-fn move_field(editor: &mut Editor, draft: &mut Draft, with: usize) {
-    if let Some(end) = draft.card.number(40, 43) {
+/// Puts a file's name on the card of a line, as part of the change of a disk file.
+fn put_file(editor: &mut Editor, line: &OutputCard, name: &[u8], with: &Disk) {
+    let card = line.seen.card;
+    if card.value(7, 14) != name {
+        editor.change(line.seen.at, card.with(7, 14, name), with.seen.number);
+    }
+}
+
+/// Moves the end position of a disk file's field by one.
+fn move_field(editor: &mut Editor, field: &Seen, disk: &Disk) {
+    if let Some(end) = field.card.number(40, 43) {
         let end = Word::of_number(end.saturating_add(1));
-        let card = draft.card.with_right(40, 43, end.text());
-        draft.follow(editor, 40, 43, card.columns(40, 43), with);
+        let card = field.card.with_right(40, 43, end.text());
+        editor.change(field.at, card, disk.seen.number);
     }
 }
 
@@ -168,7 +153,7 @@ fn put_letter(editor: &mut Editor, view: &View, disks: &[Disk], output: &OutputC
             .with_right(40, 43, b"1")
             .with(45, 47, &[b'\'', disk.letter, b'\'']);
         let at = address_after(view, output.seen.at);
-        let _ = editor.insert_copy(at, card, output.line, disk.seen.number);
+        editor.insert_copy(at, card, output.line, disk.seen.number);
     }
 }
 
@@ -184,12 +169,9 @@ fn longest(first: &Disk, others: &[Disk]) -> usize {
 /// Keeps only the first file, with records one longer than the longest.
 fn join_files(editor: &mut Editor, first: &Disk, others: &[Disk]) {
     let length = Word::of_number(longest(first, others).saturating_add(1));
-    let mut draft = Draft::of(&first.seen);
-    let card = draft
-        .card
-        .with(20, 23, &[])
-        .with_right(24, 27, length.text());
-    draft.follow(editor, 20, 27, card.columns(20, 27), first.seen.number);
+    let file = first.seen;
+    let card = file.card.with(20, 23, &[]);
+    editor.change(file.at, card.with_right(24, 27, length.text()), file.number);
     for disk in others {
         editor.remove(disk.seen.at, disk.seen.number);
     }

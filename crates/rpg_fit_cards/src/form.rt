@@ -1,12 +1,10 @@
 //! Removes L cards.
 
-use crate::cards::is_printer;
-use crate::draft::Draft;
+use crate::cards::first_condition;
 use crate::outputs::{OutputRole, output_role};
 use crate::settings::Settings;
 use rpg_fit_deck::{Card, Editor, Seen, Sentence, View, Word};
-use rpg_fit_words::{RuleStop, is_card};
-use std::alloc::Global;
+use rpg_fit_words::{Conjunction, Done, Indicator, RuleStop, is_card, printer_of};
 
 /// The lines of a page, and the line at which it overflows.
 const LINES: usize = 66;
@@ -17,69 +15,42 @@ const OVERFLOW: usize = 60;
 #[derive(Clone, Copy)]
 struct FormUse {
     /// The overflow indicator, if a condition tests it.
-    overflow: Option<Word>,
+    overflow: Option<Indicator>,
     /// Whether some line skips.
     skips: bool,
 }
 
 /// Removes L cards for the standard form, and others if no form must keep its length.
-///
-/// # Errors
-///
-/// Memory runs out.
-pub fn forms(alloc: Global, editor: &mut Editor, settings: &Settings) -> Result<(), RuleStop> {
-    let view = editor.view(alloc)?;
+pub fn forms(editor: &mut Editor, settings: &Settings) -> Done {
+    let view = editor.view()?;
     let form_use = FormUse {
         overflow: tested_overflow(&view),
         skips: has_skip(&view),
     };
     for seen in &view.cards {
-        if is_card(seen, b'L') && editor.continues() {
-            take_out(editor, &view, &form_use, settings.keeps_forms, seen);
+        if is_card(seen, b'L') {
+            take_out(editor, &view, &form_use, settings.keeps_forms, seen)?;
         }
     }
     Ok(())
 }
 
 /// Returns the overflow indicator of the printer, if a condition tests it.
-fn tested_overflow(view: &View) -> Option<Word> {
-    let indicator = overflow_of(view)?;
+fn tested_overflow(view: &View) -> Option<Indicator> {
+    let overflow = printer_of(view)?.overflow;
     for seen in &view.cards {
-        if tests(&seen.card, indicator.text()) {
-            return Some(indicator);
+        if !overflow.is_blank() && tests(&seen.card, overflow) {
+            return Some(overflow);
         }
     }
     None
-}
-
-/// Returns the overflow indicator of the first printer, if it has one.
-fn overflow_of(view: &View) -> Option<Word> {
-    for seen in &view.cards {
-        if is_card(seen, b'F') && is_printer(&seen.card) {
-            let indicator = seen.card.value(33, 34);
-            return (!indicator.is_empty()).then_some(Word::of(indicator));
-        }
-    }
-    None
-}
-
-/// Whether a column and the next one hold an indicator.
-fn has_at(card: &Card, column: usize, indicator: &[u8]) -> bool {
-    card.columns(column, column.saturating_add(1)) == indicator
 }
 
 /// Whether a condition of a card tests an indicator.
-fn tests(card: &Card, indicator: &[u8]) -> bool {
-    !card.is_comment()
-        && match card.form() {
-            b'C' => has_at(card, 10, indicator)
-                || has_at(card, 13, indicator)
-                || has_at(card, 16, indicator),
-            b'O' => has_at(card, 24, indicator)
-                || has_at(card, 27, indicator)
-                || has_at(card, 30, indicator),
-            _ => false,
-        }
+fn tests(card: &Card, indicator: Indicator) -> bool {
+    matches!(card.form(), b'C' | b'O')
+        && !card.is_comment()
+        && Conjunction::at(card, first_condition(card.form())).tests(indicator)
 }
 
 /// Whether the card of a line skips.
@@ -128,7 +99,7 @@ fn reason(form_use: &FormUse, form: Form, keeps_forms: bool) -> Option<Sentence>
             return Some(Sentence::of_two(
                 "the overflow line is % and not 60, and % is tested",
                 Word::of_number(form.overflow),
-                indicator,
+                indicator.word(),
             ));
         }
     }
@@ -151,7 +122,7 @@ fn reason_of_short(form_use: &FormUse, lines: Word, keeps_forms: bool) -> Option
     }
     if let Some(indicator) = form_use.overflow {
         let text = "a form of % lines, and % is tested";
-        return Some(Sentence::of_two(text, lines, indicator));
+        return Some(Sentence::of_two(text, lines, indicator.word()));
     }
     if keeps_forms {
         None
@@ -162,18 +133,23 @@ fn reason_of_short(form_use: &FormUse, lines: Word, keeps_forms: bool) -> Option
 }
 
 /// Removes an L card. One whose columns can't be read stays, for the compiler to report.
-fn take_out(editor: &mut Editor, view: &View, form_use: &FormUse, keeps_forms: bool, seen: &Seen) {
+fn take_out(
+    editor: &mut Editor,
+    view: &View,
+    form_use: &FormUse,
+    keeps_forms: bool,
+    seen: &Seen,
+) -> Done {
     let Some(form) = form_of(&seen.card) else {
-        return;
+        return Ok(());
     };
-    match reason(form_use, form, keeps_forms) {
-        Some(why) => editor.refuse(seen.number, why),
-        None => {
-            editor.report(seen.number, removal(form));
-            editor.remove(seen.at, seen.number);
-            blank_references(editor, view, seen.number);
-        }
+    if let Some(why) = reason(form_use, form, keeps_forms) {
+        return Err(RuleStop::refused(seen.number, why));
     }
+    editor.report(seen.number, removal(form));
+    editor.remove(seen.at, seen.number);
+    blank_references(editor, view, seen.number);
+    Ok(())
 }
 
 fn removal(form: Form) -> Sentence {
@@ -191,7 +167,7 @@ fn removal(form: Form) -> Sentence {
 fn blank_references(editor: &mut Editor, view: &View, with: usize) {
     for seen in &view.cards {
         if is_card(seen, b'F') && seen.card.column(39) == b'L' {
-            Draft::of(seen).follow(editor, 39, 39, &[], with);
+            editor.change(seen.at, seen.card.with(39, 39, &[]), with);
         }
     }
 }

@@ -5,7 +5,6 @@ mod cards;
 mod column;
 mod comment;
 mod disk;
-mod draft;
 mod form;
 mod numbered_page;
 mod outputs;

@@ -2,8 +2,7 @@
 
 use rpg_fit_deck::{Card, Editor, Sentence, View, Word};
 use rpg_fit_terms::rename;
-use rpg_fit_words::{List, Operand, RuleStop, is_card};
-use std::alloc::Global;
+use rpg_fit_words::{Done, List, Operand, RuleStop, is_card};
 
 /// The page counters of the old language.
 const COUNTERS: [&[u8]; 8] = [
@@ -11,25 +10,23 @@ const COUNTERS: [&[u8]; 8] = [
 ];
 
 /// Turns the one page counter of a deck into PAGE.
-///
-/// # Errors
-///
-/// Memory runs out.
-pub fn numbered_pages(alloc: Global, editor: &mut Editor) -> Result<(), RuleStop> {
-    let view = editor.view(alloc)?;
-    let mut used = List::new(alloc);
+pub fn numbered_pages(editor: &mut Editor) -> Done {
+    let view = editor.view()?;
+    let mut used = List::new(editor.alloc());
     for counter in &COUNTERS {
         if counts(&view, *counter) {
             used.push(*counter);
         }
     }
     match used.checked()? {
-        [first, second, ..] if is_page(*first) => reject_second(editor, &view, *second, *first),
-        [first, second, ..] => reject_second(editor, &view, *first, *second),
-        [counter] if !is_page(*counter) => become_page(editor, &view, *counter),
-        _ => {}
+        [first, second, ..] if is_page(*first) => Err(reason(&view, *second, *first)),
+        [first, second, ..] => Err(reason(&view, *first, *second)),
+        [counter] if !is_page(*counter) => {
+            become_page(editor, &view, *counter);
+            Ok(())
+        }
+        _ => Ok(()),
     }
-    Ok(())
 }
 
 /// Whether a counter is PAGE itself.
@@ -88,13 +85,11 @@ fn first_with(view: &View, name: &[u8]) -> Option<usize> {
     first
 }
 
-fn reject_second(editor: &mut Editor, view: &View, counter: &[u8], other: &[u8]) {
-    let sentence = Sentence::of_two(
-        "% beside %: one page counter is there",
-        Word::of(counter),
-        Word::of(other),
-    );
-    editor.refuse(first_with(view, counter).unwrap_or(1), sentence);
+/// Returns why a deck with two counters is rejected.
+fn reason(view: &View, counter: &[u8], other: &[u8]) -> RuleStop {
+    let why = "% beside %: one page counter is there";
+    let why = Sentence::of_two(why, Word::of(counter), Word::of(other));
+    RuleStop::refused(first_with(view, counter).unwrap_or(1), why)
 }
 
 /// Turns a counter into PAGE wherever it is used, except as a label or a subroutine.

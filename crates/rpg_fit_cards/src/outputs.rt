@@ -2,7 +2,6 @@
 
 use rpg_fit_deck::{Card, Seen, View, Word};
 use rpg_fit_words::{List, is_card};
-use std::alloc::Global;
 
 /// The role of an output card.
 #[derive(Clone, Copy, PartialEq, Eq)]
@@ -40,8 +39,8 @@ pub(crate) fn output_role(card: &Card) -> OutputRole {
 }
 
 /// Returns the output cards of a deck, without comments.
-pub(crate) fn output_cards(alloc: Global, view: &View) -> List<OutputCard> {
-    let mut cards = List::new(alloc);
+pub(crate) fn output_cards(view: &View) -> List<OutputCard> {
+    let mut cards = List::new(view.alloc);
     let mut line = 0;
     let mut file = Word::empty();
     for seen in &view.cards {

@@ -1,38 +1,34 @@
 //! Evaluates conditions on external indicators.
 
 use crate::cards::first_condition;
-use crate::draft::Draft;
 use crate::outputs::{OutputCard, OutputRole, output_cards};
 use crate::settings::Switches;
 use rpg_fit_deck::{Card, Editor, Seen, Sentence, View, Word};
-use rpg_fit_words::{RuleStop, is_card};
+use rpg_fit_words::{Done, RuleStop, is_card};
 use rpg_text::is_blank;
-use std::alloc::Global;
 
 /// Evaluates conditions on U1 to U8: L0 replaces a condition that holds, NL0 one that doesn't.
-///
-/// # Errors
-///
-/// Memory runs out.
-pub fn switches(alloc: Global, editor: &mut Editor, switches: &Switches) -> Result<(), RuleStop> {
-    let view = editor.view(alloc)?;
-    reject_results(editor, &view);
-    if !editor.continues() {
-        return Ok(());
-    }
+pub fn switches(editor: &mut Editor, switches: &Switches) -> Done {
+    let view = editor.view()?;
+    check_results(&view)?;
     decide_conditions(editor, &view, switches);
-    let outputs = output_cards(alloc, &editor.view(alloc)?);
-    decide_files(editor, &view, outputs.checked()?, switches);
-    Ok(())
+    let outputs = output_cards(&editor.view()?);
+    decide_files(editor, &view, outputs.checked()?, switches)
 }
 
 /// Evaluates the conditions of files.
-fn decide_files(editor: &mut Editor, view: &View, outputs: &[OutputCard], switches: &Switches) {
+fn decide_files(
+    editor: &mut Editor,
+    view: &View,
+    outputs: &[OutputCard],
+    switches: &Switches,
+) -> Done {
     for seen in &view.cards {
         if is_card(seen, b'F') {
-            decide_file(editor, outputs, seen, switches);
+            decide_file(editor, outputs, seen, switches)?;
         }
     }
+    Ok(())
 }
 
 /// Returns the number of a switch, given its indicator.
@@ -54,23 +50,25 @@ fn result_columns(card: &Card) -> &'static [usize] {
     }
 }
 
-fn reject_results(editor: &mut Editor, view: &View) {
+fn check_results(view: &View) -> Done {
     for seen in &view.cards {
         if !seen.card.is_comment() {
-            reject_result(editor, seen);
+            check_result(seen)?;
         }
     }
+    Ok(())
 }
 
 /// Rejects a card that turns a switch on or off.
-fn reject_result(editor: &mut Editor, seen: &Seen) {
+fn check_result(seen: &Seen) -> Done {
     for column in result_columns(&seen.card) {
         let indicator = seen.card.columns(*column, column.saturating_add(1));
         if switch_number(indicator).is_some() {
-            let sentence = Sentence::about("% is turned on or off here", Word::of(indicator));
-            editor.refuse(seen.number, sentence);
+            let why = "% is turned on or off here";
+            return Err(RuleStop::about(seen.number, why, Word::of(indicator)));
         }
     }
+    Ok(())
 }
 
 fn decide_conditions(editor: &mut Editor, view: &View, switches: &Switches) {
@@ -83,7 +81,8 @@ fn decide_conditions(editor: &mut Editor, view: &View, switches: &Switches) {
                     switches.word(),
                 );
                 let last = first.saturating_add(8);
-                Draft::of(seen).change(editor, first, last, conditions.text(), sentence);
+                let card = seen.card.with(first, last, conditions.text());
+                editor.rewrite(seen, card, sentence);
             }
         }
     }
@@ -133,21 +132,18 @@ fn switch_of(condition: &[u8]) -> Option<SwitchCondition> {
 }
 
 /// Evaluates the condition of a file.
-fn decide_file(editor: &mut Editor, outputs: &[OutputCard], file: &Seen, switches: &Switches) {
+fn decide_file(
+    editor: &mut Editor,
+    outputs: &[OutputCard],
+    file: &Seen,
+    switches: &Switches,
+) -> Done {
     let condition = file.card.value(71, 72);
     let Some(number) = switch_number(condition) else {
-        return;
+        return Ok(());
     };
     if !switches.is_on(number) {
-        let is_input = file.card.column(15) == b'I';
-        if is_input {
-            reject_input(editor, file.number, condition);
-        } else {
-            reject_lines(editor, outputs, file);
-        }
-        if !editor.continues() {
-            return;
-        }
+        check_off(outputs, file, condition)?;
         drop_lines(editor, outputs, file);
     }
     let sentence = Sentence::of_two(
@@ -155,15 +151,24 @@ fn decide_file(editor: &mut Editor, outputs: &[OutputCard], file: &Seen, switche
         Word::of(condition),
         switches.word(),
     );
-    Draft::of(file).change(editor, 71, 72, &[], sentence);
+    editor.rewrite(file, file.card.with(71, 72, &[]), sentence);
+    Ok(())
 }
 
-fn reject_input(editor: &mut Editor, number: usize, condition: &[u8]) {
-    let sentence = Sentence::about(
-        "% is off, so the file has no records: blank 71-72 and run it with an empty file",
-        Word::of(condition),
-    );
-    editor.refuse(number, sentence);
+/// Rejects a file that is off if it is read, or if its lines can't be dropped.
+fn check_off(outputs: &[OutputCard], file: &Seen, condition: &[u8]) -> Done {
+    if file.card.column(15) == b'I' {
+        let why = "% is off, so the file has no records: blank 71-72 and run it with an empty file";
+        return Err(RuleStop::about(file.number, why, Word::of(condition)));
+    }
+    let name = file.card.value(7, 14);
+    for output in outputs {
+        if output.file.text() == name && has_effect(output) {
+            let why = "a line of a file that isn't there has PAGE or blank after";
+            return Err(RuleStop::because(output.line, why));
+        }
+    }
+    Ok(())
 }
 
 /// Whether a card is a field that affects other lines.
@@ -173,26 +178,14 @@ fn has_effect(output: &OutputCard) -> bool {
     output.role == OutputRole::Field && (card.column(39) == b'B' || counts)
 }
 
-/// Rejects lines that can't be dropped.
-fn reject_lines(editor: &mut Editor, outputs: &[OutputCard], file: &Seen) {
-    let name = file.card.value(7, 14);
-    for output in outputs {
-        if output.file.text() == name && has_effect(output) {
-            let sentence = Sentence::of(
-                "a line of a file that isn't there has PAGE or blank after",
-            );
-            editor.refuse(output.line, sentence);
-        }
-    }
-}
-
 /// Gives the lines of a file a condition that never holds.
 fn drop_lines(editor: &mut Editor, outputs: &[OutputCard], file: &Seen) {
     let name = file.card.value(7, 14);
     for output in outputs {
         let is_alternative = matches!(output.role, OutputRole::Line | OutputRole::Or);
         if output.file.text() == name && is_alternative {
-            Draft::of(&output.seen).follow(editor, 23, 31, b"NL0", file.number);
+            let card = output.seen.card.with(23, 31, b"NL0");
+            editor.change(output.seen.at, card, file.number);
         }
     }
 }

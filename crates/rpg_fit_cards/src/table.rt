@@ -1,23 +1,17 @@
 //! Turns table files into data after `**` cards.
 
-use crate::draft::Draft;
 use crate::settings::Settings;
 use crate::table_data::{TableShape, entries_of, records_of};
 use rpg_fit_deck::{Address, Card, Editor, Seen, Sentence, View, Word};
-use rpg_fit_words::{List, RuleStop, is_card};
+use rpg_fit_words::{Done, List, RuleStop, is_card};
 use rpg_text::has_only_characters;
-use std::alloc::Global;
 
 /// Inserts the records of table files after `**` cards, in the order of the E cards, and removes the
 /// files.
-///
-/// # Errors
-///
-/// Memory runs out.
-pub fn tables(alloc: Global, editor: &mut Editor, settings: &Settings) -> Result<(), RuleStop> {
-    let view = editor.view(alloc)?;
+pub fn tables(editor: &mut Editor, settings: &Settings) -> Done {
+    let view = editor.view()?;
     if let Some(first) = first_with_file(&view) {
-        put_data(alloc, editor, settings, &view)?;
+        put_data(editor, settings, &view)?;
         drop_files(editor, &view, first);
     }
     Ok(())
@@ -43,126 +37,87 @@ fn begins_data(seen: &Seen) -> bool {
     matches!(seen.card.columns(1, 3), b"** ")
 }
 
-/// The first lines of a deck's data, and the address of the card after them.
-#[derive(Drop)]
-struct Parts {
-    starts: List<Address>,
-    end: Address,
-    /// How many of them belong to the E cards so far.
-    used: usize,
+/// Returns the addresses of the lines that begin data.
+fn starts_of(view: &View) -> List<Address> {
+    let mut starts = List::new(view.alloc);
+    for seen in &view.data {
+        if begins_data(seen) {
+            starts.push(seen.at);
+        }
+    }
+    starts
 }
 
-impl Parts {
-    fn of(alloc: Global, view: &View) -> Parts {
-        let mut starts = List::new(alloc);
-        for seen in &view.data {
-            if begins_data(seen) {
-                starts.push(seen.at);
+/// Inserts the records of all E cards' files, each before the data of the E cards after it.
+fn put_data(editor: &mut Editor, settings: &Settings, view: &View) -> Done {
+    let starts = starts_of(view);
+    let mut left = starts.checked()?;
+    for seen in &view.cards {
+        if is_card(seen, b'E') {
+            check_table(seen)?;
+            if has_file(&seen.card) {
+                let before = left.first().copied().unwrap_or(view.end);
+                put_records(editor, settings, before, seen)?;
+            } else if !seen.card.is_blank(33, 35) {
+                left = after_first(left, seen)?;
             }
         }
-        Parts {
-            starts,
-            end: view.end,
-            used: 0,
-        }
-    }
-
-    /// Returns where the data of the next E card begin, or would begin.
-    fn next(&self) -> Address {
-        match self.starts.as_slice().get(self.used) {
-            Some(at) => *at,
-            None => self.end,
-        }
-    }
-
-    /// Takes the data of the next E card, if there are any.
-    fn take(&mut self) -> bool {
-        let are_there = self.used < self.starts.as_slice().len();
-        self.used = self.used.saturating_add(1);
-        are_there
-    }
-}
-
-/// Inserts the records of all E cards' files, up to the first card that is rejected.
-fn put_data(
-    alloc: Global,
-    editor: &mut Editor,
-    settings: &Settings,
-    view: &View,
-) -> Result<(), RuleStop> {
-    let mut parts = Parts::of(alloc, view);
-    parts.starts.check()?;
-    for seen in &view.cards {
-        if is_card(seen, b'E') && editor.continues() {
-            put_table(alloc, editor, settings, &mut parts, seen)?;
-        }
     }
     Ok(())
 }
 
-/// Inserts the records of an E card's file.
-fn put_table(
-    alloc: Global,
-    editor: &mut Editor,
-    settings: &Settings,
-    parts: &mut Parts,
-    seen: &Seen,
-) -> Result<(), RuleStop> {
-    if !seen.card.is_blank(19, 26) {
-        let sentence = Sentence::of("a table that is written at the end (19 to 26)");
-        editor.refuse(seen.number, sentence);
-    } else if has_file(&seen.card) {
-        put_records(alloc, editor, settings, parts.next(), seen)?;
-    } else if !seen.card.is_blank(33, 35) && !parts.take() {
-        editor.refuse(seen.number, Sentence::of("its data are missing"));
+/// Rejects a table that is written at the end.
+fn check_table(seen: &Seen) -> Done {
+    if seen.card.is_blank(19, 26) {
+        return Ok(());
     }
-    Ok(())
+    let why = "a table that is written at the end (19 to 26)";
+    Err(RuleStop::because(seen.number, why))
+}
+
+/// Returns the starts of the data after those of an E card, which are the first.
+fn after_first<'a>(starts: &'a [Address], seen: &Seen) -> Result<&'a [Address], RuleStop> {
+    match starts {
+        [_, rest @ ..] => Ok(rest),
+        [] => Err(RuleStop::because(seen.number, "its data are missing")),
+    }
 }
 
 /// Inserts the records of an E card's file before the data of a later one.
-fn put_records(
-    alloc: Global,
-    editor: &mut Editor,
-    settings: &Settings,
-    before: Address,
-    seen: &Seen,
-) -> Result<(), RuleStop> {
+fn put_records(editor: &mut Editor, settings: &Settings, before: Address, seen: &Seen) -> Done {
     let name = seen.card.value(11, 18);
     let word = Word::of(name);
     let Some(text) = settings.records_of(name) else {
-        let sentence = "the records of % are needed: give --table %=FILE";
-        editor.refuse(seen.number, Sentence::of_two(sentence, word, word));
-        return Ok(());
+        let why = "the records of % are needed: give --table %=FILE";
+        let why = Sentence::of_two(why, word, word);
+        return Err(RuleStop::refused(seen.number, why));
     };
     let Some(shape) = TableShape::of(&seen.card) else {
         return Ok(());
     };
-    let records = records_of(alloc, text);
-    put_shaped(alloc, editor, &shape, before, records.checked()?, seen)
+    let records = records_of(editor.alloc(), text);
+    put_shaped(editor, &shape, before, records.checked()?, seen)
 }
 
 /// Inserts records as the data of a table, if possible.
 fn put_shaped(
-    alloc: Global,
     editor: &mut Editor,
     shape: &TableShape,
     before: Address,
     records: &[&[u8]],
     seen: &Seen,
-) -> Result<(), RuleStop> {
+) -> Done {
     let word = Word::of(seen.card.value(11, 18));
     if let Some(why) = shape.reason(word, records.len()) {
-        editor.refuse(seen.number, why);
-        return Ok(());
+        return Err(RuleStop::refused(seen.number, why));
     }
-    let entries = entries_of(alloc, shape, records)?;
-    if has_only_characters(entries.as_slice()) {
-        put_entries(editor, shape, before, entries.as_slice(), seen.number);
-        take_over(editor, shape, records.len(), seen);
-    } else {
-        let sentence = Sentence::about("% has a byte that is no character", word);
-        editor.refuse(seen.number, sentence);
+    let entries = entries_of(editor.alloc(), shape, records)?;
+    if !has_only_characters(entries.as_slice()) {
+        let why = "% has a byte that is no character";
+        return Err(RuleStop::about(seen.number, why, word));
     }
+    put_entries(editor, shape, before, entries.as_slice(), seen.number);
+    take_over(editor, shape, records.len(), seen);
     Ok(())
 }
 
@@ -174,7 +129,7 @@ fn put_entries(
     entries: &[u8],
     with: usize,
 ) {
-    let _ = editor.insert(before, Card::of(b"**"), with);
+    editor.insert(before, Card::of(b"**"), with);
     let width = shape.width.saturating_mul(shape.per_card()).max(1);
     let mut rest = entries;
     for _ in 0..shape.entries {
@@ -182,7 +137,7 @@ fn put_entries(
             break;
         }
         let (card, more) = rest.split_at(width.min(rest.len()));
-        let _ = editor.insert(before, Card::of(card), with);
+        editor.insert(before, Card::of(card), with);
         rest = more;
     }
 }
@@ -199,21 +154,18 @@ fn take_over(editor: &mut Editor, shape: &TableShape, records: usize, seen: &See
         Word::of_number(records),
         Word::of(seen.card.value(11, 18)),
     );
-    let mut draft = Draft::of(seen);
-    draft.change(editor, 11, 18, &[], sentence);
+    let mut card = seen.card.with(11, 18, &[]);
     let per_card = shape.per_card();
     if per_card != shape.per_record {
-        let card = draft
-            .card
-            .with_right(33, 35, Word::of_number(per_card).text());
-        draft.follow(editor, 33, 35, card.columns(33, 35), seen.number);
+        card = card.with_right(33, 35, Word::of_number(per_card).text());
     }
+    editor.rewrite(seen, card, sentence);
 }
 
-/// Removes table files, unless a card was rejected.
+/// Removes table files.
 fn drop_files(editor: &mut Editor, view: &View, with: usize) {
     for seen in &view.cards {
-        if is_card(seen, b'F') && editor.continues() {
+        if is_card(seen, b'F') {
             drop_file(editor, seen, with);
         }
     }
@@ -225,6 +177,6 @@ fn drop_file(editor: &mut Editor, file: &Seen, with: usize) {
         editor.report(file.number, Sentence::of("a table file, taken out"));
         editor.remove(file.at, file.number);
     } else if file.card.column(39) == b'E' {
-        Draft::of(file).follow(editor, 39, 39, &[], with);
+        editor.change(file.at, file.card.with(39, 39, &[]), with);
     }
 }

@@ -1,7 +1,7 @@
 //! The records of a table file as the data of a table.
 
 use rpg_fit_deck::{Card, Sentence, Word};
-use rpg_fit_words::{List, RuleStop};
+use rpg_fit_words::{Done, List, RuleStop};
 use rpg_text::first_line;
 use std::alloc::Global;
 
@@ -100,7 +100,7 @@ pub(crate) fn records_of(alloc: Global, text: &[u8]) -> List<&[u8]> {
 }
 
 /// Pads a text with blanks to a length.
-fn pad(text: &mut Vec<u8>, length: usize) -> Result<(), RuleStop> {
+fn pad(text: &mut Vec<u8>, length: usize) -> Done {
     for _ in text.len()..length {
         text.push(b' ')?;
     }

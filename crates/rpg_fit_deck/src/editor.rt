@@ -9,24 +9,28 @@ use crate::card::Card;
 use crate::fitted::Fitted;
 use crate::here::Here;
 use crate::marks::ends_source;
-use crate::render::{RenderError, lines_of, render, unreported_cards_are_kept};
+use crate::render::{MOST_CARDS, RenderError, lines_of, render, unreported_cards_are_kept};
 use crate::sentence::{Refusal, Remark, Rule, Sentence, What};
 use crate::slot::{Made, Slot, insert_made, set_made};
 use crate::stopped::Stopped;
-use crate::view::{Address, View};
+use crate::view::{Address, Seen, View};
 use std::alloc::{AllocError, Global};
 
-/// A deck that is being rewritten. If memory runs out or a rule rejects the deck, it stops, and there is no new deck.
+/// A deck that is being rewritten. If a rule rejects it, or memory runs out, it stops, and there is no new deck.
 #[derive(Drop)]
 pub struct Editor<'a> {
+    alloc: Global,
     lines: Vec<&'a [u8]>,
     slots: Vec<Slot>,
     /// Cards inserted after all others.
     end: Vec<Made>,
     /// How many cards were inserted.
     made: usize,
+    /// How many cards were removed.
+    gone: usize,
     rule: Rule,
     refusal: Option<Refusal>,
+    /// Memory ran out, or the cards that a deck may have.
     ran_out: bool,
 }
 
@@ -42,10 +46,12 @@ impl<'a> Editor<'a> {
         let lines = lines_of(alloc, source)?;
         let slots = slots_as_they_are(alloc, lines.len())?;
         Ok(Editor {
+            alloc,
             lines,
             slots,
             end: Vec::new(alloc),
             made: 0,
+            gone: 0,
             rule: Rule::Comments,
             refusal: None,
             ran_out: false,
@@ -66,9 +72,15 @@ impl<'a> Editor<'a> {
         self.refusal.is_none() && !self.ran_out
     }
 
-    /// Returns how many cards the source has.
-    pub fn len(&self) -> usize {
-        self.lines.len()
+    /// Returns the allocator of the deck.
+    pub fn alloc(&self) -> Global {
+        self.alloc
+    }
+
+    /// Returns how many cards the deck has now.
+    pub fn cards(&self) -> usize {
+        let all = self.lines.len().saturating_add(self.made);
+        all.saturating_sub(self.gone)
     }
 
     fn keep(&mut self, outcome: Result<(), AllocError>)
@@ -131,18 +143,27 @@ impl<'a> Editor<'a> {
     pub fn remove(&mut self, at: Address, with: usize)
         ensures { StaysStopped self.old self.new }
     {
+        self.gone = self.gone.saturating_add(1);
         self.put(at, Here::Gone, with);
     }
 
-    /// Inserts a card before another one, as part of the change of the card `with`, and returns its address.
-    pub fn insert(&mut self, before: Address, card: Card, with: usize) -> Address
+    /// Replaces a card, and reports that by a sentence.
+    pub fn rewrite(&mut self, seen: &Seen, card: Card, sentence: Sentence)
         ensures { StaysStopped self.old self.new }
     {
-        self.insert_copy(before, card, with, with)
+        self.report(seen.number, sentence);
+        self.change(seen.at, card, seen.number);
     }
 
-    /// Inserts a card derived from the card `from` before another one, and returns its address.
-    pub fn insert_copy(&mut self, before: Address, card: Card, from: usize, with: usize) -> Address
+    /// Inserts a card before another one, as part of the change of the card `with`.
+    pub fn insert(&mut self, before: Address, card: Card, with: usize)
+        ensures { StaysStopped self.old self.new }
+    {
+        self.insert_copy(before, card, with, with);
+    }
+
+    /// Inserts a card derived from the card `from` before another one.
+    pub fn insert_copy(&mut self, before: Address, card: Card, from: usize, with: usize)
         ensures { StaysStopped self.old self.new }
     {
         self.made = self.made.saturating_add(1);
@@ -157,10 +178,6 @@ impl<'a> Editor<'a> {
             None => insert_made(&mut self.end, before.made, made),
         };
         self.keep(outcome);
-        Address {
-            slot: before.slot,
-            made: made.id,
-        }
     }
 
     /// Returns the cards in their present form.
@@ -168,8 +185,8 @@ impl<'a> Editor<'a> {
     /// # Errors
     ///
     /// Memory runs out.
-    pub fn view(&self, alloc: Global) -> Result<View, AllocError> {
-        let mut view = View::new(alloc, self.lines.len());
+    pub fn view(&self) -> Result<View, AllocError> {
+        let mut view = View::new(self.alloc, self.lines.len());
         self.show(&mut view)?;
         Ok(view)
     }
@@ -195,7 +212,7 @@ impl<'a> Editor<'a> {
     /// # Errors
     ///
     /// A rule rejected the deck; or the source has more than 2,000 lines, or the new deck would have more cards; or memory ran out.
-    pub fn finish(self, alloc: Global, source: &[u8]) -> Result<Fitted, Stopped>
+    pub fn finish(self, source: &[u8]) -> Result<Fitted, Stopped>
         ensures laws { IfOk result (λ fitted. IsFitted source.now fitted) }
         ensures its_own { IfOk result (λ fitted. IsOf self.entry fitted) }
         ensures went_on { OnOk result (may_continue self.entry ≡ true) }
@@ -204,14 +221,19 @@ impl<'a> Editor<'a> {
         if let Some(refusal) = self.refusal {
             return Err(Stopped::Refused(refusal));
         }
+        if self.ran_out && self.cards() > MOST_CARDS {
+            return Err(Stopped::TooMany);
+        }
         if self.ran_out {
             return Err(Stopped::NoMemory);
         }
         let Editor {
+            alloc,
             lines: _,
             slots,
             end,
             made: _,
+            gone: _,
             rule: _,
             refusal: _,
             ran_out: _,
@@ -219,7 +241,7 @@ impl<'a> Editor<'a> {
         finished(alloc, source, slots, end)
     }
 
-    /// Stops because memory ran out in a rule.
+    /// Stops because memory ran out in a rule, or the deck has too many cards.
     pub fn run_out(&mut self)
         ensures stops { has_run_out self.new ≡ true }
         ensures refusal { refusal_of self.new ≡ refusal_of self.old }

@@ -59,6 +59,12 @@ impl Sentence {
         }
     }
 
+    /// Returns a sentence about a number: the one about a single thing, or the one about several.
+    pub fn counted(one: &'static str, several: &'static str, count: usize) -> Sentence {
+        let text = if count == 1 { one } else { several };
+        Sentence::about(text, Word::of_number(count))
+    }
+
     /// Returns a sentence with three words to fill in.
     pub fn of_three(text: &'static str, first: Word, second: Word, third: Word) -> Sentence {
         Sentence {

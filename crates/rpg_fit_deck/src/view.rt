@@ -27,6 +27,8 @@ pub struct Seen {
 /// The cards of a deck and the lines of its data, in order.
 #[derive(Drop)]
 pub struct View {
+    /// The allocator of the deck.
+    pub alloc: Global,
     /// The cards before the first `**` card.
     pub cards: Vec<Seen>,
     /// The data, including the `**` cards.
@@ -45,6 +47,7 @@ impl View {
             made: 0,
         };
         View {
+            alloc,
             cards: Vec::new(alloc),
             data: Vec::new(alloc),
             cards_end: end,

@@ -1,61 +1,110 @@
 //! Floating dollar signs in edit words: replaced by an edit code with the same effect.
 
-use crate::dollar_code::dollar_code;
-use crate::field::{constant_on, name_on};
-use crate::word_form::WordForm;
+use crate::field::worded;
 use rpg_fit_deck::{Editor, Seen, Sentence, View, Word};
-use rpg_fit_words::{DeckLines, Line, Operand, RuleStop, form_of};
-use std::alloc::Global;
+use rpg_fit_words::{Constant, DeckLines, Done, Form, RuleStop};
 
 /// Replaces each edit word with a floating dollar sign by an edit code.
-///
-/// # Errors
-///
-/// The deck is rejected, or memory runs out.
-pub fn dollars(alloc: Global, editor: &mut Editor) -> Result<(), RuleStop> {
-    let deck = DeckLines::of(alloc, editor)?;
+pub fn dollars(editor: &mut Editor) -> Done {
+    let deck = DeckLines::of(editor)?;
     for line in deck.lines.iter() {
-        code_fields(editor, &deck.view, line)?;
+        code_fields(editor, &deck.view, line.fields.as_slice())?;
     }
     Ok(())
 }
 
-fn code_fields(editor: &mut Editor, view: &View, line: &Line) -> Result<(), RuleStop> {
-    for field in line.fields.iter() {
-        if has_word(field) {
-            code_field(editor, view, field)?;
-        }
-    }
-    Ok(())
-}
-
-/// Whether a field is a name with an edit word.
-pub(crate) fn has_word(field: &Seen) -> bool {
-    !field.card.is_blank(32, 37) && field.card.is_blank(38, 38) && !field.card.is_blank(45, 70)
-}
-
-fn code_field(editor: &mut Editor, view: &View, field: &Seen) -> Result<(), RuleStop> {
-    let word = constant_on(&field.card);
-    let name = Operand::of(name_on(&field.card)).name;
-    let around = WordForm::of(word.text()).around_dollar();
-    match (around, form_of(view, name)) {
-        (Some(around), Some(form)) if form.is_number() => {
-            match dollar_code(around, form.length, form.places()) {
-                Ok(code) => put_code(editor, field, code),
-                Err(why) => return Err(RuleStop::because(field.number, why)),
+fn code_fields(editor: &mut Editor, view: &View, fields: &[Seen]) -> Done {
+    for field in fields {
+        match worded(view, &field.card) {
+            Some((form, word)) if has_floating_dollar(word.text()) => {
+                code_field(editor, field, form, word.text())?;
             }
+            _ => {}
         }
+    }
+    Ok(())
+}
+
+/// Edits a number by the code with the same effect as its word.
+fn code_field(editor: &mut Editor, field: &Seen, form: Form, word: &[u8]) -> Done {
+    let Some(code) = code_of(form, word) else {
+        return Err(RuleStop::because(field.number, why_none(form, word)));
+    };
+    let card = field.card.with(38, 38, &[code]).with(45, 70, b"'$'");
+    let remark = "the $ that floats is that of code %";
+    editor.rewrite(field, card, Sentence::about(remark, Word::of(&[code])));
+    Ok(())
+}
+
+/// Whether a dollar sign stands right before the first `0` or `*` of a word.
+fn has_floating_dollar(word: &[u8]) -> bool {
+    let mut last = b' ';
+    for character in word {
+        if matches!(*character, b'0' | b'*') {
+            return last == b'$';
+        }
+        last = *character;
+    }
+    false
+}
+
+/// Returns the code with the same effect as a word with a floating dollar sign.
+fn code_of(form: Form, word: &[u8]) -> Option<u8> {
+    for code in b"1JA3LC" {
+        if word_of(*code, form).text() == word {
+            return Some(*code);
+        }
+    }
+    None
+}
+
+/// Returns why a word with a floating dollar sign has the effect of no code.
+fn why_none(form: Form, word: &[u8]) -> &'static str {
+    match code_of(form, without_commas(word).text()) {
+        Some(_) => "a $ that floats in a word with other commas than an edit code's",
+        None => "a $ that floats in a word which no edit code has",
+    }
+}
+
+/// Returns the edit word with the same effect as a code and a dollar sign; empty if the number has no decimals, or no other digits.
+fn word_of(code: u8, form: Form) -> Constant {
+    let mut word = Constant::empty();
+    let decimals = form.places();
+    let whole = form.length.saturating_sub(decimals);
+    if decimals == 0 || whole == 0 {
+        return word;
+    }
+    for place in 1..whole {
+        word.push(b' ');
+        if matches!(code, b'1' | b'J' | b'A') && (whole - place) % 3 == 0 {
+            word.push(b',');
+        }
+    }
+    push_all(&mut word, b"$0.");
+    push_all(&mut word, b"         ".get(..decimals).unwrap_or(&[]));
+    match code {
+        b'J' | b'L' => push_all(&mut word, b"-"),
+        b'A' | b'C' => push_all(&mut word, b"CR"),
         _ => {}
     }
-    Ok(())
+    word
 }
 
-/// Edits a field by a code with a dollar sign as its fill.
-fn put_code(editor: &mut Editor, field: &Seen, code: u8) {
-    let card = field.card.with(38, 38, &[code]).with(45, 70, b"'$'");
-    editor.change(field.at, card, field.number);
-    editor.report(
-        field.number,
-        Sentence::about("the $ that floats is that of code %", Word::of(&[code])),
-    );
+fn push_all(word: &mut Constant, text: &[u8]) {
+    for character in text {
+        word.push(*character);
+    }
+}
+
+/// Returns a word without the commas before its dollar sign.
+fn without_commas(word: &[u8]) -> Constant {
+    let mut plain = Constant::empty();
+    let mut is_front = true;
+    for character in word {
+        is_front = is_front && *character != b'$';
+        if !is_front || *character != b',' {
+            plain.push(*character);
+        }
+    }
+    plain
 }

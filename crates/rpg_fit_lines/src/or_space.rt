@@ -2,42 +2,34 @@
 
 use rpg_fit_deck::{Editor, Seen, Sentence, Word};
 use rpg_fit_words::{
-    Alternative, Conjunction, DeckLines, Indicator, Line, List, NewCard, RuleStop, Term, Time,
-    name_files, printer_of, put_cards,
+    Alternative, Conjunction, DeckLines, Done, Indicator, Line, List, NewCard, RuleStop, Term,
+    Time, name_files, printer_of, put_cards,
 };
-use std::alloc::Global;
 
 /// The most alternatives of a line, since no deck has more cards.
 const MOST_ALTERNATIVES: usize = 2000;
 
 /// Replaces each line whose alternatives have different spaces or skips by several lines. No two of these are printed together.
-///
-/// # Errors
-///
-/// The deck is rejected, or memory runs out.
-pub fn or_spaces(alloc: Global, editor: &mut Editor) -> Result<(), RuleStop> {
-    let deck = DeckLines::of(alloc, editor)?;
+pub fn or_spaces(editor: &mut Editor) -> Done {
+    let deck = DeckLines::of(editor)?;
     let overflow = match printer_of(&deck.view) {
         Some(printer) => printer.overflow,
         None => Indicator::BLANK,
     };
-    split_lines(alloc, editor, deck.lines.as_slice(), overflow)
-}
-
-fn split_lines(
-    alloc: Global,
-    editor: &mut Editor,
-    lines: &[Line],
-    overflow: Indicator,
-) -> Result<(), RuleStop> {
-    for line in lines {
+    let mut are_named = false;
+    for line in deck.lines.iter() {
         if let Some(card) = own_spaces(line) {
-            let split = Split {
-                line,
-                overflow,
-                card,
-            };
-            split.rewrite(alloc, editor)?;
+            let split = Split::of(line, overflow, card);
+            if split.has_one_run() {
+                blank_spaces(editor, line.more.as_slice());
+                continue;
+            }
+            if !are_named {
+                // the line that has the file's name may go
+                name_files(editor, deck.lines.as_slice(), card);
+                are_named = true;
+            }
+            split.make_lines(editor)?;
         }
     }
     Ok(())
@@ -58,43 +50,23 @@ fn own_spaces(line: &Line) -> Option<usize> {
     None
 }
 
-/// Returns the spaces and skips of an alternative: those of its line if it has none of its own.
-fn spaces_of(line: &Line, alternative: &Alternative) -> Word {
-    if alternative.card.card.is_blank(17, 22) {
-        Word::of(line.head.card.columns(17, 22))
-    } else {
-        Word::of(alternative.card.card.columns(17, 22))
-    }
-}
-
-/// Returns the spaces and skips of the alternative at a place.
-fn spaces_at(line: &Line, place: usize) -> Word {
-    match line.alternatives.get(place) {
-        Some(alternative) => spaces_of(line, alternative),
-        None => Word::empty(),
-    }
-}
-
-/// Adjacent alternatives with the same spaces and skips, from one place up to another.
-#[derive(Clone, Copy)]
-struct Part {
-    first: usize,
-    end: usize,
-}
-
-/// Returns the parts of a line, in order.
-fn parts_of(alloc: Global, line: &Line) -> List<Part> {
-    let mut parts = List::new(alloc);
-    let mut first = 0;
-    for (place, alternative) in line.alternatives.iter().enumerate() {
-        if spaces_of(line, alternative).text() != spaces_at(line, first).text() {
-            parts.push(Part { first, end: place });
-            first = place;
+/// Blanks the spaces and skips of OR cards, which are the same as their line's.
+fn blank_spaces(editor: &mut Editor, cards: &[Seen]) {
+    for seen in cards {
+        if has_spaces(seen) {
+            let remark = Sentence::of("17 to 22 blanked: they are the line's");
+            editor.rewrite(seen, seen.card.with(17, 22, &[]), remark);
         }
     }
-    let end = line.alternatives.len();
-    parts.push(Part { first, end });
-    parts
+}
+
+/// Returns the sentence about `lines` lines that replace one.
+fn remark(lines: usize) -> Sentence {
+    let alone = "one line is left: its other alternatives never hold without an earlier one";
+    match lines {
+        1 => Sentence::of(alone),
+        _ => Sentence::about("% lines in place of one", Word::of_number(lines)),
+    }
 }
 
 /// A line whose alternatives have spaces or skips of their own.
@@ -107,106 +79,82 @@ struct Split<'a> {
     card: usize,
 }
 
-impl Split<'_> {
-    fn rewrite(&self, alloc: Global, editor: &mut Editor) -> Result<(), RuleStop> {
-        let parts = parts_of(alloc, self.line);
-        let parts = parts.checked()?;
-        if parts.len() == 1 {
-            blank_spaces(editor, self.line);
-            return Ok(());
+impl<'a> Split<'a> {
+    fn of(line: &'a Line, overflow: Indicator, card: usize) -> Split<'a> {
+        Split {
+            line,
+            overflow,
+            card,
         }
-        self.put_lines(alloc, editor, parts)
     }
 
-    /// Replaces the line by a line for each part.
-    fn put_lines(
-        &self,
-        alloc: Global,
-        editor: &mut Editor,
-        parts: &[Part],
-    ) -> Result<(), RuleStop> {
-        self.name_all(alloc, editor)?;
-        let mut cards = List::new(alloc);
-        let lines = self.push_lines(alloc, &mut cards, parts)?;
-        put_cards(editor, self.line.head.at, cards.checked()?, self.card);
+    /// Replaces the line by a line for each run of alternatives with the same spaces and skips.
+    fn make_lines(&self, editor: &mut Editor) -> Done {
+        let mut cards = List::new(editor.alloc());
+        let lines = self.push_lines(editor, &mut cards)?;
+        put_cards(editor, self.line.head.at, cards.checked()?, self.card)?;
         self.line.remove(editor, self.card);
         editor.report(self.card, remark(lines));
         Ok(())
     }
 
-    /// Puts the name of its file on each line, since the line that has it may go.
-    fn name_all(&self, alloc: Global, editor: &mut Editor) -> Result<(), RuleStop> {
-        let deck = DeckLines::of(alloc, editor)?;
-        name_files(editor, deck.lines.as_slice(), self.card);
-        Ok(())
+    /// Returns the spaces and skips of an alternative: those of its line if it has none of its own.
+    fn spaces_of(&self, alternative: &Alternative) -> Word {
+        let own = alternative.card.card.columns(17, 22);
+        let is_blank = alternative.card.card.is_blank(17, 22);
+        Word::of(if is_blank {
+            self.line.head.card.columns(17, 22)
+        } else {
+            own
+        })
     }
 
-    /// Appends the cards of the lines for the parts, and returns how many lines there are.
-    fn push_lines(
-        &self,
-        alloc: Global,
-        cards: &mut List<NewCard>,
-        parts: &[Part],
-    ) -> Result<usize, RuleStop> {
-        let mut lines: usize = 0;
-        for part in parts {
-            if self.push_line(alloc, cards, part)? {
-                lines = lines.saturating_add(1);
+    fn are_alike(&self, one: &Alternative, next: &Alternative) -> bool {
+        self.spaces_of(one).text() == self.spaces_of(next).text()
+    }
+
+    /// Whether all alternatives have the same spaces and skips.
+    fn has_one_run(&self) -> bool {
+        let spaces = self.line.head.card.columns(17, 22);
+        for alternative in self.line.alternatives.iter() {
+            if self.spaces_of(alternative).text() != spaces {
+                return false;
             }
+        }
+        true
+    }
+
+    /// Appends a line for each run, unless it is never printed, and returns how many lines there are.
+    fn push_lines(&self, editor: &Editor, cards: &mut List<NewCard>) -> Result<usize, RuleStop> {
+        let all = self.line.alternatives.as_slice();
+        let mut lines: usize = 0;
+        let mut first: usize = 0;
+        for run in all.chunk_by(|one, next| self.are_alike(one, next)) {
+            let mut apart = List::new(editor.alloc());
+            let earlier = all.get(..first).unwrap_or(&[]);
+            self.push_all_apart(editor, &mut apart, run, earlier)?;
+            lines = lines.saturating_add(self.push_line(cards, run, apart.checked()?)?);
+            first = first.saturating_add(run.len());
         }
         Ok(lines)
     }
 
-    /// Appends the cards of a part's line and returns true, unless it is never printed.
+    /// Appends the line of a run under conditions, and returns 1; or 0 if it is never printed.
     fn push_line(
         &self,
-        alloc: Global,
         cards: &mut List<NewCard>,
-        part: &Part,
-    ) -> Result<bool, RuleStop> {
-        let mut alternatives = List::new(alloc);
-        self.push_alternatives(alloc, &mut alternatives, part)?;
-        let alternatives = alternatives.checked()?;
-        if alternatives.is_empty() {
-            return Ok(false);
-        }
-        let spaces = spaces_at(self.line, part.first);
-        let head = self.line.new_head().with(17, 22, spaces.text());
-        self.line.push_copy(cards, head, alternatives)?;
-        Ok(true)
-    }
-
-    /// Appends the alternatives of a part, so that they hold only if none of an earlier part does.
-    fn push_alternatives(
-        &self,
-        alloc: Global,
-        apart: &mut List<Conjunction>,
-        part: &Part,
-    ) -> Result<(), RuleStop> {
-        let all = self.line.alternatives.as_slice();
-        let earlier = all.get(..part.first).unwrap_or(&[]);
-        for alternative in all.get(part.first..part.end).unwrap_or(&[]) {
-            self.push_alternative(alloc, apart, &alternative.condition, earlier)?;
-        }
-        Ok(())
-    }
-
-    fn push_alternative(
-        &self,
-        alloc: Global,
-        apart: &mut List<Conjunction>,
-        condition: &Conjunction,
-        earlier: &[Alternative],
-    ) -> Result<(), RuleStop> {
-        let mut left = List::new(alloc);
-        left.push(*condition);
-        for other in earlier {
-            if self.is_overflow(&other.condition) == self.is_overflow(condition) {
-                left = self.without(alloc, &left, &other.condition)?;
+        run: &[Alternative],
+        conditions: &[Conjunction],
+    ) -> Result<usize, RuleStop> {
+        match run {
+            [first, ..] if !conditions.is_empty() => {
+                let spaces = self.spaces_of(first);
+                let head = self.line.new_head().with(17, 22, spaces.text());
+                self.line.push_copy(cards, head, conditions)?;
+                Ok(1)
             }
+            _ => Ok(0),
         }
-        apart.append(&left);
-        Ok(())
     }
 
     /// Whether a condition is for overflow output.
@@ -216,33 +164,65 @@ impl Split<'_> {
             && condition.has(Term::on(self.overflow))
     }
 
-    /// Returns conditions that hold if one of some does and another one doesn't.
-    fn without(
+    /// Appends conditions that hold if an alternative of a run does and no earlier one for the same output.
+    fn push_all_apart(
         &self,
-        alloc: Global,
-        conditions: &List<Conjunction>,
+        editor: &Editor,
+        apart: &mut List<Conjunction>,
+        run: &[Alternative],
+        earlier: &[Alternative],
+    ) -> Done {
+        for alternative in run {
+            self.push_apart(editor, apart, alternative.condition, earlier)?;
+        }
+        Ok(())
+    }
+
+    /// Appends conditions that hold if a condition does and no earlier alternative for the same output.
+    fn push_apart(
+        &self,
+        editor: &Editor,
+        apart: &mut List<Conjunction>,
+        condition: Conjunction,
+        earlier: &[Alternative],
+    ) -> Done {
+        let mut left = List::new(editor.alloc());
+        left.push(condition);
+        for other in earlier {
+            if self.is_overflow(&other.condition) == self.is_overflow(&condition) {
+                let mut still = List::new(editor.alloc());
+                self.push_without(&mut still, left.checked()?, &other.condition)?;
+                left = still;
+            }
+        }
+        apart.append(&left);
+        Ok(())
+    }
+
+    /// Appends conditions that hold if one of some does and another one doesn't.
+    fn push_without(
+        &self,
+        left: &mut List<Conjunction>,
+        conditions: &[Conjunction],
         other: &Conjunction,
-    ) -> Result<List<Conjunction>, RuleStop> {
-        let conditions = conditions.checked()?;
-        let mut left = List::new(alloc);
+    ) -> Done {
         for condition in conditions {
             if condition.clashes_with(other) {
                 left.push(*condition);
             } else {
-                self.push_without(&mut left, condition, other)?;
+                self.push_opposites(left, condition, other)?;
             }
         }
-        Ok(left)
+        Ok(())
     }
 
-    /// Appends conditions that hold if a condition does and another one doesn't: for each term of that one, the terms before it and its
-    /// opposite.
-    fn push_without(
+    /// Appends conditions that hold if one does and another one doesn't: for each term of that one, the terms before it and its opposite.
+    fn push_opposites(
         &self,
         left: &mut List<Conjunction>,
         condition: &Conjunction,
         other: &Conjunction,
-    ) -> Result<(), RuleStop> {
+    ) -> Done {
         let mut met = *condition;
         for term in other.terms() {
             if !condition.has(*term) {
@@ -255,34 +235,13 @@ impl Split<'_> {
     }
 
     /// Rejects an alternative that would test overflow, or is one too many: an earlier line may turn overflow on.
-    fn check(&self, tested: Indicator, alternatives: usize) -> Result<(), RuleStop> {
+    fn check(&self, tested: Indicator, alternatives: usize) -> Done {
         if !self.overflow.is_blank() && tested == self.overflow {
-            let why = "an earlier alternative tests overflow";
-            return Err(RuleStop::because(self.card, why));
+            return Err(RuleStop::because(self.card, "an earlier alternative tests overflow"));
         }
         if alternatives >= MOST_ALTERNATIVES {
             return Err(RuleStop::because(self.card, "more than 2000 alternatives"));
         }
         Ok(())
-    }
-}
-
-/// Returns the sentence about `lines` lines that replace one.
-fn remark(lines: usize) -> Sentence {
-    if lines == 1 {
-        Sentence::of("one line is left: its other alternatives never hold without an earlier one")
-    } else {
-        Sentence::about("% lines in place of one", Word::of_number(lines))
-    }
-}
-
-/// Blanks the spaces and skips of a line's OR cards, which are the same as the line's.
-fn blank_spaces(editor: &mut Editor, line: &Line) {
-    for seen in line.more.iter() {
-        if has_spaces(seen) {
-            editor.change(seen.at, seen.card.with(17, 22, &[]), seen.number);
-            let remark = Sentence::of("17 to 22 blanked: they are the line's");
-            editor.report(seen.number, remark);
-        }
     }
 }

@@ -3,10 +3,9 @@
 use crate::overflow::{Overflow, Part, fetches};
 use rpg_fit_deck::{Address, Editor, Sentence, View, Word};
 use rpg_fit_words::{
-    Calculation, Conjunction, FreeIndicators, Indicator, Line, List, NewCard, RuleStop, Term,
+    Conjunction, Done, FreeIndicators, Indicator, Line, List, NewCard, RuleStop, Term, calculation,
     insert_at, is_card, name_files, push_conditioned, put_cards,
 };
-use std::alloc::Global;
 
 /// Lines that EXCPT is to print.
 #[derive(Clone, Copy)]
@@ -30,6 +29,8 @@ struct Made {
     tail: List<NewCard>,
     /// How many of them aren't overflow lines.
     moved: usize,
+    /// How many of them are copies of overflow lines.
+    copied: usize,
 }
 
 /// The calculations for the lines of a time.
@@ -37,64 +38,52 @@ struct Made {
 struct Steps {
     part: Part,
     cards: List<NewCard>,
+    /// The card that they are derived from.
+    card: usize,
     /// The indicator under which the lines since the last fetch are printed.
     flag: Option<Indicator>,
 }
 
 impl Moves<'_> {
     /// Creates the lines and the calculations.
-    pub fn make(&self, alloc: Global, editor: &mut Editor) -> Result<(), RuleStop> {
+    pub fn make(&self, editor: &mut Editor) -> Done {
         name_files(editor, self.lines, self.card);
-        let mut made = self.begin(alloc)?;
-        let copied = self.make_all(alloc, editor, &mut made)?;
-        self.put_tail(alloc, editor, &made)?;
-        editor.report(self.card, remark(made.moved, copied));
-        Ok(())
+        let mut made = self.begin()?;
+        self.copy_overflow(&mut made, Part::Total)?;
+        self.copy_overflow(&mut made, Part::Detail)?;
+        self.move_part(editor, &mut made, Part::Total)?;
+        self.move_part(editor, &mut made, Part::Detail)?;
+        self.put_tail(editor, &made)
     }
 
-    fn begin(&self, alloc: Global) -> Result<Made, RuleStop> {
+    fn begin(&self) -> Result<Made, RuleStop> {
         let mut free = FreeIndicators::new();
         let at_overflow = free.take(self.view, self.card)?;
         Ok(Made {
             free,
             at_overflow,
-            tail: List::new(alloc),
+            tail: List::new(self.view.alloc),
             moved: 0,
+            copied: 0,
         })
     }
 
-    /// Creates the lines of both times. Returns how many of them are copies of overflow lines.
-    fn make_all(
-        &self,
-        alloc: Global,
-        editor: &mut Editor,
-        made: &mut Made,
-    ) -> Result<usize, RuleStop> {
-        let totals = self.copy_overflow(alloc, made, Part::Total)?;
-        let details = self.copy_overflow(alloc, made, Part::Detail)?;
-        self.move_part(alloc, editor, made, Part::Total)?;
-        self.move_part(alloc, editor, made, Part::Detail)?;
-        Ok(totals.saturating_add(details))
-    }
-
-    /// Appends copies of the overflow lines of a time. Returns how many there are.
-    fn copy_overflow(&self, alloc: Global, made: &mut Made, part: Part) -> Result<usize, RuleStop> {
-        let mut lines: usize = 0;
+    /// Appends copies of the overflow lines of a time.
+    fn copy_overflow(&self, made: &mut Made, part: Part) -> Done {
         for line in self.lines {
             if part.has(line.time) && self.overflow.has(line) {
-                self.copy_line(alloc, made, line)?;
-                lines = lines.saturating_add(1);
+                self.copy_line(made, line)?;
             }
         }
-        Ok(lines)
+        Ok(())
     }
 
     /// Appends a copy of an overflow line.
-    fn copy_line(&self, alloc: Global, made: &mut Made, line: &Line) -> Result<(), RuleStop> {
-        let mut conditions = List::new(alloc);
+    fn copy_line(&self, made: &mut Made, line: &Line) -> Done {
+        let mut conditions = List::new(self.view.alloc);
         self.overflow.push_conditions(&mut conditions, line);
-        let flag = made.at_overflow;
-        push_exception(alloc, &mut made.tail, line, flag, conditions.checked()?)
+        made.copied = made.copied.saturating_add(1);
+        self.push_exception(made, made.at_overflow, line, conditions.checked()?)
     }
 
     /// Whether a line of a time fetches overflow output.
@@ -108,66 +97,45 @@ impl Moves<'_> {
     }
 
     /// Moves the lines of a time, if some of them fetch overflow output.
-    fn move_part(
-        &self,
-        alloc: Global,
-        editor: &mut Editor,
-        made: &mut Made,
-        part: Part,
-    ) -> Result<(), RuleStop> {
+    fn move_part(&self, editor: &mut Editor, made: &mut Made, part: Part) -> Done {
         if !self.fetches_at(part) {
             return Ok(());
         }
         let mut steps = Steps {
             part,
-            cards: List::new(alloc),
+            cards: List::new(self.view.alloc),
+            card: self.card,
             flag: None,
         };
         if matches!(part, Part::Detail) {
-            self.push_done(&mut steps);
+            // at the end of detail it is on only if overflow output was done
+            steps.push(b"||SETOF||||%", &[self.indicator.word()]);
         }
-        self.move_lines(alloc, editor, made, &mut steps)?;
-        steps.print_lines(self.card);
-        insert_at(alloc, editor, part.end(), steps.cards.checked()?, self.card)
+        self.move_lines(editor, made, &mut steps)?;
+        steps.print_lines();
+        insert_at(editor, part.end(), steps.cards.checked()?, self.card)
     }
 
-    /// Turns the overflow indicator off: at the end of detail it is on only if overflow output was done.
-    fn push_done(&self, steps: &mut Steps) {
-        steps.push(Calculation::of(b"SETOF").high(self.indicator), self.card);
-    }
-
-    fn move_lines(
-        &self,
-        alloc: Global,
-        editor: &mut Editor,
-        made: &mut Made,
-        steps: &mut Steps,
-    ) -> Result<(), RuleStop> {
+    fn move_lines(&self, editor: &mut Editor, made: &mut Made, steps: &mut Steps) -> Done {
         for line in self.lines {
             if steps.part.has(line.time) {
-                self.move_line(alloc, made, steps, line)?;
-                self.keep(alloc, editor, line, steps.part)?;
+                self.move_line(made, steps, line)?;
+                self.keep(editor, line, steps.part)?;
             }
         }
         Ok(())
     }
 
     /// Moves a line, except at the first output and at overflow.
-    fn move_line(
-        &self,
-        alloc: Global,
-        made: &mut Made,
-        steps: &mut Steps,
-        line: &Line,
-    ) -> Result<(), RuleStop> {
-        let later = self.later(alloc, line);
-        self.move_later(alloc, made, steps, line, later.checked()?)
+    fn move_line(&self, made: &mut Made, steps: &mut Steps, line: &Line) -> Done {
+        let later = self.later(line);
+        self.move_later(made, steps, line, later.checked()?)
     }
 
     /// Returns the conditions under which a line may be printed after the first output, at which alone 1P is on, and not at
     /// overflow.
-    fn later(&self, alloc: Global, line: &Line) -> List<Conjunction> {
-        let mut found = List::new(alloc);
+    fn later(&self, line: &Line) -> List<Conjunction> {
+        let mut found = List::new(self.view.alloc);
         for alternative in line.alternatives.iter() {
             let condition = &alternative.condition;
             let is_first = condition.has(Term::on(Indicator::FIRST_PAGE));
@@ -181,23 +149,21 @@ impl Moves<'_> {
     /// Moves a line that may be printed under these conditions.
     fn move_later(
         &self,
-        alloc: Global,
         made: &mut Made,
         steps: &mut Steps,
         line: &Line,
         later: &[Conjunction],
-    ) -> Result<(), RuleStop> {
+    ) -> Done {
         if later.is_empty() {
             return Ok(());
         }
         if fetches(line) {
-            steps.print_lines(self.card);
-            self.push_fetch(alloc, steps, made.at_overflow, later)?;
+            steps.print_lines();
+            self.push_fetch(steps, made.at_overflow, later)?;
         }
         let flag = self.flag(made, steps, line)?;
-        push_exception(alloc, &mut made.tail, line, flag, later)?;
         made.moved = made.moved.saturating_add(1);
-        Ok(())
+        self.push_exception(made, flag, line, later)
     }
 
     /// Returns the indicator under which a line is printed.
@@ -213,32 +179,29 @@ impl Moves<'_> {
     }
 
     /// Before a line that fetches, if it is printed and overflow is on: prints the overflow lines, and turns overflow off.
-    fn push_fetch(
-        &self,
-        alloc: Global,
-        steps: &mut Steps,
-        flag: Indicator,
-        conditions: &[Conjunction],
-    ) -> Result<(), RuleStop> {
-        let level = steps.part.level();
-        let on = Calculation::of(b"SETON").high(flag).made_of(self.card);
-        let tested = with_term(alloc, conditions, Term::on(self.indicator));
-        steps.push(Calculation::of(b"SETOF").high(flag), self.card);
-        push_conditioned(&mut steps.cards, level, tested.checked()?, on)?;
-        steps.push(Calculation::of(b"EXCPT").when(flag), self.card);
-        steps.push(
-            Calculation::of(b"SETOF")
-                .when(flag)
-                .high(self.indicator)
-                .low(flag),
-            self.card,
-        );
+    fn push_fetch(&self, steps: &mut Steps, flag: Indicator, conditions: &[Conjunction]) -> Done {
+        let flag = flag.word();
+        let on = calculation(b"||SETON||||%", &[flag], self.card);
+        let tested = self.with_overflow(conditions);
+        steps.push(b"||SETOF||||%", &[flag]);
+        push_conditioned(&mut steps.cards, steps.part.level(), tested.checked()?, on)?;
+        steps.push(b" %||EXCPT", &[flag]);
+        steps.push(b" %||SETOF||||%|%", &[flag, self.indicator.word(), flag]);
         Ok(())
     }
 
+    /// Returns conditions that also test overflow.
+    fn with_overflow(&self, conditions: &[Conjunction]) -> List<Conjunction> {
+        let mut found = List::new(self.view.alloc);
+        for condition in conditions {
+            found.push(condition.and(Term::on(self.indicator)));
+        }
+        found
+    }
+
     /// Returns the alternatives that a line keeps: those that hold at the first output, limited to it, and those for overflow.
-    fn kept(&self, alloc: Global, line: &Line, part: Part) -> List<Conjunction> {
-        let mut kept = List::new(alloc);
+    fn kept(&self, line: &Line, part: Part) -> List<Conjunction> {
+        let mut kept = List::new(self.view.alloc);
         if matches!(part, Part::Detail) {
             self.push_first(&mut kept, line);
         }
@@ -257,53 +220,50 @@ impl Moves<'_> {
         }
     }
 
-    /// Keeps these alternatives of a line; without any the line goes.
-    fn keep(
-        &self,
-        alloc: Global,
-        editor: &mut Editor,
-        line: &Line,
-        part: Part,
-    ) -> Result<(), RuleStop> {
-        let kept = self.kept(alloc, line, part);
-        let kept = kept.checked()?;
-        if !kept.is_empty() {
-            self.put_copy(alloc, editor, line, kept)?;
-        }
+    /// Keeps some alternatives of a line; without any the line goes.
+    fn keep(&self, editor: &mut Editor, line: &Line, part: Part) -> Done {
+        let kept = self.kept(line, part);
+        self.put_copy(editor, line, kept.checked()?)?;
         line.remove(editor, self.card);
         Ok(())
     }
 
-    /// Replaces a line by a copy with some alternatives, which fetches nothing.
-    fn put_copy(
-        &self,
-        alloc: Global,
-        editor: &mut Editor,
-        line: &Line,
-        alternatives: &[Conjunction],
-    ) -> Result<(), RuleStop> {
-        let mut cards = List::new(alloc);
+    /// Inserts a copy of a line with some alternatives, which fetches nothing; none without any.
+    fn put_copy(&self, editor: &mut Editor, line: &Line, alternatives: &[Conjunction]) -> Done {
+        if alternatives.is_empty() {
+            return Ok(());
+        }
+        let mut cards = List::new(self.view.alloc);
         line.push_copy(&mut cards, line.new_head().with(16, 16, &[]), alternatives)?;
-        put_cards(editor, line.head.at, cards.checked()?, self.card);
-        Ok(())
+        put_cards(editor, line.head.at, cards.checked()?, self.card)
+    }
+
+    /// Appends a copy of a line that EXCPT prints if a flag is on and one of the conditions holds.
+    fn push_exception(
+        &self,
+        made: &mut Made,
+        flag: Indicator,
+        line: &Line,
+        conditions: &[Conjunction],
+    ) -> Done {
+        let mut flagged = List::new(self.view.alloc);
+        for condition in conditions {
+            flagged.push(Conjunction::on(flag).and_all(condition));
+        }
+        let head = line.new_head().with(15, 16, b"E");
+        line.push_copy(&mut made.tail, head, flagged.checked()?)
     }
 
     /// Inserts the lines that EXCPT prints after all others.
-    fn put_tail(&self, alloc: Global, editor: &mut Editor, made: &Made) -> Result<(), RuleStop> {
-        let tail = made.tail.checked()?;
-        let following = following_output(&editor.view(alloc)?);
-        put_cards(editor, following, tail, self.card);
+    fn put_tail(&self, editor: &mut Editor, made: &Made) -> Done {
+        let following = following_output(&editor.view()?);
+        put_cards(editor, following, made.tail.checked()?, self.card)?;
+        let remark =
+            "fetch: lines printed by EXCPT: %; lines of overflow before those that fetch: %";
+        let (moved, copied) = (Word::of_number(made.moved), Word::of_number(made.copied));
+        editor.report(self.card, Sentence::of_two(remark, moved, copied));
         Ok(())
     }
-}
-
-/// Returns the sentence about lines that were moved and copied.
-fn remark(moved: usize, copied: usize) -> Sentence {
-    Sentence::of_two(
-        "fetch: lines printed by EXCPT: %; lines of overflow before those that fetch: %",
-        Word::of_number(moved),
-        Word::of_number(copied),
-    )
 }
 
 /// Returns the address after the last output card, or the end of the cards if there is none.
@@ -321,46 +281,19 @@ fn following_output(view: &View) -> Address {
 
 impl Steps {
     /// Appends a calculation, done at the lines' time.
-    fn push(&mut self, calculation: Calculation, card: usize) {
-        let at = calculation.at(self.part.level());
-        self.cards.push(at.made_of(card));
+    fn push(&mut self, template: &[u8], words: &[Word]) {
+        let card = calculation(template, words, self.card);
+        let level = self.part.level().word();
+        self.cards.push(card.with(7, 8, level.text()));
     }
 
     /// Prints the lines since the last fetch.
-    fn print_lines(&mut self, card: usize) {
+    fn print_lines(&mut self) {
         if let Some(flag) = self.flag {
-            self.push(Calculation::of(b"SETON").high(flag), card);
-            self.push(Calculation::of(b"EXCPT"), card);
-            self.push(Calculation::of(b"SETOF").high(flag), card);
+            self.push(b"||SETON||||%", &[flag.word()]);
+            self.push(b"||EXCPT", &[]);
+            self.push(b"||SETOF||||%", &[flag.word()]);
         }
         self.flag = None;
     }
-}
-
-/// Appends a copy of a line that EXCPT prints if a flag is on and one of the conditions holds.
-fn push_exception(
-    alloc: Global,
-    cards: &mut List<NewCard>,
-    line: &Line,
-    flag: Indicator,
-    conditions: &[Conjunction],
-) -> Result<(), RuleStop> {
-    let mut flagged = List::new(alloc);
-    for condition in conditions {
-        flagged.push(Conjunction::on(flag).and_all(condition));
-    }
-    line.push_copy(
-        cards,
-        line.new_head().with(15, 16, b"E"),
-        flagged.checked()?,
-    )
-}
-
-/// Returns conditions with one more term.
-fn with_term(alloc: Global, conditions: &[Conjunction], term: Term) -> List<Conjunction> {
-    let mut found = List::new(alloc);
-    for condition in conditions {
-        found.push(condition.and(term));
-    }
-    found
 }

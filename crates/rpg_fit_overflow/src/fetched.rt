@@ -4,33 +4,22 @@ use crate::fetch_moves::Moves;
 use crate::overflow::{Overflow, fetches, first_fetching};
 use rpg_fit_deck::{Address, Editor, Seen, View};
 use rpg_fit_words::{
-    Conjunction, DeckLines, IndicatorUse, Line, RuleStop, Term, Time, indicator_uses,
+    Conjunction, DeckLines, Done, IndicatorUse, Line, RuleStop, Term, Time, indicator_uses,
     reaches_overflow,
 };
-use std::alloc::Global;
 
 /// Lets EXCPT print the lines of a time, if some of them fetch overflow output.
-///
-/// # Errors
-///
-/// The deck is rejected, or memory runs out.
-pub fn fetch(alloc: Global, editor: &mut Editor) -> Result<(), RuleStop> {
-    let deck = DeckLines::of(alloc, editor)?;
+pub fn fetch(editor: &mut Editor) -> Done {
+    let deck = DeckLines::of(editor)?;
     let lines = deck.lines.as_slice();
     match first_fetching(lines) {
-        Some(card) => rewrite(alloc, editor, &deck.view, lines, card),
+        Some(card) => rewrite(editor, &deck.view, lines, card),
         None => Ok(()),
     }
 }
 
 /// Lets EXCPT print lines. `card`: the first that fetches, for which the change is reported.
-fn rewrite(
-    alloc: Global,
-    editor: &mut Editor,
-    view: &View,
-    lines: &[Line],
-    card: usize,
-) -> Result<(), RuleStop> {
+fn rewrite(editor: &mut Editor, view: &View, lines: &[Line], card: usize) -> Done {
     let overflow = Overflow::of(view);
     let Some(indicator) = overflow.indicator() else {
         return Err(RuleStop::because(card, "fetch without an overflow indicator"));
@@ -42,19 +31,19 @@ fn rewrite(
         indicator,
         card,
     };
-    check(alloc, &moves)?;
-    moves.make(alloc, editor)
+    check(&moves)?;
+    moves.make(editor)
 }
 
 /// Rejects a deck whose lines EXCPT can't print.
-fn check(alloc: Global, moves: &Moves) -> Result<(), RuleStop> {
+fn check(moves: &Moves) -> Done {
     check_times(moves.lines)?;
     check_first(moves)?;
-    check_uses(alloc, moves)
+    check_uses(moves)
 }
 
 /// Rejects lines that EXCPT already prints.
-fn check_times(lines: &[Line]) -> Result<(), RuleStop> {
+fn check_times(lines: &[Line]) -> Done {
     for line in lines {
         if line.time == Time::Exception {
             let why = "fetch in a deck that has lines of time E";
@@ -65,7 +54,7 @@ fn check_times(lines: &[Line]) -> Result<(), RuleStop> {
 }
 
 /// Rejects heading and detail lines that fetch overflow if the first output may reach it.
-fn check_first(moves: &Moves) -> Result<(), RuleStop> {
+fn check_first(moves: &Moves) -> Done {
     if fetches_detail(moves.lines) && reaches_overflow(moves.overflow.printer, moves.lines) {
         let why = "fetch on a detail line, and the first output may reach overflow";
         return Err(RuleStop::because(moves.card, why));
@@ -74,8 +63,8 @@ fn check_first(moves: &Moves) -> Result<(), RuleStop> {
 }
 
 /// Rejects a deck that tests the overflow indicator, or turns it on or off, anywhere but in alternatives of lines.
-fn check_uses(alloc: Global, moves: &Moves) -> Result<(), RuleStop> {
-    let uses = indicator_uses(alloc, moves.view);
+fn check_uses(moves: &Moves) -> Done {
+    let uses = indicator_uses(moves.view);
     for one in uses.checked()? {
         let is_overflow = one.indicator == moves.indicator && one.form != b'F';
         if is_overflow && !is_alternative(moves.lines, *one) {

@@ -1,6 +1,7 @@
 //! Cards of a deck, and cards that rules create.
 
-use rpg_fit_deck::{Address, Card, Editor, Seen, View, Word};
+use crate::stop::{Done, RuleStop};
+use rpg_fit_deck::{Address, Card, Editor, MOST_CARDS, Seen, View, Word};
 
 /// A card that a rule creates, and the number of the card that it is derived from.
 #[derive(Clone, Copy)]
@@ -47,10 +48,22 @@ pub fn is_card(seen: &Seen, form: u8) -> bool {
 }
 
 /// Inserts cards before another one, as part of the change of the card `with`.
-pub fn put_cards(editor: &mut Editor, before: Address, cards: &[NewCard], with: usize) {
+///
+/// # Errors
+///
+/// The deck already has more cards than a deck may have; or it gets more than twice as many, so that it keeps too many even if all others
+/// are removed.
+pub fn put_cards(editor: &mut Editor, before: Address, cards: &[NewCard], with: usize) -> Done {
+    if editor.cards() > MOST_CARDS {
+        return Err(RuleStop::TooMany);
+    }
     for new in cards {
+        if editor.cards() > 2 * MOST_CARDS {
+            return Err(RuleStop::TooMany);
+        }
         editor.insert_copy(before, new.card, new.number, with);
     }
+    Ok(())
 }
 
 /// Returns the address after a card, or the end of the cards.

@@ -1,7 +1,7 @@
 //! Conditions: indicators that must be on or off together.
 
 use crate::indicator::Indicator;
-use crate::stop::RuleStop;
+use crate::stop::{Done, RuleStop};
 use rpg_fit_deck::{Card, Sentence, Word};
 
 /// The most conditions of an alternative.
@@ -108,7 +108,7 @@ impl Conjunction {
     /// # Errors
     ///
     /// There were more.
-    pub fn check(&self, card: usize) -> Result<(), RuleStop> {
+    pub fn check(&self, card: usize) -> Done {
         if self.is_too_long {
             return Err(RuleStop::refused(card, Sentence::of("more than 60 conditions together")));
         }

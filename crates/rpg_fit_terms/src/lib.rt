@@ -22,4 +22,4 @@ pub use indicator::Indicator;
 pub use name::{is_date_part, is_name_used};
 pub use operand::{Operand, entry};
 pub use renaming::{rename, with_room};
-pub use stop::{Reason, RuleStop, settle};
+pub use stop::{Done, Reason, RuleStop, settle};

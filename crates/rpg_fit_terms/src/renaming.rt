@@ -6,7 +6,6 @@ use crate::name::{Columns, name_columns};
 use crate::operand::Operand;
 use crate::stop::RuleStop;
 use rpg_fit_deck::{Card, Editor, Sentence, View, Word};
-use std::alloc::Global;
 
 /// The most characters of a result.
 const RESULT: usize = 6;
@@ -88,18 +87,13 @@ fn shorter_name(view: &View, name: &[u8], room: usize, card: usize) -> Result<Wo
 /// # Errors
 ///
 /// No name is free, or memory runs out.
-pub fn with_room(
-    alloc: Global,
-    editor: &mut Editor,
-    name: &[u8],
-    index: Word,
-) -> Result<Word, RuleStop> {
+pub fn with_room(editor: &mut Editor, name: &[u8], index: Word) -> Result<Word, RuleStop> {
     let old = Word::of(name);
     let room = RESULT.saturating_sub(index.len().saturating_add(1));
     if old.len() <= room {
         return Ok(old);
     }
-    let view = editor.view(alloc)?;
+    let view = editor.view()?;
     let card = card_of(&view, name);
     let new = shorter_name(&view, name, room, card)?;
     editor.report(

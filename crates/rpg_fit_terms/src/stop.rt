@@ -17,8 +17,13 @@ pub struct Reason {
 #[derive(Clone, Copy)]
 pub enum RuleStop {
     NoMemory,
+    /// The deck has more cards than a deck may have.
+    TooMany,
     Refused(Reason),
 }
+
+/// The outcome of a rule, or of a step of it.
+pub type Done = Result<(), RuleStop>;
 
 impl RuleStop {
     /// Rejects the deck for a card.
@@ -50,12 +55,12 @@ impl<T: Drop> From<AllocFailed<T>> for RuleStop {
 }
 
 /// Passes the outcome of a rule to the editor.
-pub fn settle(editor: &mut Editor, outcome: Result<(), RuleStop>)
+pub fn settle(editor: &mut Editor, outcome: Done)
     ensures { MatchResult outcome (λ _. editor.new ≡ editor.old) (λ stop. IsStoppedBy stop editor.old editor.new) }
 {
     match outcome {
         Ok(()) => {}
-        Err(RuleStop::NoMemory) => editor.run_out(),
+        Err(RuleStop::NoMemory | RuleStop::TooMany) => editor.run_out(),
         Err(RuleStop::Refused(reason)) => editor.refuse(reason.card, reason.why),
     }
 }

@@ -5,7 +5,6 @@ use crate::printer::Printer;
 use crate::record_type::{RecordType, record_types};
 use rpg_fit_deck::{Card, Seen, View};
 use rpg_fit_terms::{Conjunction, RuleStop};
-use std::alloc::Global;
 
 /// The first line of a page that counts as overflow.
 const OVERFLOW_LINE: usize = 60;
@@ -108,11 +107,10 @@ fn have_levels_or_not(types: &[RecordType]) -> bool {
 ///
 /// Memory runs out.
 pub fn is_total_skipped_late(
-    alloc: Global,
     view: &View,
     printer: Option<Printer>,
     lines: &[Line],
 ) -> Result<bool, RuleStop> {
-    let types = record_types(alloc, view)?;
+    let types = record_types(view)?;
     Ok(have_levels_or_not(types.as_slice()) || reaches_overflow(printer, lines))
 }

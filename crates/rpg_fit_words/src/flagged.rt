@@ -1,12 +1,11 @@
 //! Calculations that are done if one of several conditions holds.
 
-use crate::calculation::Calculation;
 use crate::group::{Group, Section};
 use crate::line::push_copies;
 use crate::list::List;
+use crate::template::calculation;
 use rpg_fit_deck::{View, Word};
-use rpg_fit_terms::{Conjunction, FreeIndicators, Indicator, NewCard, RuleStop};
-use std::alloc::Global;
+use rpg_fit_terms::{Conjunction, Done, FreeIndicators, Indicator, NewCard, RuleStop};
 
 /// The conditions of calculations that replace another one.
 #[derive(Drop)]
@@ -22,22 +21,14 @@ pub struct Flagged {
 }
 
 /// Returns the cards that turn a flag on if a calculation is done.
-fn flag_cards(alloc: Global, group: &Group, level: Indicator, flag: Indicator) -> List<NewCard> {
+fn flag_cards(view: &View, group: &Group, level: Indicator, flag: Indicator) -> List<NewCard> {
     let number = group.last.number;
-    let mut cards = List::new(alloc);
-    cards.push(
-        Calculation::of(b"SETOF")
-            .at(level)
-            .high(flag)
-            .made_of(number),
-    );
+    let off = calculation(b"||SETOF||||%", &[flag.word()], number);
+    let on = calculation(b"||SETON||||%", &[flag.word()], number);
+    let mut cards = List::new(view.alloc);
+    cards.push(off.with(7, 8, level.word().text()));
     push_copies(&mut cards, group.leading.as_slice());
-    cards.push(
-        Calculation::of(b"SETON")
-            .high(flag)
-            .made_of(number)
-            .with_columns(7, 17, &group.last.card),
-    );
+    cards.push(on.with_columns(7, 17, &group.last.card));
     cards
 }
 
@@ -48,7 +39,6 @@ fn flag_cards(alloc: Global, group: &Group, level: Indicator, flag: Indicator) -
 ///
 /// No indicator is free.
 pub fn under_flag(
-    alloc: Global,
     view: &View,
     group: &Group,
     free: &mut FreeIndicators,
@@ -56,7 +46,7 @@ pub fn under_flag(
 ) -> Result<Flagged, RuleStop> {
     if group.leading.is_empty() && !always {
         return Ok(Flagged {
-            before: List::new(alloc),
+            before: List::new(view.alloc),
             level: Indicator::at(&group.last.card, 7),
             conditions: Word::of(group.last.card.columns(9, 17)),
             flag: None,
@@ -68,7 +58,7 @@ pub fn under_flag(
         _ => Indicator::at(&group.first().card, 7),
     };
     Ok(Flagged {
-        before: flag_cards(alloc, group, level, flag),
+        before: flag_cards(view, group, level, flag),
         level,
         conditions: Conjunction::on(flag).columns(0),
         flag: Some(flag),
@@ -82,7 +72,7 @@ fn push_alternative(
     lead: Word,
     condition: &Conjunction,
     end: NewCard,
-) -> Result<(), RuleStop> {
+) -> Done {
     condition.check(end.number)?;
     let last = condition.cards().saturating_sub(1);
     for part in 0..condition.cards() {
@@ -98,7 +88,7 @@ fn push_alternative(
 
 /// Returns a calculation's card with nothing on it.
 fn blank(number: usize) -> NewCard {
-    Calculation::of(b"").made_of(number)
+    calculation(b"", &[], number)
 }
 
 /// Appends the cards of a calculation that is done if one of the alternatives holds. Columns 7 to 17 of `last` are blank.
@@ -111,7 +101,7 @@ pub fn push_conditioned(
     level: Indicator,
     alternatives: &[Conjunction],
     last: NewCard,
-) -> Result<(), RuleStop> {
+) -> Done {
     let mut lead = level.word();
     for (place, condition) in alternatives.iter().enumerate() {
         let end = if place.saturating_add(1) == alternatives.len() {

@@ -1,7 +1,7 @@
 //! Calculations with their AN and OR cards.
 
 use rpg_fit_deck::{Address, Card, Editor, Seen, View};
-use rpg_fit_terms::{Indicator, RuleStop, is_card};
+use rpg_fit_terms::{Done, Indicator, RuleStop, is_card};
 use std::alloc::Global;
 
 /// The part of the cycle that a calculation belongs to.
@@ -62,7 +62,7 @@ impl Group {
     }
 
     /// Appends a card, which becomes the last one.
-    fn push(&mut self, seen: Seen) -> Result<(), RuleStop> {
+    fn push(&mut self, seen: Seen) -> Done {
         self.leading.push(self.last)?;
         self.last = seen;
         Ok(())
@@ -74,7 +74,7 @@ fn continues(card: &Card) -> bool {
     matches!(card.columns(7, 8), b"AN" | b"OR")
 }
 
-fn push_card(alloc: Global, found: &mut Vec<Group>, seen: &Seen) -> Result<(), RuleStop> {
+fn push_card(alloc: Global, found: &mut Vec<Group>, seen: &Seen) -> Done {
     if continues(&seen.card) {
         if let Some(group) = found.last_mut() {
             return group.push(*seen);
@@ -108,9 +108,8 @@ pub(crate) fn is_in_detail(view: &View, at: Address) -> bool {
 /// # Errors
 ///
 /// Memory runs out.
-pub fn groups_now(alloc: Global, editor: &Editor) -> Result<Vec<Group>, RuleStop> {
-    let view = editor.view(alloc)?;
-    groups(alloc, &view)
+pub fn groups_now(editor: &Editor) -> Result<Vec<Group>, RuleStop> {
+    groups(&editor.view()?)
 }
 
 /// Returns the calculations of a deck, in order.
@@ -118,11 +117,11 @@ pub fn groups_now(alloc: Global, editor: &Editor) -> Result<Vec<Group>, RuleStop
 /// # Errors
 ///
 /// Memory runs out.
-pub fn groups(alloc: Global, view: &View) -> Result<Vec<Group>, RuleStop> {
-    let mut found = Vec::new(alloc);
+pub fn groups(view: &View) -> Result<Vec<Group>, RuleStop> {
+    let mut found = Vec::new(view.alloc);
     for seen in view.cards.iter() {
         if is_card(seen, b'C') {
-            push_card(alloc, &mut found, seen)?;
+            push_card(view.alloc, &mut found, seen)?;
         }
     }
     Ok(found)

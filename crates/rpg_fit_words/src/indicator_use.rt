@@ -3,8 +3,7 @@
 use crate::group::is_in_detail;
 use crate::list::List;
 use rpg_fit_deck::{Address, Seen, Sentence, View, Word};
-use rpg_fit_terms::{Conjunction, Indicator, RuleStop};
-use std::alloc::Global;
+use rpg_fit_terms::{Conjunction, Done, Indicator, RuleStop};
 
 /// How a card uses an indicator.
 #[derive(Clone, Copy)]
@@ -82,8 +81,8 @@ fn push_card(found: &mut List<IndicatorUse>, seen: &Seen) {
 }
 
 /// Returns the indicators of a deck, card by card.
-pub fn indicator_uses(alloc: Global, view: &View) -> List<IndicatorUse> {
-    let mut found = List::new(alloc);
+pub fn indicator_uses(view: &View) -> List<IndicatorUse> {
+    let mut found = List::new(view.alloc);
     for seen in view.cards.iter() {
         if !seen.card.is_comment() {
             push_card(&mut found, seen);
@@ -108,23 +107,13 @@ fn is_set_elsewhere(view: &View, one: &IndicatorUse) -> bool {
 /// # Errors
 ///
 /// It may have been, or memory runs out.
-pub fn check_only_type(
-    alloc: Global,
-    view: &View,
-    indicator: Indicator,
-    card: usize,
-) -> Result<(), RuleStop> {
-    let uses = indicator_uses(alloc, view);
+pub fn check_only_type(view: &View, indicator: Indicator, card: usize) -> Done {
+    let uses = indicator_uses(view);
     for one in uses.checked()? {
         if one.indicator == indicator && is_set_elsewhere(view, one) {
-            return Err(RuleStop::refused(
-                card,
-                Sentence::of_two(
-                    "indicator % of its type is turned on or off by card % too",
-                    indicator.word(),
-                    Word::of_number(one.number),
-                ),
-            ));
+            let why = "indicator % of its type is turned on or off by card % too";
+            let other = Word::of_number(one.number);
+            return Err(RuleStop::refused(card, Sentence::of_two(why, indicator.word(), other)));
         }
     }
     Ok(())

@@ -2,7 +2,6 @@
 //! printed.
 #![tactic(auto)]
 
-mod calculation;
 mod columns;
 mod constant;
 mod first_output;
@@ -14,8 +13,8 @@ mod list;
 mod place;
 mod printer;
 mod record_type;
+mod template;
 
-pub use calculation::Calculation;
 pub use columns::Columns;
 pub use constant::Constant;
 pub use first_output::{
@@ -31,7 +30,8 @@ pub use place::{Place, insert_at};
 pub use printer::{Printer, printer_of};
 pub use record_type::{RecordType, record_types};
 pub use rpg_fit_terms::{
-    Array, Conjunction, Form, FreeIndicators, FreshNames, Indicator, NewCard, Operand, RuleStop,
-    Term, array_of, entry, form_of, fresh_name, is_card, is_date_part, is_name_used, put_cards,
-    unused_prefix, with_room,
+    Array, Conjunction, Done, Form, FreeIndicators, FreshNames, Indicator, NewCard, Operand,
+    RuleStop, Term, array_of, entry, form_of, fresh_name, is_card, is_date_part, is_name_used,
+    put_cards, unused_prefix, with_room,
 };
+pub use template::calculation;

@@ -2,7 +2,7 @@
 
 use crate::list::List;
 use rpg_fit_deck::{Card, Editor, Seen, View, Word};
-use rpg_fit_terms::{Conjunction, NewCard, RuleStop, is_card};
+use rpg_fit_terms::{Conjunction, Done, NewCard, RuleStop, is_card};
 use std::alloc::Global;
 
 /// When a line is printed.
@@ -44,7 +44,7 @@ pub struct Alternative {
 
 impl Alternative {
     /// Appends the conditions of an AND card.
-    fn push_card(&mut self, seen: &Seen) -> Result<(), RuleStop> {
+    fn push_card(&mut self, seen: &Seen) -> Done {
         self.condition = self.condition.and_all(&Conjunction::at(&seen.card, 23));
         self.condition.check(seen.number)
     }
@@ -95,7 +95,7 @@ impl Line {
     }
 
     /// Appends an AND or OR card.
-    fn push_more(&mut self, seen: &Seen) -> Result<(), RuleStop> {
+    fn push_more(&mut self, seen: &Seen) -> Done {
         self.more.push(*seen)?;
         if is_or(&seen.card) {
             self.alternatives.push(alternative_at(seen))?;
@@ -129,7 +129,7 @@ impl Line {
         cards: &mut List<NewCard>,
         head: NewCard,
         alternatives: &[Conjunction],
-    ) -> Result<(), RuleStop> {
+    ) -> Done {
         let number = self.head.number;
         let mut first = head;
         for condition in alternatives {
@@ -173,7 +173,7 @@ pub fn remove_cards(editor: &mut Editor, cards: &[Seen], with: usize) {
 }
 
 /// Appends a card to the line that it belongs to.
-fn push_to_last(found: &mut Vec<Line>, seen: &Seen) -> Result<(), RuleStop> {
+fn push_to_last(found: &mut Vec<Line>, seen: &Seen) -> Done {
     match found.last_mut() {
         Some(line) if continues(&seen.card) => line.push_more(seen),
         Some(line) => {
@@ -185,12 +185,7 @@ fn push_to_last(found: &mut Vec<Line>, seen: &Seen) -> Result<(), RuleStop> {
 }
 
 /// Appends a card to the line that it belongs to, or the line that it begins. `file`: that of the previous line.
-fn push_card(
-    alloc: Global,
-    found: &mut Vec<Line>,
-    file: &mut Word,
-    seen: &Seen,
-) -> Result<(), RuleStop> {
+fn push_card(alloc: Global, found: &mut Vec<Line>, file: &mut Word, seen: &Seen) -> Done {
     if continues(&seen.card) || seen.card.is_blank(7, 16) {
         return push_to_last(found, seen);
     }
@@ -207,12 +202,12 @@ fn push_card(
 /// # Errors
 ///
 /// An alternative has more than 60 conditions, or memory runs out.
-pub fn lines(alloc: Global, view: &View) -> Result<Vec<Line>, RuleStop> {
-    let mut found = Vec::new(alloc);
+pub fn lines(view: &View) -> Result<Vec<Line>, RuleStop> {
+    let mut found = Vec::new(view.alloc);
     let mut file = Word::empty();
     for seen in view.cards.iter() {
         if is_card(seen, b'O') {
-            push_card(alloc, &mut found, &mut file, seen)?;
+            push_card(view.alloc, &mut found, &mut file, seen)?;
         }
     }
     Ok(found)
@@ -231,9 +226,9 @@ impl DeckLines {
     /// # Errors
     ///
     /// An alternative has more than 60 conditions, or memory runs out.
-    pub fn of(alloc: Global, editor: &Editor) -> Result<DeckLines, RuleStop> {
-        let view = editor.view(alloc)?;
-        let lines = lines(alloc, &view)?;
+    pub fn of(editor: &Editor) -> Result<DeckLines, RuleStop> {
+        let view = editor.view()?;
+        let lines = lines(&view)?;
         Ok(DeckLines { view, lines })
     }
 }

@@ -1,6 +1,6 @@
 //! Lists that rules fill.
 
-use rpg_fit_terms::RuleStop;
+use rpg_fit_terms::{Done, RuleStop};
 use std::alloc::Global;
 
 /// A list of values. If memory runs out for one, it remembers that, so that only `check` and `checked` return an error.
@@ -54,7 +54,7 @@ impl<T: Copy> List<T> {
     /// # Errors
     ///
     /// Memory ran out for one of them.
-    pub fn check(&self) -> Result<(), RuleStop> {
+    pub fn check(&self) -> Done {
         if self.ran_out {
             Err(RuleStop::NoMemory)
         } else {

@@ -2,8 +2,7 @@
 
 use crate::group::{Group, Section, groups};
 use rpg_fit_deck::{Address, Editor, View};
-use rpg_fit_terms::{NewCard, RuleStop, address_after, is_card, put_cards};
-use std::alloc::Global;
+use rpg_fit_terms::{Done, NewCard, address_after, is_card, put_cards};
 
 /// A place for calculations in the cycle.
 #[derive(Clone, Copy)]
@@ -57,17 +56,10 @@ fn address_of(view: &View, groups: &[Group], place: Place) -> Address {
 ///
 /// # Errors
 ///
-/// Memory runs out.
-pub fn insert_at(
-    alloc: Global,
-    editor: &mut Editor,
-    place: Place,
-    cards: &[NewCard],
-    with: usize,
-) -> Result<(), RuleStop> {
-    let view = editor.view(alloc)?;
-    let groups = groups(alloc, &view)?;
+/// The deck has too many cards, or memory runs out.
+pub fn insert_at(editor: &mut Editor, place: Place, cards: &[NewCard], with: usize) -> Done {
+    let view = editor.view()?;
+    let groups = groups(&view)?;
     let before = address_of(&view, groups.as_slice(), place);
-    put_cards(editor, before, cards, with);
-    Ok(())
+    put_cards(editor, before, cards, with)
 }

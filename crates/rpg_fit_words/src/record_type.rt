@@ -1,7 +1,7 @@
 //! Record types.
 
 use rpg_fit_deck::{Card, Seen, View, Word};
-use rpg_fit_terms::{RuleStop, is_card};
+use rpg_fit_terms::{Done, RuleStop, is_card};
 use std::alloc::Global;
 
 /// A record type.
@@ -20,7 +20,7 @@ fn continues(card: &Card) -> bool {
 }
 
 /// Appends a card to the type that it belongs to.
-fn push_to_last(found: &mut Vec<RecordType>, seen: &Seen) -> Result<(), RuleStop> {
+fn push_to_last(found: &mut Vec<RecordType>, seen: &Seen) -> Done {
     if let Some(kind) = found.last_mut() {
         if continues(&seen.card) {
             kind.more.push(*seen)?;
@@ -33,12 +33,7 @@ fn push_to_last(found: &mut Vec<RecordType>, seen: &Seen) -> Result<(), RuleStop
 
 /// Appends a card to the type that it belongs to, or the type that it begins. `file`: that of the previous
 /// type.
-fn push_card(
-    alloc: Global,
-    found: &mut Vec<RecordType>,
-    file: &mut Word,
-    seen: &Seen,
-) -> Result<(), RuleStop> {
+fn push_card(alloc: Global, found: &mut Vec<RecordType>, file: &mut Word, seen: &Seen) -> Done {
     if continues(&seen.card) || seen.card.is_blank(7, 16) {
         return push_to_last(found, seen);
     }
@@ -59,12 +54,12 @@ fn push_card(
 /// # Errors
 ///
 /// Memory runs out.
-pub fn record_types(alloc: Global, view: &View) -> Result<Vec<RecordType>, RuleStop> {
-    let mut found = Vec::new(alloc);
+pub fn record_types(view: &View) -> Result<Vec<RecordType>, RuleStop> {
+    let mut found = Vec::new(view.alloc);
     let mut file = Word::empty();
     for seen in view.cards.iter() {
         if is_card(seen, b'I') {
-            push_card(alloc, &mut found, &mut file, seen)?;
+            push_card(view.alloc, &mut found, &mut file, seen)?;
         }
     }
     Ok(found)

@@ -1,0 +1,337 @@
+//! Edit words with more places than their number has digits: the number is copied to a wider field.
+
+use crate::field::{name_on, worded};
+use rpg_fit_deck::{Editor, Seen, Sentence, Word};
+use rpg_fit_words::{
+    DeckLines, Done, Group, Line, List, NewCard, Operand, Place, Printer, RuleStop, Time,
+    calculation, fresh_name, groups_now, has_overflow, insert_at, is_card, is_date_part,
+    is_field_put_first, is_total_skipped_late, printer_of,
+};
+
+/// The most digits of a number.
+const MOST_DIGITS: usize = 15;
+
+/// Replaces each number with fewer digits than its word has places by a field with enough digits, to which it is copied before the line
+/// is printed.
+pub fn words(editor: &mut Editor) -> Done {
+    let deck = DeckLines::of(editor)?;
+    let printer = printer_of(&deck.view);
+    let lines = deck.lines.as_slice();
+    let is_total_skipped = is_total_skipped_late(&deck.view, printer, lines)?;
+    let rule = Widening {
+        deck: &deck,
+        printer,
+        is_total_skipped,
+    };
+    let mut wide = List::new(editor.alloc());
+    for (place, line) in lines.iter().enumerate() {
+        let earlier = lines.get(..place).unwrap_or(&[]);
+        rule.widen_fields(editor, &mut wide, line, earlier)?;
+    }
+    wide.check()
+}
+
+/// A deck before its words are rewritten.
+#[derive(Clone, Copy)]
+struct Widening<'a> {
+    deck: &'a DeckLines,
+    printer: Option<Printer>,
+    /// Whether overflow output may come before any total calculation.
+    is_total_skipped: bool,
+}
+
+/// A number with fewer digits than its word has places.
+#[derive(Clone, Copy)]
+struct ShortNumber {
+    field: Seen,
+    /// Its name, which may have an index.
+    name: Word,
+    decimals: u8,
+    places: usize,
+}
+
+impl ShortNumber {
+    /// Returns a calculation whose result has its places and decimals.
+    fn sized(&self, calculation: NewCard) -> NewCard {
+        let card = calculation.with_number(49, 51, self.places);
+        card.with(52, 52, &[self.decimals])
+    }
+}
+
+/// A field to which a number is copied, and a place where it is; None for the field as such.
+#[derive(Clone, Copy)]
+struct WideField {
+    number: Word,
+    places: usize,
+    name: Word,
+    copied: Option<Moment>,
+}
+
+/// A point in the cycle at which numbers are copied.
+#[derive(Clone, Copy, PartialEq, Eq)]
+enum Moment {
+    /// Before each EXCPT.
+    BeforeExceptions,
+    DetailEnd,
+    TotalEnd,
+}
+
+impl Widening<'_> {
+    /// Rewrites the words of a line, which comes after others.
+    fn widen_fields(
+        &self,
+        editor: &mut Editor,
+        wide: &mut List<WideField>,
+        line: &Line,
+        earlier: &[Line],
+    ) -> Done {
+        for field in line.fields.iter() {
+            if let Some(number) = self.short_number(field) {
+                self.check(line, earlier, &number)?;
+                let at_overflow = has_overflow(self.printer, line);
+                let name = field_for(editor, wide, &number, line.time, at_overflow)?;
+                print_from(editor, &number, name);
+            }
+        }
+        Ok(())
+    }
+
+    /// Returns the number of a field, if it has fewer digits than its word has places: its blanks, and its stop.
+    fn short_number(&self, field: &Seen) -> Option<ShortNumber> {
+        let (form, word) = worded(&self.deck.view, &field.card)?;
+        let places = places_of(word.text());
+        if form.length == 0 || places <= form.length {
+            return None;
+        }
+        let (name, decimals) = (Word::of(name_on(&field.card)), form.decimals);
+        Some(ShortNumber {
+            field: *field,
+            name,
+            decimals,
+            places,
+        })
+    }
+
+    /// Rejects a number whose copy may differ from it when the line is printed.
+    fn check(&self, line: &Line, earlier: &[Line], number: &ShortNumber) -> Done {
+        let operand = Operand::of(number.name.text());
+        let why = if number.places > MOST_DIGITS {
+            Sentence::about("a word with % places", Word::of_number(number.places))
+        } else if operand.has_index_field() {
+            Sentence::of("a word with more places than digits beside an index field")
+        } else if operand.name == b"PAGE".as_slice() {
+            Sentence::of("a word with more places than digits beside PAGE")
+        } else if self.has_early_value(operand.name) && self.may_come_early(line, &number.field) {
+            Sentence::of(EARLY)
+        } else if self.may_be_blanked(line, earlier, operand.name) {
+            Sentence::about(BLANKED, Word::of(operand.name))
+        } else {
+            return Ok(());
+        };
+        Err(RuleStop::refused(number.field.number, why))
+    }
+
+    /// Whether a name has a value before any calculation: part of the date, or data in the deck.
+    fn has_early_value(&self, name: &[u8]) -> bool {
+        for seen in self.deck.view.cards.iter() {
+            if has_data(seen, name) {
+                return true;
+            }
+        }
+        name == b"UDATE".as_slice() || is_date_part(name)
+    }
+
+    /// Whether a field may be printed before any calculation.
+    fn may_come_early(&self, line: &Line, field: &Seen) -> bool {
+        is_field_put_first(self.printer, line, field)
+            || self.is_total_skipped && has_overflow(self.printer, line)
+    }
+
+    /// Whether a field may be blanked between its copy and its line: by an earlier line of the same time, or by any line if its own has
+    /// an alternative for overflow.
+    fn may_be_blanked(&self, line: &Line, earlier: &[Line], name: &[u8]) -> bool {
+        if has_overflow(self.printer, line) {
+            return any_blanks(self.deck.lines.as_slice(), name, None);
+        }
+        any_blanks(earlier, name, Some(line.time))
+    }
+}
+
+/// Why a number with a value before any calculation isn't copied.
+const EARLY: &str =
+    "a word with more places than digits, and the line may be printed before any calculation";
+
+/// Why a number that may be blanked isn't copied.
+const BLANKED: &str = "a word with more places than digits, and a line before it blanks %";
+
+/// Whether a card defines a table or an array with this name, and the deck has data for it.
+fn has_data(seen: &Seen, name: &[u8]) -> bool {
+    is_card(seen, b'E')
+        && !seen.card.is_blank(33, 35)
+        && (seen.card.value(27, 32) == name || seen.card.value(46, 51) == name)
+}
+
+/// Returns how many digits a word has places for: its blanks, and its stop.
+fn places_of(word: &[u8]) -> usize {
+    let mut blanks: usize = 0;
+    let mut stop = 0;
+    for place in word {
+        match *place {
+            b' ' => blanks = blanks.saturating_add(1),
+            b'0' | b'*' => stop = 1,
+            _ => {}
+        }
+    }
+    blanks.saturating_add(stop)
+}
+
+/// Whether a line blanks a field, or an entry of an array, after printing it.
+fn blanks(line: &Line, name: &[u8]) -> bool {
+    for field in line.fields.iter() {
+        if field.card.column(39) == b'B' && Operand::of(name_on(&field.card)).name == name {
+            return true;
+        }
+    }
+    false
+}
+
+/// Whether one of some lines, of this time if one is given, blanks a field.
+fn any_blanks(lines: &[Line], name: &[u8], time: Option<Time>) -> bool {
+    for line in lines {
+        if is_same_time(line.time, time.unwrap_or(line.time)) && blanks(line, name) {
+            return true;
+        }
+    }
+    false
+}
+
+/// Whether lines of two times are printed without calculations between them.
+fn is_same_time(one: Time, other: Time) -> bool {
+    one == other || one.is_detail() && other.is_detail()
+}
+
+/// Returns the field for a number, to which it is copied before a line of a time is printed, also at overflow.
+fn field_for(
+    editor: &mut Editor,
+    wide: &mut List<WideField>,
+    number: &ShortNumber,
+    time: Time,
+    at_overflow: bool,
+) -> Result<Word, RuleStop> {
+    let name = match find(wide.as_slice(), number) {
+        Some(name) => name,
+        None => define(editor, number, time)?,
+    };
+    let field = WideField {
+        number: number.name,
+        places: number.places,
+        name,
+        copied: None,
+    };
+    wide.push(field);
+    if time == Time::Exception {
+        copy_at(editor, wide, number, field, Moment::BeforeExceptions)?;
+    }
+    if at_overflow || time != Time::Exception && time != Time::Total {
+        copy_at(editor, wide, number, field, Moment::DetailEnd)?;
+    }
+    if at_overflow || time == Time::Total {
+        copy_at(editor, wide, number, field, Moment::TotalEnd)?;
+    }
+    Ok(name)
+}
+
+/// Returns the name of the existing field for a number.
+fn find(wide: &[WideField], number: &ShortNumber) -> Option<Word> {
+    for field in wide {
+        if field.number.text() == number.name.text() && field.places == number.places {
+            return Some(field.name);
+        }
+    }
+    None
+}
+
+/// Returns a name for the field of a number. If no EXCPT prints its line, a calculation that is never done defines its length.
+fn define(editor: &mut Editor, number: &ShortNumber, time: Time) -> Result<Word, RuleStop> {
+    let card = number.field.number;
+    let name = fresh_name(&editor.view()?, b"W#", card)?;
+    if time == Time::Exception && !has_exception(groups_now(editor)?.as_slice()) {
+        let never = number.sized(calculation(b"NL0||Z-ADD|0|%", &[name], card));
+        insert_at(editor, Place::DetailFront, &[never], card)?;
+    }
+    Ok(name)
+}
+
+/// Whether one of some calculations is an EXCPT.
+fn has_exception(groups: &[Group]) -> bool {
+    for group in groups {
+        if is_exception(group) {
+            return true;
+        }
+    }
+    false
+}
+
+fn is_exception(group: &Group) -> bool {
+    group.operation() == b"EXCPT".as_slice()
+}
+
+/// Whether a number is already copied to a field at a point in the cycle.
+fn is_copied(wide: &[WideField], name: Word, moment: Moment) -> bool {
+    for done in wide {
+        if done.copied == Some(moment) && done.name.text() == name.text() {
+            return true;
+        }
+    }
+    false
+}
+
+/// Copies a number to a field at a point in the cycle, unless it is copied then.
+fn copy_at(
+    editor: &mut Editor,
+    wide: &mut List<WideField>,
+    number: &ShortNumber,
+    field: WideField,
+    moment: Moment,
+) -> Done {
+    if is_copied(wide.as_slice(), field.name, moment) {
+        return Ok(());
+    }
+    wide.push(WideField {
+        copied: Some(moment),
+        ..field
+    });
+    let card = number.field.number;
+    let names = [number.name, field.name];
+    let copy = number.sized(calculation(b"||Z-ADD|%|%", &names, card));
+    match moment {
+        Moment::BeforeExceptions => put_before_exceptions(editor, copy),
+        Moment::DetailEnd => insert_at(editor, Place::DetailEnd, &[copy], card),
+        Moment::TotalEnd => { insert_at(editor, Place::TotalEnd, &[copy.with(7, 8, b"L0")], card) }
+    }
+}
+
+/// Inserts a calculation before each EXCPT.
+fn put_before_exceptions(editor: &mut Editor, copy: NewCard) -> Done {
+    for group in groups_now(editor)?.iter() {
+        if is_exception(group) {
+            let level = group.section().level().word();
+            let at = copy.with(7, 8, level.text());
+            editor.insert(group.first().at, at.card, at.number);
+        }
+    }
+    Ok(())
+}
+
+/// Prints a field in place of a number. The number is still blanked by its own card, where it was.
+fn print_from(editor: &mut Editor, number: &ShortNumber, name: Word) {
+    let field = &number.field;
+    if field.card.column(39) == b'B' {
+        editor.insert(field.at, field.card.made().with(45, 70, &[]), field.number);
+    }
+    let card = field.card.with(39, 39, &[]).with(32, 37, name.text());
+    let remark = "% is printed from %, which has % digits, one for each place of its word";
+    let places = Word::of_number(number.places);
+    let remark = Sentence::of_three(remark, number.name, name, places);
+    editor.rewrite(field, card, remark);
+}
