@@ -59,7 +59,7 @@ files:
 	install -D -m 644 install/completions/_rpg2 $(SHARE)/zsh/site-functions/_rpg2
 	install -D -m 644 install/completions/rpg2.fish $(SHARE)/fish/vendor_completions.d/rpg2.fish
 	install -d $(SHARE)/doc/rpg2
-	cp -R README.md CHANGELOG.md LICENSE docs examples $(SHARE)/doc/rpg2
+	cp -R README.md CHANGELOG.md CONTRIBUTING.md LICENSE docs examples $(SHARE)/doc/rpg2
 
 uninstall:
 	rm -f $(DESTDIR)$(PREFIX)/bin/rpg2 $(SHARE)/man/man1/rpg2.1 $(SHARE)/bash-completion/completions/rpg2

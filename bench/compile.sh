@@ -2,7 +2,7 @@
 # What compiling costs: for each kind of source that bench/sources.py writes, 500, 1,000 and 2,000 cards, the best time of ROUNDS runs
 # and, where valgrind is there, the instructions: of `rpg2 compile`, which of a sheet whose last card can't be read is reading alone, and
 # of `rpg2 check` where nearly each card has a fault. Its status is 1 where compiling 2,000 cards takes more than 20 ms, or more than 2.3
-# times the instructions of 1,000. Checking is only printed: docs/SPEED.md has where it grows faster.
+# times the instructions of 1,000. Checking is only printed: docs/develop/SPEED.md has where it grows faster.
 set -euo pipefail
 
 top=$(cd "$(dirname "$0")/.." && pwd)

@@ -1,7 +1,7 @@
 #!/usr/bin/env python3
 """The whole gate: every proof, test and program by `rt ci`, then the wrong bodies that tests/gate.edits lists (tests/edits.py), then the
-cases and sessions over both builds of rpg2 (tests/run.py), and last the packages of the proved program (tests/package.py). A part that
-fails ends it. The last line is 'N passed, M failed', over all parts that ran.
+cases and sessions over both builds of rpg2 (tests/run.py), the packages of the proved program (tests/package.py), and last the pages
+(tests/pages.py). A part that fails ends it. The last line is 'N passed, M failed', over all parts that ran.
 
 usage, at the top of the repository: tests/all.py
 """
@@ -10,7 +10,7 @@ import re
 import subprocess
 import sys
 
-PARTS = (["rt", "ci"], ["tests/edits.py", "--listed", "tests/gate.edits"], ["tests/run.py"], ["tests/package.py"])
+PARTS = (["rt", "ci"], ["tests/edits.py", "--listed", "tests/gate.edits"], ["tests/run.py"], ["tests/package.py"], ["tests/pages.py"])
 COUNT = re.compile(r"^(\d+) passed, (\d+) failed\b")
 
 
