@@ -39,7 +39,7 @@ def main(name):
         print(f"The program is {program}. It is proved.")
     else:
         print(f"The program is {program}. It is NOT PROVED: `make prove` proves it, in some 40 minutes on 4 processors.")
-    print("Next: docs/START.md, your first report in ten minutes.")
+    print("Next: docs/START.md, your first report in twenty minutes.")
     return 0
 
 
