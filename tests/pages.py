@@ -6,6 +6,7 @@ usage, at the top of the repository: tests/pages.py
 It prints a line for each failure, and last `N passed, M failed`. What `make install` puts in its place links only to what is there too.
 """
 
+import os
 import re
 import sys
 from pathlib import Path
@@ -41,11 +42,11 @@ def options():
 def links_of(path, text):
     """Each link with what is wrong with it."""
     for found in LINK.finditer(text):
-        target = path if not found[1] else (path.parent / found[1]).resolve().relative_to(Path.cwd())
+        target = Path(os.path.normpath(path.parent / found[1])) if found[1] else path
         where = f"{path}: {' '.join(found[0].split())}"
         if found[1].startswith("http"):
-            continue
-        if not target.exists():
+            yield where, None
+        elif not target.exists():
             yield where, "no such file"
         elif path in PAGES and target.parts[0] not in INSTALLED:
             yield where, "isn't installed"
@@ -58,8 +59,7 @@ def links_of(path, text):
 def running(path, text):
     """The text in which a page's name is a link: not headings, tables for makers, and what rpg2 prints."""
     text = text[text.find("\n# The rules of a source") :] if path.name == "MESSAGES.md" else text
-    tables = r"^\|.*" if "develop" in path.parts else r"^#.*"
-    return re.sub(rf"^#.*|{tables}", "", text, flags=re.MULTILINE)
+    return re.sub(r"^[#|].*" if "develop" in path.parts else r"^#.*", "", text, flags=re.MULTILINE)
 
 
 def names_of(path, text):
@@ -82,13 +82,21 @@ def commands_of(path, text, known, targets):
         yield f"{path}: make {target}", None if target in targets else "no such target"
 
 
+def shown_by(path, whole):
+    """Each line of cards and print that the tutorial shows: whether it is an example's."""
+    if path.name == "TUTORIAL.md":
+        lines = {it.rstrip() for part in ("*.rpg", "*.expected") for file in Path("examples").glob(f"*/{part}") for it in file.open(encoding="utf-8")}
+        for line in "\n".join(it.strip("`") for it in FENCED.findall(whole)).replace("text\n", "").splitlines():
+            yield f"{path}: {line}", None if line in lines else "is in no example"
+
+
 def main():
     targets = set(re.findall(r"^([a-z]+):", Path("Makefile").read_text(encoding="utf-8"), re.MULTILINE))
     known, passed, failed = options(), 0, 0
     for path in PAGES + OTHERS:
         whole = path.read_text(encoding="utf-8")
         text = FENCED.sub("", whole)
-        found = [*links_of(path, text), *names_of(path, text), *commands_of(path, whole, known, targets)]
+        found = [*links_of(path, text), *names_of(path, text), *commands_of(path, whole, known, targets), *shown_by(path, whole)]
         lines = whole.count("\n")
         found.append((f"{path}: {lines} lines", "too long" if lines >= LONG.get(path.name, 600) else None))
         for what, wrong in found:
