@@ -1,6 +1,6 @@
 //! The JSON object that is printed for an answer.
 
-ghost use Rattle.std.specs.Prelude.{◌≡◌, ◌+◌, ◌≤◌, ◌++◌, length, decimal};
+ghost use Rattle.std.specs.Prelude.{◌≡◌, ◌+◌, ◌≤◌, ◌++◌, length};
 ghost use Rattle.arrayvec.specs.ArrayVec.{array_vec_len};
 ghost use Rattle.rpg_cli_answers.specs.Answers.{exit_status};
 ghost use Rattle.rpg_cli_answers.specs.Json as json;

@@ -3,7 +3,7 @@
 use crate::now::{Now, replace};
 use rpg_fit_deck::{Card, Editor, Sentence, View, Word};
 use rpg_fit_words::{
-    Columns, Done, FreeIndicators, FreshNames, Group, Indicator, List, NewCard, Operand, RuleStop,
+    Columns, Done, FreeIndicators, FreshNames, Group, Indicator, NewCard, Operand, RuleStop,
     array_of, calculation, entry, fresh_name, groups, under_flag,
 };
 
