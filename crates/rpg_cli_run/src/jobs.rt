@@ -5,11 +5,11 @@ ghost use Rattle.rpg_engine.specs.Devices.{CanCountFaults};
 use crate::halting::report_halt;
 use crate::looking::run_as_asked;
 use rpg_cli_answers::{Answer, CommandStop, Listener, Reasons, named};
-use rpg_cli_files::file_bytes;
+use rpg_cli_files::{LineTarget, RecordSource, file_bytes};
 use rpg_cli_halts::HaltedSource;
 use rpg_cli_jobs::{
-    Devices, Kept, WantedFiles, devices_of, empty_files, open_files, program_of, report_wanted,
-    run_over, run_source_over, settle_date, source_files,
+    Kept, WantedFiles, devices_of, empty_files, open_files, program_of, report_wanted, run_over,
+    run_source_over, settle_date, source_files,
 };
 use rpg_cli_programs::{OwnSource, own_source, report_object};
 use rpg_cli_show_fields::SourceRows;
@@ -18,7 +18,7 @@ use rpg_engine::{ObjectFault, Readers, Report, Verified, Watcher, Writers, decod
 use std::alloc::Global;
 use std::cell::Cell;
 use std::fs::OpenFile;
-use std::io::{Read, Write};
+use std::io::{Printer, Read, Write};
 use std::rt::{Clock, Env, Files};
 
 /// What can be run.
@@ -88,15 +88,12 @@ pub(crate) fn run_devices<
     alloc: Global,
     runnable: Runnable<'_>,
     date: &[u8],
-    devices: Devices<'_, F, S, P>,
+    input: RecordSource<F, S>,
+    secondary: RecordSource<F, S>,
+    print: LineTarget<'_, F, P>,
+    disk: LineTarget<'_, F, P>,
     watcher: &mut W,
 ) -> Result<Report, CommandStop> {
-    let Devices {
-        input,
-        secondary,
-        print,
-        disk,
-    } = devices;
     let mut readers = Readers::new(input, secondary);
     let mut writers = Writers::new(print, disk);
     let ran = run_counted(alloc, runnable, date, &mut readers, &mut writers, watcher);
@@ -129,15 +126,22 @@ fn run_opened<'a, R: Files + Input + Print + AllocGlobal, L: Listener>(
     };
     let room = request.most_bytes.map(Cell::new);
     let devices = devices_of(rt, files, room.as_ref());
-    run_as_asked(rt.alloc(), request, runnable, devices, listener)
+    let input: RecordSource<R::File, R::Reader> = devices.input;
+    let secondary: RecordSource<R::File, R::Reader> = devices.secondary;
+    let print: LineTarget<'_, R::File, Printer<'_, R>> = devices.print;
+    let disk: LineTarget<'_, R::File, Printer<'_, R>> = devices.disk;
+    let alloc = rt.alloc();
+    run_as_asked(
+        alloc, request, runnable, input, secondary, print, disk, listener,
+    )
 }
 
 /// Runs an accepted program over its files, and reports where its job halted.
-fn run_accepted<R: Files + Input + Print + AllocGlobal, L: Listener>(
+fn run_accepted<'a, R: Files + Input + Print + AllocGlobal, L: Listener>(
     rt: &R,
-    request: &Request,
+    request: &Request<'a>,
     accepted: Result<Runnable<'_>, ObjectFault>,
-    wanted: WantedFiles<'_>,
+    wanted: WantedFiles<'a>,
     listener: &mut L,
 ) -> Result<Report, CommandStop> {
     let mut kept = Kept::new();

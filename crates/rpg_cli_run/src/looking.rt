@@ -2,7 +2,7 @@
 
 use crate::jobs::{Runnable, run_devices};
 use rpg_cli_answers::{CommandStop, Listener};
-use rpg_cli_jobs::Devices;
+use rpg_cli_files::{LineTarget, RecordSource};
 use rpg_cli_trace::{JobNames, Looking};
 use rpg_cli_words::{FileArgument, Request};
 use rpg_engine::Report;
@@ -20,7 +20,10 @@ pub(crate) fn run_as_asked<
     alloc: Global,
     request: &Request,
     runnable: Runnable<'_>,
-    devices: Devices<'_, F, S, P>,
+    input: RecordSource<F, S>,
+    secondary: RecordSource<F, S>,
+    print: LineTarget<'_, F, P>,
+    disk: LineTarget<'_, F, P>,
     listener: &mut L,
 ) -> Result<Report, CommandStop> {
     let date = request.date_text().as_bytes();
@@ -31,7 +34,16 @@ pub(crate) fn run_as_asked<
         source: runnable.rows(),
     };
     let mut looking = Looking::new(alloc, request.looks, names, listener);
-    let ran = run_devices(alloc, runnable, date, devices, &mut looking);
+    let ran = run_devices(
+        alloc,
+        runnable,
+        date,
+        input,
+        secondary,
+        print,
+        disk,
+        &mut looking,
+    );
     looking.finish();
     ran
 }
