@@ -21,6 +21,10 @@ from program import SECONDS, Limits, Program
 # How many seconds a record waits for what comes of it.
 PATIENCE = 20
 
+# The session that only root can hold, and the user whom it runs rpg2 as.
+OF_ROOT = "others.session"
+OTHER = 65534
+
 # What a character means after a backslash in a word; any other means itself.
 IN_WORDS = {b"n": b"\n", b"f": b"\f", b"r": b"\r", b"u": b"\x1f", b"o": b"\xff"}
 
@@ -226,6 +230,30 @@ class Session:
             return b""
         return f"{self.path(name).stat().st_mode & 0o7777:o}\n".encode()
 
+    def do_other(self, *words: str) -> bytes:
+        """Runs rpg2 as another user, who may write in the folder. It is a copy there, since its own folder may be closed to him."""
+        self.folder.chmod(0o777)
+        copy = Path(shutil.copy(self.program.path, self.path("the-program")))
+        ended = subprocess.run(
+            words,
+            executable=copy,
+            cwd=self.folder,
+            stdin=self.given,
+            stdout=subprocess.PIPE,
+            stderr=subprocess.STDOUT,
+            user=OTHER,
+            group=OTHER,
+            extra_groups=[],
+            timeout=SECONDS,
+            check=False,
+        )
+        return ended.stdout + f"status {ended.returncode}\n".encode()
+
+    def do_owner(self, name: str) -> bytes:
+        """Gives a file to the user whom `other` runs rpg2 as."""
+        os.chown(self.path(name), OTHER, OTHER)
+        return b""
+
     def do_group(self, name: str) -> bytes:
         """Gives a file to another group of the user's, or to his own if he has no other."""
         os.chown(self.path(name), -1, other_group())
@@ -319,6 +347,8 @@ def compared(path: Path, command: Command, came: bytes, wanted: bytes) -> Outcom
 
 def show(program: Program, path: Path, top: Path) -> list[Outcome]:
     """Obeys the commands of a session, and compares what each prints with the expected text."""
+    if path.name == OF_ROOT and os.geteuid() != 0:
+        return []
     commands = commands_in(path)
     wanted = wanted_of(commands, path.with_suffix(".wanted").read_bytes())
     with tempfile.TemporaryDirectory() as name, open(path.with_name("stdin"), "rb", buffering=0) as given:
