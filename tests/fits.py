@@ -7,6 +7,7 @@ from functools import partial
 from pathlib import Path
 
 import fit
+import sentences
 from case_file import lines_in
 from outcome import Outcome
 from program import Program
@@ -44,7 +45,9 @@ def show(program: Program, path: Path) -> list[Outcome]:
     with tempfile.TemporaryDirectory() as name:
         folder = Path(name)
         (folder / "deck").write_bytes(path.read_bytes())
-        (folder / "table").write_bytes((path.parent / "table").read_bytes())
+        table = (path.parent / "table").read_bytes()
+        (folder / "table").write_bytes(table)
+        (folder / "record").write_bytes(table.splitlines(keepends=True)[0])
         line, status, errors = program.answer(["fit", "deck", "new", *words_of(path)], folder)
         made = (folder / "new").read_bytes() if (folder / "new").exists() else None
         faults = []
@@ -72,7 +75,14 @@ def compared(program: Program, seed: int, answer: str) -> Outcome:
     return Outcome(f"fit/chance.answers:{seed}", f"old deck {seed}: {answer}", fault and f"\n{fault}")
 
 
+def sentences_shown() -> list[Outcome]:
+    """Each sentence of the rules stands in a case or a session."""
+    missing = "".join(f"\n{it}" for it in sentences.unshown())
+    return [Outcome("fit", "each sentence of a rule is shown", missing or None)]
+
+
 def jobs_of(program: Program, folder: Path) -> Iterable[partial]:
+    yield partial(sentences_shown)
     for path in sorted(folder.glob("*.deck")):
         yield partial(show, program, path)
     decks = list(enumerate(lines_in(folder / "chance.answers"), 1))
