@@ -22,10 +22,10 @@ prove:
 	@build/rpg2.py
 
 # The gate: every proof from nothing, every program as two compilers build it, the wrong bodies that the contracts refuse, every case, and
-# the package.
+# the package; and what each crate of it costs.
 test:
 	@build/needs.sh python3 rt
-	tests/all.py
+	bench/gate.py
 
 # All wrong bodies, over the libraries that the gate built: before a version, and after a change to a contract.
 edits:

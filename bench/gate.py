@@ -1,11 +1,11 @@
 #!/usr/bin/env python3
-"""Measures the processor minutes of the gate, crate by crate.
+"""Runs the gate and measures its processor minutes, crate by crate: `make test`.
 
 usage, at the top of the repository:
     bench/gate.py                           runs tests/all.py, whose own lines come through as it prints them
     bench/gate.py make prove                measures another command in the same way
 
-After the command's own lines it prints a table, a line for each crate, in seconds of a processor:
+Before the command's last line it prints a table, a line for each crate, in seconds of a processor:
     proof   the check of the crate from nothing
     tests   the check of the crate with its tests
     edits   the checks of its wrong bodies, by tests/edits.py
@@ -13,9 +13,9 @@ After the command's own lines it prints a table, a line for each crate, in secon
     tried   how many wrong bodies it has
 and then what belongs to no crate (rt itself, the runs of programs and tests, what ended between two looks at the processes), the
 whole in processor minutes, and the wall time. Its status is the command's. The whole is exact, since the system counts it;
-the parts are what each process had used when it was last looked at, a fifth of a second before its end or less.
+the parts are what each process had used when it was last looked at, half a second before its end or less.
 
-What a check costs depends on the load: compare runs on one machine with the same other work. It isn't part of the gate.
+What a check costs depends on the load: compare runs on one machine with the same other work.
 """
 
 import os
@@ -23,9 +23,10 @@ import re
 import resource
 import subprocess
 import sys
+import threading
 import time
 
-PAUSE = 0.2
+PAUSE = 0.5
 TICKS = os.sysconf("SC_CLK_TCK")
 PARTS = ("proof", "tests", "edits", "build")
 
@@ -118,6 +119,14 @@ def print_table(used, whole, wall):
     print(f"whole: {whole / 60:.1f} processor minutes; wall: {wall / 60:.1f} minutes")
 
 
+def pass_on(lines, held):
+    """Prints lines as they come, except the last one, which it holds."""
+    for line in lines:
+        if held:
+            print(held.pop(), end="", flush=True)
+        held.append(line)
+
+
 def main(words):
     if words and words[0] in ("-h", "--help"):
         print(__doc__)
@@ -126,13 +135,17 @@ def main(words):
         print("bench/gate.py runs at the top of the repository", file=sys.stderr)
         return 2
     began = time.monotonic()
-    command = subprocess.Popen(words or ["tests/all.py"])
-    known, used = {}, {}
+    command = subprocess.Popen(words or ["tests/all.py"], stdout=subprocess.PIPE, text=True, errors="replace")
+    held, known, used = [], {}, {}
+    reader = threading.Thread(target=pass_on, args=(command.stdout, held))
+    reader.start()
     while command.poll() is None:
         look(command.pid, known, used)
         time.sleep(PAUSE)
+    reader.join()
     spent = resource.getrusage(resource.RUSAGE_CHILDREN)
     print_table(used, spent.ru_utime + spent.ru_stime, time.monotonic() - began)
+    print(*held, end="", flush=True)
     return command.returncode
 
 
