@@ -24,6 +24,15 @@ inverted print isn't supported: blank column 21; edit codes put commas before th
  H 21-21
 another order of characters isn't supported: blank column 26
  H 26-26
+inquiry isn't supported: blank column 37, nothing depends on it (rpg2 fit rewrites it: A2)
+ H 37-37 I
+ H 37-37 B
+signs of another machine aren't supported: blank column 40, and convert the records beforehand
+ H 40-40
+file translation isn't supported: blank column 43, and convert the records beforehand
+ H 43-43
+shared areas aren't supported: blank column 48, nothing depends on them (rpg2 fit rewrites it: A2)
+ H 48-48
 forms alignment isn't supported: blank column 41, a file needs none (rpg2 fit rewrites it: A2)
  H 41-41
 update files aren't supported: write a new master to the disk file (docs/OLD_PROGRAMS.md)
@@ -45,6 +54,8 @@ records of varying length aren't supported: write F, and make lines of the recor
  F 19-19 V
 the record length is required here; 20-23 has the block length (rpg2 fit copies it for a printer or a card device: A2)
  F 24-27 ____
+the number of areas isn't read: blank column 32, nothing depends on it (rpg2 fit rewrites it: A2)
+ F 32-32 #
 keys and record addresses aren't supported: sort the records beforehand (docs/OLD_PROGRAMS.md)
  F 28-32
  F 35-38
@@ -61,6 +72,8 @@ the core index isn't read: blank 60-65, nothing depends on it
 adding records to an existing file isn't supported: write a new file (docs/OLD_PROGRAMS.md)
  F 66-66 A
  O 16-16 ADD
+extents aren't read: blank 67-69, nothing depends on them (rpg2 fit rewrites it: A2)
+ F 67-69
 the unit isn't read: blank column 70, nothing depends on it (rpg2 fit rewrites it: A2)
  F 70-70
 external switches (U1 to U8) aren't supported: turn indicators on with a first record that has its own type (rpg2 fit --switches decides conditions on them: A3)

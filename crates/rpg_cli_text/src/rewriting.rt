@@ -9,7 +9,7 @@ pub(crate) const REWRITINGS: &str = "\
     @A2%columns that stand for nothing are blanked%\
     %     FINPUT   IP  F  80                READ40 SYS005S                R\
     %     FINPUT   IP  F  80  80            READ40\
-    %nothing. The columns are 47-53 and 70 of F, 15 and 41 of H, 42 of I, 16 of O if it has a\ndigit, and all after 80. If 24-27 of a printer or a card device are blank, a record is a block\
+    %nothing. The columns are 32 (a digit), 47-53 and 67-70 of F, 15, 37, 41 and 48 of H, 42\nof I, 16 of O if it has a digit, and all after 80. If 24-27 of a printer or a card device are blank,\na record is a block. Rejected are 32 beside keys, letters in 67-69, and signs and translation (40\nand 43 of H)\
     @A3%conditions on external switches are decided%\
     %     C   U1      TOT       ADD  AMT       TOT\n     O                NU1      TOT       20\
     %     C   L0      TOT       ADD  AMT       TOT\n     O                NL0      TOT       20\
@@ -58,10 +58,10 @@ pub(crate) const REWRITINGS: &str = "\
     %     O                         AR    J   60\
     %     O                         AR,1  J   42\n     O                         AR,2  J   51\n     O                         AR,3  J   60\
     %look at the end of the array (40-43): its first entry has to begin in column 1 or later, and\nno earlier field may stand between its entries\
-    @A15%*PLACE becomes the fields before it once more%\
-    %     O                         DIV       10\n     O                         *PLACE    50\
-    %     O                         DIV       10\n     O                         DIV       50\
-    %print PAGE after *PLACE, if it stands before it\
+    @A15%*PLACE becomes the fields above the first one once more%\
+    %     O                         DIV       10\n     O                         *PLACE    20\n     O                         *PLACE    30\
+    %     O                         DIV       10\n     O                         DIV       20\n     O                         DIV       30\
+    %print PAGE after *PLACE, if it stands before it. Rejected are a field below *PLACE, and\nan end that leaves the copies no room\
     @A16%PAGE under conditions is set back by calculations%\
     %     O                 L1      PAGE      60\
     %     C   L1                Z-ADD0         PAGE\n     O                         PAGE      60\

@@ -1,19 +1,22 @@
 //! Blanks columns that have no meaning.
 
-use crate::cards::{is_device, is_printer};
+use crate::cards::is_device;
 use rpg_fit_deck::{Card, Editor, Seen, Sentence, Word};
-use rpg_fit_words::Done;
+use rpg_fit_words::{Done, RuleStop};
 
 /// The columns of a card. Any after them are cut off.
 const COLUMNS: usize = 80;
 
-/// Blanks columns that have no meaning, and gives a card file the record length of its block.
+/// Blanks columns that have no meaning, gives a card file the record length of its block, and cuts what follows column 80.
 pub fn columns(editor: &mut Editor) -> Done {
     let view = editor.view()?;
     for seen in &view.cards {
         let mut now = *seen;
-        cut(editor, &now);
-        if !seen.card.is_comment() {
+        if seen.card.is_comment() {
+            cut(editor, &now);
+        } else {
+            blank_habits(editor, &mut now)?;
+            cut(editor, &now);
             blank_spares(editor, &mut now);
             put_record_length(editor, &mut now);
             blank_stackers(editor, &mut now);
@@ -43,6 +46,73 @@ fn blank(editor: &mut Editor, now: &mut Seen, first: usize, last: usize, sentenc
     }
 }
 
+/// Blanks what a file's areas and extents, and a header's options, stood for.
+fn blank_habits(editor: &mut Editor, now: &mut Seen) -> Done {
+    match now.card.form() {
+        b'F' => {
+            blank_areas(editor, now)?;
+            blank_extents(editor, now)
+        }
+        b'H' => blank_options(editor, now),
+        _ => Ok(()),
+    }
+}
+
+/// Blanks the number of a file's areas. Beside keys the column means something else.
+fn blank_areas(editor: &mut Editor, now: &mut Seen) -> Done {
+    let card = now.card;
+    if !card.column(32).is_ascii_digit() || !matches!(card.column(15), b'I' | b'O' | b'C' | b'U') {
+        return Ok(());
+    }
+    if card.is_blank(28, 31) && card.is_blank(35, 38) && card.is_blank(66, 66) {
+        blank(editor, now, 32, 32, "two areas (32) blanked");
+        return Ok(());
+    }
+    let why = "32 is % beside keys (28 to 31, 35 to 38) or additions (66)";
+    Err(RuleStop::about(now.number, why, Word::of(card.columns(32, 32))))
+}
+
+/// Blanks the number of a file's extents.
+fn blank_extents(editor: &mut Editor, now: &mut Seen) -> Done {
+    for column in 67..=69 {
+        if !matches!(now.card.column(column), b' ' | b'0'..=b'9') {
+            let extents = Word::of(now.card.value(67, 69));
+            return Err(RuleStop::about(now.number, "67 to 69 have %", extents));
+        }
+    }
+    blank(editor, now, 67, 69, "extents (67 to 69) blanked");
+    Ok(())
+}
+
+/// Blanks options of the header without a meaning for a job over files, and rejects others.
+fn blank_options(editor: &mut Editor, now: &mut Seen) -> Done {
+    let card = now.card;
+    let why = if !matches!(card.column(37), b' ' | b'I' | b'B') {
+        Some((37, "37 has %"))
+    } else if !matches!(card.column(48), b' ' | b'1' | b'S') {
+        Some((48, "48 has %"))
+    } else if card.column(40) != b' ' {
+        Some((
+            40,
+            "signs (40 has %): old numbers may come out with another last character",
+        ))
+    } else if card.column(43) != b' ' {
+        Some((
+            43,
+            "files are translated (43 has %): translate the records beforehand",
+        ))
+    } else {
+        None
+    };
+    if let Some((column, why)) = why {
+        let option = Word::of(card.columns(column, column));
+        return Err(RuleStop::about(now.number, why, option));
+    }
+    blank(editor, now, 37, 37, "inquiry (37) blanked");
+    blank(editor, now, 48, 48, "shared areas (48) blanked");
+    Ok(())
+}
+
 fn blank_spares(editor: &mut Editor, now: &mut Seen) {
     match now.card.form() {
         b'F' => {
@@ -61,7 +131,7 @@ fn blank_spares(editor: &mut Editor, now: &mut Seen) {
 
 /// Whether a file has one record per block, by its device.
 fn has_one_record(card: &Card) -> bool {
-    is_printer(card)
+    matches!(card.value(40, 46), [b'P', b'R', b'I', b'N', b'T', ..])
         || is_device(card, b"MFCU1")
         || is_device(card, b"MFCU2")
         || is_device(card, b"READ40")

@@ -1,10 +1,10 @@
-//! *PLACE: repeats the fields before it in its line.
+//! *PLACE: repeats the fields above the first one in its line.
 
 use crate::field::{end_on, name_on};
-use rpg_fit_deck::{Editor, MOST_CARDS, Seen, Sentence, Word};
-use rpg_fit_words::{Conjunction, DeckLines, Done, List, NewCard, RuleStop};
+use rpg_fit_deck::{Editor, Seen, Sentence, Word};
+use rpg_fit_words::{Conjunction, DeckLines, Done, List, NewCard, RuleStop, put_cards};
 
-/// Replaces each *PLACE by copies of the fields before it, moved to the right so that they end where it ends.
+/// Replaces each *PLACE by copies of the fields above the first one, moved to the right so that they end where it ends.
 pub fn places(editor: &mut Editor) -> Done {
     let deck = DeckLines::of(editor)?;
     for line in deck.lines.iter() {
@@ -13,50 +13,76 @@ pub fn places(editor: &mut Editor) -> Done {
     Ok(())
 }
 
-fn repeat_fields(editor: &mut Editor, fields: &[Seen]) -> Done {
-    let mut before = List::new(editor.alloc());
-    let mut highest = 0;
+/// Returns how many fields stand above the first *PLACE.
+fn fields_above(fields: &[Seen]) -> usize {
+    let mut count: usize = 0;
     for field in fields {
-        if name_on(&field.card) == b"*PLACE".as_slice() {
-            repeat(editor, &mut before, highest, field)?;
-            highest = end_on(&field.card);
-        } else {
-            before.push(NewCard::copy(field));
-            highest = highest.max(end_on(&field.card));
+        if is_place(field) {
+            return count;
         }
+        count = count.saturating_add(1);
     }
-    before.check()
+    count
 }
 
-/// Replaces *PLACE by copies of the fields before it, of which the last ends at `highest`, and appends them to these.
-fn repeat(editor: &mut Editor, before: &mut List<NewCard>, highest: usize, place: &Seen) -> Done {
-    let end = end_on(&place.card);
-    let copies = before.as_slice().len();
-    if has_page(before.as_slice()) {
+fn is_place(field: &Seen) -> bool {
+    name_on(&field.card) == b"*PLACE".as_slice()
+}
+
+/// Returns where the last of some fields ends.
+fn highest_end(fields: &[Seen]) -> usize {
+    let mut highest = 0;
+    for field in fields {
+        highest = highest.max(end_on(&field.card));
+    }
+    highest
+}
+
+/// Replaces the *PLACE of a line, below which no field stands.
+fn repeat_fields(editor: &mut Editor, fields: &[Seen]) -> Done {
+    let above = fields_above(fields);
+    let group = fields.get(..above).unwrap_or(&[]);
+    let highest = highest_end(group);
+    let mut last = highest;
+    for place in fields.get(above..).unwrap_or(&[]) {
+        if !is_place(place) {
+            return Err(RuleStop::because(place.number, "a field below *PLACE"));
+        }
+        check_place(place, group, last.saturating_add(highest))?;
+        repeat(editor, group, highest, place)?;
+        last = end_on(&place.card);
+    }
+    Ok(())
+}
+
+/// Rejects *PLACE if it would count pages twice, or if the copies don't begin after what the line has before them.
+fn check_place(place: &Seen, group: &[Seen], least: usize) -> Done {
+    if has_page(group) {
         return Err(RuleStop::because(place.number, "PAGE stands before *PLACE"));
     }
-    if end < highest.saturating_mul(2) {
-        let highest = Word::of_number(highest);
-        return Err(RuleStop::about(place.number, "its end is less than twice %", highest));
+    if end_on(&place.card) < least {
+        let least = Word::of_number(least);
+        return Err(RuleStop::about(place.number, "its end is less than %", least));
     }
-    if copies > MOST_CARDS {
-        return Err(RuleStop::TooMany);
+    Ok(())
+}
+
+/// Replaces *PLACE by copies of fields of which the last ends at `highest`.
+fn repeat(editor: &mut Editor, group: &[Seen], highest: usize, place: &Seen) -> Done {
+    let further = end_on(&place.card).saturating_sub(highest);
+    let mut copies = List::new(editor.alloc());
+    for field in group {
+        copies.push(moved(NewCard::copy(field), place, further)?);
     }
-    for index in 0..copies {
-        if let Some(field) = before.as_slice().get(index).copied() {
-            let copy = moved(field, place, end.saturating_sub(highest))?;
-            editor.insert_copy(place.at, copy.card, copy.number, place.number);
-            before.push(copy);
-        }
-    }
+    put_cards(editor, place.at, copies.checked()?, place.number)?;
     editor.remove(place.at, place.number);
     let (one, several) = ("*PLACE: % field once more", "*PLACE: % fields once more");
-    editor.report(place.number, Sentence::counted(one, several, copies));
+    editor.report(place.number, Sentence::counted(one, several, group.len()));
     Ok(())
 }
 
 /// Whether PAGE is one of some fields.
-fn has_page(fields: &[NewCard]) -> bool {
+fn has_page(fields: &[Seen]) -> bool {
     for field in fields {
         if name_on(&field.card) == b"PAGE".as_slice() {
             return true;
