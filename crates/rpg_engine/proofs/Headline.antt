@@ -7,7 +7,7 @@ use Rattle.rpg_cycle.specs.Runs.{Course, IsRun, Records}
 use Rattle.rpg_cycle_safety.specs.Coming.{HasRun, RunsWell}
 use Rattle.rpg_program.specs.Put.{Bytes}
 use Rattle.rpg_program.specs.Object.{Object}
-use Rattle.rpg_engine.specs.Devices.{NoneFailed, OfRead, OfWriters}
+use Rattle.rpg_engine.specs.Devices.{OfRead, OfWriters}
 use Rattle.rpg_engine.specs.Inputs.{OfFronts, OfInputs, records_of}
 use Rattle.rpg_engine.specs.Outputs.{Contents}
 use Rattle.rpg_engine.specs.Reporting.{JobEndsWell, Reports, SendsParts}
@@ -46,9 +46,9 @@ module _ (p : Object) (day : ℤ) where
       → OfInputs given left others rest (JobEndsWell p day report)
   report_ends_well each given left others rest report before after h = of_each given left others rest _ _ (ends_well each report before after) h
 
-  pub with_run : ((rs : Records) → HasRun p day (first_fields p) rs) → (given left others rest : Option (List ℕ)) (e : RunFault) (none_failed : Type 0) (before after : Contents)
-      → OfFronts given left others rest (StopsEarly p day e none_failed before after) → OfFronts given left others rest (SendsParts p day e none_failed before after)
-  with_run exists given left others rest e none_failed before after h = record {
+  pub with_run : ((rs : Records) → HasRun p day (first_fields p) rs) → (given left others rest : Option (List ℕ)) (e : RunFault) (before after : Contents)
+      → OfFronts given left others rest (StopsEarly p day e before after) → OfFronts given left others rest (SendsParts p day e before after)
+  with_run exists given left others rest e before after h = record {
     primary = h.primary;
     secondary = h.secondary;
     fact = record {
@@ -64,7 +64,7 @@ pub runs_on_day : {R S P D : Type 0} (remaining : R → Option (List ℕ)) (othe
     → ((rs : Records) → HasRun p day (first_fields p) rs)
     → ((rs : Records) (course : Course) (bytes : Bytes) → IsRun p day (first_fields p) rs course bytes → RunsWell p (records_count rs) course)
     → IfOk result (ReportsRun remaining others contents stored p day old new before after)
-    → IfErr result (λ e. OfRead remaining others old new (OfWriters contents stored before after (StopsEarly p day e (NoneFailed before after))))
+    → IfErr result (λ e. OfRead remaining others old new (OfWriters contents stored before after (StopsEarly p day e)))
     → RunsOnDay remaining others contents stored p day old new before after result
 runs_on_day remaining others contents stored p day old new before after (Ok report) exists each reports stops = record {
   headline = report_ends_well p day each _ _ _ _ report _ _ reports;
@@ -74,5 +74,5 @@ runs_on_day remaining others contents stored p day old new before after (Ok repo
 runs_on_day remaining others contents stored p day old new before after (Err e) exists each reports stops = record {
   headline = tt;
   report = tt;
-  early = with_run p day exists _ _ _ _ e _ _ _ stops;
+  early = with_run p day exists _ _ _ _ e _ _ stops;
 }

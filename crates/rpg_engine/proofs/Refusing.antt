@@ -37,10 +37,10 @@ none_read : (a : Option (List ℕ)) → WasRead a a
 none_read a = record { read = []; ended = false; consumed = Consumes-nil a; at_end = λ is. absurd cc }
 
 -- before the first cycle nothing was output
-at_once : (a b : Option (List ℕ)) (held : Contents) (e : RunFault) (none_failed : Type 0) (p : Object) (day : ℤ) → ((file : InputFile) (why : ReadFault) → e ≡ faults.Read file why → ⊥)
+at_once : (a b : Option (List ℕ)) (held : Contents) (e : RunFault) (p : Object) (day : ℤ) → ((file : InputFile) (why : ReadFault) → e ≡ faults.Read file why → ⊥)
     → ((bytes : Bytes) → HasParts e held held bytes) → ((primary secondary : List ℕ) → IsOutputBy 0 p day primary secondary no_bytes → MayBeOutput e p day primary secondary no_bytes)
-    → HasSent e none_failed held held no_bytes → OfFronts a a b b (StopsEarly p day e none_failed held held)
-at_once a b held e none_failed p day other parts may sent = record {
+    → HasSent e held held no_bytes → OfFronts a a b b (StopsEarly p day e held held)
+at_once a b held e p day other parts may sent = record {
   primary = none_read a;
   secondary = none_read b;
   fact = record {
@@ -54,20 +54,20 @@ at_once a b held e none_failed p day other parts may sent = record {
   };
 }
 
-pub object_refused : (a b : Option (List ℕ)) (held : Contents) (none_failed : Type 0) (fault : ObjectFault) (object : List ℕ) (p : Object) (day : ℤ) → HasObjectFault fault object
-    → OfFronts a a b b (StopsEarly p day (faults.Object fault) none_failed held held)
-object_refused a b held none_failed fault object p day is =
-    at_once a b held (faults.Object fault) none_failed p day (λ file why is. absurd cc) (λ bytes file. none_sent (held file) (bytes_for file bytes)) (λ xs ys put. inl (0, put)) tt
+pub object_refused : (a b : Option (List ℕ)) (held : Contents) (fault : ObjectFault) (object : List ℕ) (p : Object) (day : ℤ) → HasObjectFault fault object
+    → OfFronts a a b b (StopsEarly p day (faults.Object fault) held held)
+object_refused a b held fault object p day is =
+    at_once a b held (faults.Object fault) p day (λ file why is. absurd cc) (λ bytes file. none_sent (held file) (bytes_for file bytes)) (λ xs ys put. inl (0, put)) tt
 
-pub no_room : (a b : Option (List ℕ)) (held : Contents) (none_failed : Type 0) (p : Object) (day : ℤ) → OfFronts a a b b (StopsEarly p day (faults.NoMemory 0) none_failed held held)
-no_room a b held none_failed p day =
-    at_once a b held (faults.NoMemory 0) none_failed p day (λ file why is. absurd cc) (λ bytes file. none_sent (held file) (bytes_for file bytes)) (λ xs ys put. put)
-    (λ file. none_sent (held file) (bytes_for file no_bytes), λ none file. subst (λ (x : List ℕ). Appends (held file) (held file) x) (sym (none_for file)) (Appends-nil (held file)))
+pub no_room : (a b : Option (List ℕ)) (held : Contents) (p : Object) (day : ℤ) → OfFronts a a b b (StopsEarly p day (faults.NoMemory 0) held held)
+no_room a b held p day =
+    at_once a b held (faults.NoMemory 0) p day (λ file why is. absurd cc) (λ bytes file. none_sent (held file) (bytes_for file bytes)) (λ xs ys put. put)
+    (λ file. subst (λ (x : List ℕ). Appends (held file) (held file) x) (sym (none_for file)) (Appends-nil (held file)))
 
-pub not_started : (a b : Option (List ℕ)) (held : Contents) (none_failed : Type 0) (fault : StartFault) (p : Object) (day : ℤ) → OfFronts a a b b (StopsEarly p day (start_fault fault) none_failed held held)
-not_started a b held none_failed starting.BadDate p day =
-    at_once a b held faults.BadDate none_failed p day (λ file why is. absurd cc) (λ bytes file. none_sent (held file) (bytes_for file bytes)) (λ xs ys put. inl (0, put)) tt
-not_started a b held none_failed starting.NoMemory p day = no_room a b held none_failed p day
+pub not_started : (a b : Option (List ℕ)) (held : Contents) (fault : StartFault) (p : Object) (day : ℤ) → OfFronts a a b b (StopsEarly p day (start_fault fault) held held)
+not_started a b held starting.BadDate p day =
+    at_once a b held faults.BadDate p day (λ file why is. absurd cc) (λ bytes file. none_sent (held file) (bytes_for file bytes)) (λ xs ys put. inl (0, put)) tt
+not_started a b held starting.NoMemory p day = no_room a b held p day
 
 -- what is reported of one
 pub start_reported : (fault : StartFault) (date : List ℕ) → (fault ≡ starting.BadDate → date_in date ≡ None) → IsReportOfDate {X = Report} (Err (start_fault fault)) date
@@ -107,12 +107,12 @@ fronts_same a a' b b' c c' d d' Fact e f g h holds =
     (subst (λ (x : Option (List ℕ)). OfFronts a b x d' Fact) g
     (subst (λ (x : Option (List ℕ)). OfFronts a b c x Fact) h holds)))
 
-pub parts_same : (date : List ℕ) (p : Object) (day : ℤ) (job : AtWork) (a a' b b' c c' d d' : Option (List ℕ)) (before after : Contents) (fault : RunFault) (none_failed : Type 0) → a ≡ a' → b ≡ b' → c ≡ c' → d ≡ d'
-    → ((x : ℤ) → job ≡ job_started job.program x (first_fields job.program) → OfFronts a b c d (StopsEarly job.program x fault none_failed before after))
-    → Starts p date (first_fields p) job → date_in date ≡ Some day → OfFronts a' b' c' d' (StopsEarly p day fault none_failed before after)
-parts_same date p day job a a' b b' c c' d d' before after fault none_failed e f g h holds starts dated =
-    fronts_same a a' b b' c c' d d' (StopsEarly p day fault none_failed before after) e f g h
-    (same_job date p day job (λ r x. OfFronts a b c d (StopsEarly r x fault none_failed before after)) holds starts dated)
+pub parts_same : (date : List ℕ) (p : Object) (day : ℤ) (job : AtWork) (a a' b b' c c' d d' : Option (List ℕ)) (before after : Contents) (fault : RunFault) → a ≡ a' → b ≡ b' → c ≡ c' → d ≡ d'
+    → ((x : ℤ) → job ≡ job_started job.program x (first_fields job.program) → OfFronts a b c d (StopsEarly job.program x fault before after))
+    → Starts p date (first_fields p) job → date_in date ≡ Some day → OfFronts a' b' c' d' (StopsEarly p day fault before after)
+parts_same date p day job a a' b b' c c' d d' before after fault e f g h holds starts dated =
+    fronts_same a a' b b' c c' d d' (StopsEarly p day fault before after) e f g h
+    (same_job date p day job (λ r x. OfFronts a b c d (StopsEarly r x fault before after)) holds starts dated)
 
 pub reported_of_run : {X : Type 0} (result : Result X RunFault) (date : List ℕ) → HasDay date → IfErr result IsRunFault → IsReportOfDate result date
 reported_of_run (Ok x) date has only = has

@@ -34,7 +34,7 @@ use Rattle.rpg_verify.specs.Bound.{bound}
 use Rattle.rpg_engine.specs.Inputs.{OfFronts, OfInputs, bytes_of_input, records_of}
 use Rattle.rpg_engine.specs.Outputs.{Contents, HaveAll, HaveParts, bytes_for, bytes_with, order}
 use Rattle.rpg_engine.specs.Reporting.{AreSameOrBad, IsBad, ContinuesFor, HasParts, HasSent, IsOutputSoFar, IsOutputBy, IsRunOver, IsUnread, MayBeOutput, Reports, WaitsFor, WentOn, bytes_of, records_of_file}
-use Rattle.rpg_engine.specs.Sending.{FailsToSend, FileState, IsFileAfterFault, IsSendingOf, States, StopsWith, held_in}
+use Rattle.rpg_engine.specs.Sending.{FailsToSend, FileState, IsFileAfterFault, States, StopsWith, held_in}
 use Rattle.rpg_engine.specs.Streaming.{ReadsIfNeeded, FailsToRead, HasAnswered, IsRunFault, StopsEarly, TakesNone, ended_stage, record_with}
 use Rattle.rpg_engine.specs.declared.fault.CycleFault.{CycleFault}
 use Rattle.rpg_engine.specs.declared.fault.CycleFault.TheVariants as stops
@@ -149,7 +149,8 @@ some_of_run e old new bytes fails = subst IsRunFault (sym fails.is) tt
 
 pub stop_of_run : (fault : CycleFault) (cycles : ℕ) (old new : States) (bytes : Bytes) (e : RunFault) → StopsWith fault cycles old new bytes e → IsRunFault e
 stop_of_run (stops.Read file fault) cycles old new bytes e stop = subst IsRunFault (sym stop.0) tt
-stop_of_run stops.NoMemory cycles old new bytes e stop = subst IsRunFault (sym stop.0) tt
+stop_of_run stops.NoMemory cycles old new bytes e (inl stop) = subst IsRunFault (sym stop.0) tt
+stop_of_run stops.NoMemory cycles old new bytes e (inr fails) = some_of_run e old new bytes fails
 
 -- a job that needs a record continues, and so do its files
 going_on : (p q : Bool) → (p && q) ≡ true → q ≡ true
@@ -317,11 +318,11 @@ module _ (first job : AtWork) (given others : Option (List ℕ)) (a b : Source) 
         (needs_too (is_going job.stage) (needs_record job.program stands_now job.inputs file) (needs_record job.program stands_now job.inputs Primary) fails.needed needs) more can;
   }
 
-  pub stopped_between : (e : RunFault) (none_failed : Type 0) (before after : Contents) → CountsCycles e cycles → LeavesParts e (bytes_of s.out) before after
-      → HasSent e none_failed before after (bytes_of s.out)
+  pub stopped_between : (e : RunFault) (before after : Contents) → CountsCycles e cycles → LeavesParts e (bytes_of s.out) before after
+      → HasSent e before after (bytes_of s.out)
       → ((file : InputFile) (fault : ReadFault) → e ≡ faults.Read file fault → ReadFails job file fault s.primary.since s.secondary.since one two (bytes_of s.out) before after)
-      → (day : ℤ) → IsStart first day → OfFronts given i.remaining others j.remaining (StopsEarly first.program day e none_failed before after)
-  stopped_between e none_failed before after counts leaves sent fails day is = record {
+      → (day : ℤ) → IsStart first day → OfFronts given i.remaining others j.remaining (StopsEarly first.program day e before after)
+  stopped_between e before after counts leaves sent fails day is = record {
     primary = was_read given i (more_read given a.input i _ s.primary.since one);
     secondary = was_read others j (more_read others b.input j _ s.secondary.since two);
     fact = record {
@@ -399,11 +400,11 @@ module _ (first : AtWork) (day : ℤ) (is : IsStart first day) (xs ys : List ℕ
   output_after (Wrong f) head = put_at_end (Wrong f) head tt
 
 -- after a cycle, with its output
-pub stopped_after : (first job mid : AtWork) (given others : Option (List ℕ)) (a b a' b' : Source) (cycles most : ℕ) (fault : RunFault) (none_failed : Type 0) (e : PhaseEnd) (before after : Contents)
+pub stopped_after : (first job mid : AtWork) (given others : Option (List ℕ)) (a b a' b' : Source) (cycles most : ℕ) (fault : RunFault) (e : PhaseEnd) (before after : Contents)
     (s : Streams first given others job a b cycles most) (t : TakesNext s.earlier (last_position s.out.lines) job a b e mid a' b')
-    → LeavesParts fault (put_with e s.out t.does.out) before after → HasSent fault none_failed before after (put_with e s.out t.does.out)
-    → IsWriters fault → (day : ℤ) → IsStart first day → OfFronts given a'.input.remaining others b'.input.remaining (StopsEarly first.program day fault none_failed before after)
-stopped_after first job mid given others a b a' b' cycles most fault none_failed e before after s t leaves sent writers day is =
+    → LeavesParts fault (put_with e s.out t.does.out) before after → HasSent fault before after (put_with e s.out t.does.out)
+    → IsWriters fault → (day : ℤ) → IsStart first day → OfFronts given a'.input.remaining others b'.input.remaining (StopsEarly first.program day fault before after)
+stopped_after first job mid given others a b a' b' cycles most fault e before after s t leaves sent writers day is =
     let does = t.does in
     let now = config_on (last_position s.out.lines) job.config in
     record {
@@ -447,34 +448,29 @@ module _ (start now next : States) (waiting put : Bytes) (went : (file : OutputF
     each_part e fails bytes begins,
   )
 
-  pub some_have : (e : RunFault) (none_failed : Type 0) → FailsToSend e now next waiting → HasSent e none_failed (held_in start) (held_in next) put
-  some_have e none_failed fails = subst (λ (x : RunFault). HasSent x none_failed (held_in start) (held_in next) put) (sym fails.is)
+  pub some_have : (e : RunFault) → FailsToSend e now next waiting → HasSent e (held_in start) (held_in next) put
+  some_have e fails = subst (λ (x : RunFault). HasSent x (held_in start) (held_in next) put) (sym fails.is)
       (λ file. left_up_to _ _ _ _ (went file) (order file fails.failed) fails.count (next file) (fails.left file))
-
-  -- what waited was sent, as far as no writer failed
-  sending_parts : IsSendingOf now next waiting → (bytes : Bytes) → ((file : OutputFile) → BeginsWith (bytes_for file bytes) (bytes_for file put)) → HaveParts (held_in start) (held_in next) bytes
-  sending_parts (Ok x, all) bytes begins file = waiting_sent _ _ _ _ (went file) (next file).has (bytes_for file bytes) (begins file) (all file).out
-  sending_parts (Err e, fails) bytes begins file = each_part e fails bytes begins file
-
-  sending_all : IsSendingOf now next waiting → ((file : OutputFile) → (next file).faults ≡ (start file).faults) → HaveAll (held_in start) (held_in next) put
-  sending_all (Ok x, all) none file = rest_sent _ _ _ _ (went file) (next file).has (all file).out
-  sending_all (Err e, fails) none file = absurd (let one = (own_left e fails).faults in let same = none fails.failed in let before = (went fails.failed).faults in omega (arith, one, same, before))
 
   -- a cycle wasn't done
   pub stop_parts : (fault : CycleFault) (cycles : ℕ) (e : RunFault) → StopsWith fault cycles now next waiting e → LeavesParts e put (held_in start) (held_in next)
-  stop_parts stops.NoMemory cycles e (is, sends) bytes begins = subst (λ (x : RunFault). HasParts x (held_in start) (held_in next) bytes) (sym is) (sending_parts sends bytes begins)
+  stop_parts stops.NoMemory cycles e (inl (is, all)) bytes begins = subst (λ (x : RunFault). HasParts x (held_in start) (held_in next) bytes) (sym is)
+      (λ file. waiting_sent _ _ _ _ (went file) (next file).has (bytes_for file bytes) (begins file) (all file).out)
+  stop_parts stops.NoMemory cycles e (inr fails) bytes begins = some_parts e fails bytes begins
   stop_parts (stops.Read f w) cycles e (is, same) bytes begins = subst (λ (x : RunFault). HasParts x (held_in start) (held_in next) bytes) (sym is)
       (λ file. still_sent _ _ _ _ (went file) (next file).has (bytes_for file bytes) (begins file) (ap (λ (x : FileState). x.has) (same file)))
 
   pub stop_has : (fault : CycleFault) (cycles : ℕ) (e : RunFault) → StopsWith fault cycles now next waiting e
-      → HasSent e ((file : OutputFile) → (next file).faults ≡ (start file).faults) (held_in start) (held_in next) put
-  stop_has stops.NoMemory cycles e (is, sends) = subst (λ (x : RunFault). HasSent x ((file : OutputFile) → (next file).faults ≡ (start file).faults) (held_in start) (held_in next) put) (sym is)
-      (sending_parts sends put (λ file. begins_whole (bytes_for file put)), sending_all sends)
-  stop_has (stops.Read f w) cycles e (is, same) = subst (λ (x : RunFault). HasSent x ((file : OutputFile) → (next file).faults ≡ (start file).faults) (held_in start) (held_in next) put) (sym is) tt
+      → HasSent e (held_in start) (held_in next) put
+  stop_has stops.NoMemory cycles e (inl (is, all)) = subst (λ (x : RunFault). HasSent x (held_in start) (held_in next) put) (sym is)
+      (λ file. rest_sent _ _ _ _ (went file) (next file).has (all file).out)
+  stop_has stops.NoMemory cycles e (inr fails) = some_have e fails
+  stop_has (stops.Read f w) cycles e (is, same) = subst (λ (x : RunFault). HasSent x (held_in start) (held_in next) put) (sym is) tt
 
   -- the fault reports the cycles that were done
   pub stop_counts : (fault : CycleFault) (cycles : ℕ) (e : RunFault) → StopsWith fault cycles now next waiting e → CountsCycles e cycles
-  stop_counts stops.NoMemory cycles e (is, sends) n counted = let same : faults.NoMemory cycles ≡ faults.NoMemory n = sym is ∙ counted in cc
+  stop_counts stops.NoMemory cycles e (inr fails) n counted = writers_count e cycles (writers_of e now next waiting fails) n counted
+  stop_counts stops.NoMemory cycles e (inl (is, all)) n counted = let same : faults.NoMemory cycles ≡ faults.NoMemory n = sym is ∙ counted in cc
   stop_counts (stops.Read f w) cycles e (is, same) n counted = absurd (let never : faults.Read f w ≡ faults.NoMemory n = sym is ∙ counted in cc)
 
   -- where a reader failed nothing waited
@@ -484,7 +480,8 @@ module _ (start now next : States) (waiting put : Bytes) (went : (file : OutputF
         → (none : TakesNone remaining others job primary secondary fault primary' secondary')
         → ((file : InputFile) (why : ReadFault) → fault ≡ stops.Read file why → waiting ≡ no_bytes) → (file : InputFile) (why : ReadFault) → e ≡ faults.Read file why
         → (let moved = moved_by remaining others job primary primary' secondary secondary' fault none in ReadFails job file why s.since t.since moved.0 moved.1 put (held_in start) (held_in next))
-    stop_needs stops.NoMemory cycles e stop none waits file why read = absurd (let never : faults.NoMemory cycles ≡ faults.Read file why = sym stop.0 ∙ read in cc)
+    stop_needs stops.NoMemory cycles e (inl (is, all)) none waits file why read = absurd (let never : faults.NoMemory cycles ≡ faults.Read file why = sym is ∙ read in cc)
+    stop_needs stops.NoMemory cycles e (inr fails) none waits file why read = absurd (writers_read e (writers_of e now next waiting fails) file why read)
     stop_needs (stops.Read f w) cycles e stop none waits file why read =
         let fails = reading_fails remaining others job primary primary' secondary secondary' given beside s t limit put (held_in start) (held_in next)
         (λ file. subst (λ (x : Option (List ℕ)). Appends (start file).has x (bytes_for file put)) (ap (λ (x : FileState). x.has) (sym (stop.1 file)))

@@ -1,5 +1,5 @@
 -- Whose fault it was that a run stopped.
-use Rattle.std.proofs.Common.{◌≡◌, ℕ, ◌⊎◌, ◌+◌, ◌<◌, Bool, List, length, Option, Result, Ok, Err, refl, sym, ap, ◌∙◌, subst, arith, inl, inr}
+use Rattle.std.proofs.Common.{◌≡◌, ℕ, ◌+◌, ◌<◌, Bool, List, length, Option, Result, Ok, Err, refl, sym, ap, ◌∙◌, subst, arith, inl, inr}
 use Rattle.std.specs.declared.cmp.Ordering.{Ordering}
 use Rattle.std.specs.declared.cmp.Ordering.TheVariants.{Less, Equal, Greater}
 use Rattle.rpg_cycle.specs.Job.{AtWork, job_needs_record}
@@ -20,7 +20,7 @@ use Rattle.rpg_engine.specs.Faults.{Counts, Device, FaultsAre, NoneRises, OnlyRi
 use Rattle.rpg_engine.specs.Inputs.{HasTooMany, OfInputs}
 use Rattle.rpg_engine.specs.Outputs.{bytes_for, order}
 use Rattle.rpg_engine.specs.Refusing.{start_fault}
-use Rattle.rpg_engine.specs.Sending.{FailsToSend, FileState, IsFileAfterFault, IsSendingOf, States, StopsWith}
+use Rattle.rpg_engine.specs.Sending.{FailsToSend, FileState, IsFileAfterFault, States, StopsWith}
 use Rattle.rpg_engine.specs.Streaming.{HasAnswered, TakesNone}
 use Rattle.rpg_engine.specs.declared.fault.CycleFault.{CycleFault}
 use Rattle.rpg_engine.specs.declared.fault.CycleFault.TheVariants as stops
@@ -81,13 +81,6 @@ pub some_faults : (e : RunFault) (now next : States) (bytes : Bytes) (given left
 some_faults e now next bytes given left others rest old new X f primary secondary was is =
     subst (λ (x : RunFault). FaultsAre {X = X} (Err x) given left others rest old new) (sym f.is) (one_rises e now next bytes old new f primary secondary was is)
 
--- memory ran out
-wanting_faults : (now next : States) (bytes : Bytes) (old new : Counts) → IsSendingOf now next bytes → new (Reader Primary) ≡ old (Reader Primary) → new (Reader Secondary) ≡ old (Reader Secondary)
-    → ((file : OutputFile) → (now file).faults ≡ old (Writer file)) → ((file : OutputFile) → new (Writer file) ≡ (next file).faults)
-    → NoneRises old new ⊎ ((file : OutputFile) × OnlyRises (Writer file) old new)
-wanting_faults now next bytes old new (Ok x, all) primary secondary was is = inl (none_rises old new primary secondary (λ file. is file ∙ (all file).faults ∙ was file))
-wanting_faults now next bytes old new (Err e, f) primary secondary was is = inr (f.failed, one_rises e now next bytes old new f primary secondary was is)
-
 module _ {R S : Type 0} (remaining : R → Option (List ℕ)) (beside : S → Option (List ℕ)) (primary primary' : RecordReader R) (secondary secondary' : RecordReader S)
     (given others : Option (List ℕ)) (s : Stands given (source_of remaining primary)) (t : Stands others (source_of beside secondary)) where
   primary_has : ReadsNext remaining primary (Err reading.TooMany) primary' → Moves (input_of beside secondary) (input_of beside secondary')
@@ -126,22 +119,29 @@ module _ {R S : Type 0} (remaining : R → Option (List ℕ)) (beside : S → Op
       secondary_has (moved_by remaining beside job primary primary' secondary secondary' (stops.Read Secondary reading.TooMany) none).0 none.1.1,
     )
 
+    -- memory ran out after both readers returned
+    read_primary : TakesNone remaining beside job primary secondary stops.NoMemory primary' secondary' → new (Reader Primary) ≡ old (Reader Primary)
+    read_primary none = is_primary ∙ answered_faults remaining (job_needs_record job Primary) primary primary' none.0 ∙ was_primary
+
+    read_secondary : TakesNone remaining beside job primary secondary stops.NoMemory primary' secondary' → new (Reader Secondary) ≡ old (Reader Secondary)
+    read_secondary none = is_secondary ∙ answered_faults beside (job_needs_record job Secondary) secondary secondary' none.1 ∙ was_secondary
+
     pub stop_faults : (fault : CycleFault) (cycles : ℕ) (e : RunFault) (now next : States) (bytes : Bytes) (X : Type 0) → TakesNone remaining beside job primary secondary fault primary' secondary'
         → StopsWith fault cycles now next bytes e → ((file : OutputFile) → (now file).faults ≡ old (Writer file)) → ((file : OutputFile) → new (Writer file) ≡ (next file).faults)
         → FaultsAre {X = X} (Err e) given (input_of remaining primary').remaining others (input_of beside secondary').remaining old new
     stop_faults (stops.Read file why) cycles e now next bytes X none (reported, same) was is =
         subst (λ (x : RunFault). FaultsAre {X = X} (Err x) given (input_of remaining primary').remaining others (input_of beside secondary').remaining old new) (sym reported)
         (reading_faults file why X none (λ f. is f ∙ ap (λ (x : FileState). x.faults) (same f) ∙ was f))
-    stop_faults stops.NoMemory cycles e now next bytes X none (reported, sends) was is =
-        let read = is_primary ∙ answered_faults remaining (job_needs_record job Primary) primary primary' none.0 ∙ was_primary in
-        let read_too = is_secondary ∙ answered_faults beside (job_needs_record job Secondary) secondary secondary' none.1 ∙ was_secondary in
+    stop_faults stops.NoMemory cycles e now next bytes X none (inl (reported, all)) was is =
         subst (λ (x : RunFault). FaultsAre {X = X} (Err x) given (input_of remaining primary').remaining others (input_of beside secondary').remaining old new) (sym reported)
-        (wanting_faults now next bytes old new sends read read_too was is)
+        (none_rises old new (read_primary none) (read_secondary none) (λ f. is f ∙ (all f).faults ∙ was f))
+    stop_faults stops.NoMemory cycles e now next bytes X none (inr fails) was is =
+        some_faults e now next bytes given (input_of remaining primary').remaining others (input_of beside secondary').remaining old new X fails (read_primary none) (read_secondary none) was is
 
 -- a job that never began
 pub start_faults : (fault : StartFault) (given left others rest : Option (List ℕ)) (c : Counts) (X : Type 0) → FaultsAre {X = X} (Err (start_fault fault)) given left others rest c c
 start_faults starting.BadDate given left others rest c X = λ device. refl
-start_faults starting.NoMemory given left others rest c X = inl (λ device. refl)
+start_faults starting.NoMemory given left others rest c X = λ device. refl
 
 -- the same readers, whatever they are called
 pub same_fault : {R S P D X : Type 0} (remaining : R → Option (List ℕ)) (others : S → Option (List ℕ)) (a a' c c' : Counted R) (b b' d d' : Counted S) (before after : Writers P D) (result : Result X RunFault)

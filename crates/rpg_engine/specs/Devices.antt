@@ -31,10 +31,6 @@ pub record CanCountFaults {R S P D : Type 0} (readers : Readers R S) (writers : 
 abbrev pub both : {R S : Type 0} → Counted R → Counted S → Readers R S
 both primary secondary = record { primary = primary; secondary = secondary }
 
--- no call of a writer failed
-abbrev pub NoneFailed : {P D : Type 0} → (before after : Writers P D) → Type 0
-NoneFailed before after = (file : OutputFile) → write_faults after file ≡ write_faults before file
-
 module _ {R S : Type 0} (remaining : R → Option (List ℕ)) (others : S → Option (List ℕ)) where
   -- Fact holds of any two inputs that begin with what was read from both readers.
   abbrev pub OfReaders : (old new : Readers R S) → (List ℕ → List ℕ → Type 0) → Type 0

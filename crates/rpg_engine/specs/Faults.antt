@@ -1,5 +1,5 @@
 -- Which device is to blame if a run gave no report.
-use Rattle.std.specs.Prelude.{◌≡◌, ℕ, ◌+◌, ◌⊎◌, List, Option, Result, Err}
+use Rattle.std.specs.Prelude.{◌≡◌, ℕ, ◌+◌, List, Option, Result, Err}
 use Rattle.rpg_program.specs.declared.input.InputFile.{InputFile}
 use Rattle.rpg_program.specs.declared.input.InputFile.TheVariants.{Primary, Secondary}
 use Rattle.rpg_files.specs.Counting.{faults_of}
@@ -40,12 +40,11 @@ NoneRises old new = (device : Device) → new device ≡ old device
 abbrev pub OnlyRises : (failed : Device) → (old new : Counts) → Type 0
 OnlyRises failed old new = (new failed ≡ old failed + 1) × ((device : Device) → (device ≡ failed → ⊥) → new device ≡ old device)
 
--- A device's fault is reported exactly if its count rose by one, and too many records of a file only if its bytes have them. If memory ran
--- out, a writer may have failed while sending what was left, which isn't reported. No other count rises.
+-- A device's fault is reported exactly if its count rose by one, and too many records of a file only if its bytes have them. No other
+-- count rises, so running out of memory is never reported for a device that failed.
 abbrev pub FaultsAre : {X : Type 0} → Result X RunFault → (given left others rest : Option (List ℕ)) → (old new : Counts) → Type 0
 FaultsAre (Err (faults.Write file sent)) given left others rest old new = OnlyRises (Writer file) old new
 FaultsAre (Err (faults.Read file reading.Device)) given left others rest old new = OnlyRises (Reader file) old new
 FaultsAre (Err (faults.Read file reading.TooMany)) given left others rest old new =
     NoneRises old new × OfInputs given left others rest (λ primary secondary. HasTooMany (bytes_of_input file primary secondary))
-FaultsAre (Err (faults.NoMemory cycles)) given left others rest old new = NoneRises old new ⊎ ((file : OutputFile) × OnlyRises (Writer file) old new)
 FaultsAre result given left others rest old new = NoneRises old new

@@ -123,19 +123,18 @@ HasUpTo Less sent before after bytes = Appends before after bytes
 HasUpTo Equal sent before after bytes = AppendsFirst before after sent bytes × (sent < length bytes)
 HasUpTo Greater sent before after bytes = AppendsPrefix before after bytes
 
--- The files are sent these bytes in order, up to the one whose writer failed. If memory ran out each has them, unless a writer failed while
--- sending them.
-abbrev pub HasSent : RunFault → (none_failed : Type 0) → (before after : Contents) → Bytes → Type 0
-HasSent (faults.Write failed sent) none_failed before after bytes = (file : OutputFile) → HasUpTo (order file failed) sent (before file) (after file) (bytes_for file bytes)
-HasSent (faults.NoMemory cycles) none_failed before after bytes = HaveParts before after bytes × (none_failed → HaveAll before after bytes)
-HasSent e none_failed before after bytes = Unit {0}
+-- The files are sent these bytes in order, up to the one whose writer failed. If memory ran out each has all of them.
+abbrev pub HasSent : RunFault → (before after : Contents) → Bytes → Type 0
+HasSent (faults.Write failed sent) before after bytes = (file : OutputFile) → HasUpTo (order file failed) sent (before file) (after file) (bytes_for file bytes)
+HasSent (faults.NoMemory cycles) before after bytes = HaveAll before after bytes
+HasSent e before after bytes = Unit {0}
 
 -- of the run over the inputs' records each writer has a prefix, of what was output by the end of a cycle
-pub record StopsOver (p : Object) (day : ℤ) (e : RunFault) (none_failed : Type 0) (before after : Contents) (primary secondary : List ℕ) : Type 0 where
+pub record StopsOver (p : Object) (day : ℤ) (e : RunFault) (before after : Contents) (primary secondary : List ℕ) : Type 0 where
   pub parts : SendsFirstParts p day e before after primary secondary
   pub bytes : Bytes
   pub write_line_out : MayBeOutput e p day primary secondary bytes
-  pub sent : HasSent e none_failed before after bytes
+  pub sent : HasSent e before after bytes
 
 -- ---- a reader that failed
 
@@ -180,7 +179,7 @@ pub record NeedsRecord (p : Object) (day : ℤ) (file : InputFile) (fault : Read
 
 -- there is a run over the inputs' records, and each writer has such prefixes of its bytes; if a reader failed, the job waited for its
 -- record
-pub record SendsParts (p : Object) (day : ℤ) (e : RunFault) (none_failed : Type 0) (before after : Contents) (a b : Front) : Type 0 where
+pub record SendsParts (p : Object) (day : ℤ) (e : RunFault) (before after : Contents) (a b : Front) : Type 0 where
   pub run : OfEach a b (λ primary secondary. HasRun p day (first_fields p) (records_of primary secondary))
-  pub stops : OfEach a b (StopsOver p day e none_failed before after)
+  pub stops : OfEach a b (StopsOver p day e before after)
   pub needs : (file : InputFile) (fault : ReadFault) → e ≡ faults.Read file fault → NeedsRecord p day file fault before after a b

@@ -3,7 +3,7 @@ use Rattle.std.specs.Prelude.{◌≡◌, ℕ, ℤ, List, None, Option, Some, Res
 use Rattle.rpg_cycle.specs.Starting.{date_in}
 use Rattle.rpg_files.specs.declared.counting.Counted.{Counted}
 use Rattle.rpg_program.specs.Object.{Object}
-use Rattle.rpg_engine.specs.Devices.{Lent, NoneFailed, OfRead, OfReaders, OfWriters, both}
+use Rattle.rpg_engine.specs.Devices.{Lent, OfRead, OfReaders, OfWriters, both}
 use Rattle.rpg_engine.specs.Objects.{SpellsProgram}
 use Rattle.rpg_engine.specs.Refusing.{IsJobOf, IsReportOf, IsReportOfDate, MayRun}
 use Rattle.rpg_engine.specs.Reporting.{JobEndsWell, Reports, SendsParts}
@@ -19,7 +19,7 @@ module _ {R S P D : Type 0} (remaining : R → Option (List ℕ)) (others : S �
 
   -- Each writer has a prefix of that run's output, and if a reader failed, the job waited for its record.
   abbrev pub SendsPartsOfRun : Object → ℤ → (old new : Readers R S) → (before after : Writers P D) → RunFault → Type 0
-  SendsPartsOfRun p day old new before after e = OfRead remaining others old new (OfWriters contents stored before after (SendsParts p day e (NoneFailed before after)))
+  SendsPartsOfRun p day old new before after e = OfRead remaining others old new (OfWriters contents stored before after (SendsParts p day e))
 
   -- what holds of the run of a program on a day
   pub record RunsOnDay (p : Object) (day : ℤ) (old new : Readers R S) (before after : Writers P D) (result : Result Report RunFault) : Type 0 where
@@ -29,7 +29,7 @@ module _ {R S P D : Type 0} (remaining : R → Option (List ℕ)) (others : S �
     pub report : IfOk result (ReportsRun p day old new before after)
     -- If it stops early, each writer has a prefix of the run's output, the printer's before the disk file's; if a reader failed, the job
     -- had sent all its output, and waited for a record of that reader's file; and if memory ran out, each writer has the output of as many
-    -- cycles as the fault reports, unless one failed while it was sent.
+    -- cycles as the fault reports.
     pub early : IfErr result (SendsPartsOfRun p day old new before after)
 
   -- what holds of the run of an accepted program on the day that a date spells

@@ -15,7 +15,7 @@ use Rattle.rpg_files.specs.declared.reader.ReadFault.{ReadFault}
 use Rattle.rpg_files.specs.declared.reader.RecordReader.{RecordReader}
 use Rattle.rpg_program.specs.Object.{Object}
 use Rattle.rpg_verify.specs.Bound.{bound}
-use Rattle.rpg_engine.specs.Devices.{Lent, NoneFailed, OfRead, OfWriters, readers_of}
+use Rattle.rpg_engine.specs.Devices.{Lent, OfRead, OfWriters, readers_of}
 use Rattle.rpg_engine.specs.Inputs.{Front, OfEach}
 use Rattle.rpg_engine.specs.Outputs.{Contents}
 use Rattle.rpg_engine.specs.Reporting.{NeedsRecord, StopsOver}
@@ -104,8 +104,8 @@ TakesNone remaining others job primary secondary stops.NoMemory primary' seconda
 -- ---- where the run stops
 
 -- a run stopped early: each writer has such prefixes of its output, and if a reader failed, the job waited for its record
-pub record StopsEarly (p : Object) (day : ℤ) (e : RunFault) (none_failed : Type 0) (before after : Contents) (a b : Front) : Type 0 where
-  pub stops : OfEach a b (StopsOver p day e none_failed before after)
+pub record StopsEarly (p : Object) (day : ℤ) (e : RunFault) (before after : Contents) (a b : Front) : Type 0 where
+  pub stops : OfEach a b (StopsOver p day e before after)
   pub needs : (file : InputFile) (fault : ReadFault) → e ≡ faults.Read file fault → NeedsRecord p day file fault before after a b
 
 -- a fault of a run that has begun
@@ -127,4 +127,4 @@ module _ {R S P D : Type 0} (remaining : R → Option (List ℕ)) (others : S �
   abbrev pub StopsFrom : AtWork → Lent (RecordReader R) → Lent (RecordReader S) → Lent (Writers P D) → RunFault → Type 0
   StopsFrom job primary secondary writers e = (day : ℤ) → job ≡ job_started job.program day (first_fields job.program)
       → OfRead remaining others (readers_of primary.entry.now secondary.entry.now) (readers_of primary.exit.now secondary.exit.now)
-      (OfWriters contents stored writers.entry.now writers.exit.now (StopsEarly job.program day e (NoneFailed writers.entry.now writers.exit.now)))
+      (OfWriters contents stored writers.entry.now writers.exit.now (StopsEarly job.program day e))

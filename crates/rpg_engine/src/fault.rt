@@ -21,7 +21,7 @@ pub enum RunFault {
     Read { file: InputFile, fault: ReadFault },
     /// The writer of a file failed after this many bytes were written to it.
     Write { file: OutputFile, sent: u128 },
-    /// Memory ran out after this many complete cycles. Their output was sent, unless a writer failed while sending it.
+    /// Memory ran out after this many complete cycles. All their output was sent.
     NoMemory { cycles: u64 },
 }
 

@@ -4,7 +4,7 @@ ghost use Rattle.std.specs.Prelude.{◌≡◌, ◌-◌, ◌^◌, ◌<◌, ◌≤
 ghost use Rattle.rpg_machine.specs.Running.{no_bytes};
 ghost use Rattle.rpg_files.specs.Counting.{faults_of};
 ghost use Rattle.rpg_engine.specs.Outputs.{bytes_with};
-ghost use Rattle.rpg_engine.specs.Sending.{CanSend, SendsTo, SendsToFile, SendsUnlessTo, SendsWaitingTo, StopsWithTo, state_of, waiting_bytes};
+ghost use Rattle.rpg_engine.specs.Sending.{CanSend, SendsTo, SendsToFile, SendsWaitingTo, StopsWithTo, state_of, waiting_bytes};
 ghost use Rattle.rpg_engine.specs.Streaming.{CannotFailIfNeeded};
 
 use crate::fault::{CycleFault, RunFault};
@@ -168,21 +168,8 @@ pub(crate) fn send_where_enough<S: Store + Drop, W1: Write, W2: Write, W: Watche
     look_and_send(job, ended, watcher, writers, sent)
 }
 
-/// Sends bytes to the printer, then, unless the printer fails, bytes to the disk file. Failures are ignored.
-fn send_or_leave<W1: Write, W2: Write>(
-    writers: &mut Writers<W1, W2>,
-    lines: &[u8],
-    records: &[u8],
-    mut sent: Sent,
-)
-    requires ready { CanSend writers.old sent }
-    ensures { SendsUnlessTo W1.contents W2.contents writers sent (bytes_with lines.now records.now) }
-{
-    let _reported = send_both(writers, lines, records, &mut sent);
-}
-
 /// Returns the fault to report after `cycles` complete cycles. If memory ran out, what was buffered before that cycle is still sent, and a
-/// writer that fails then isn't reported: memory ran out first. If a reader failed, nothing was buffered.
+/// writer that fails then is reported instead. If a reader failed, nothing was buffered.
 #[inline(never)]
 pub(crate) fn fault_after<W1: Write, W2: Write>(
     fault: CycleFault,
@@ -190,7 +177,7 @@ pub(crate) fn fault_after<W1: Write, W2: Write>(
     writers: &mut Writers<W1, W2>,
     output: &Output,
     waiting: Waiting,
-    sent: Sent,
+    mut sent: Sent,
 ) -> RunFault
     requires ready { CanSend writers.old sent }
     requires lines { waiting.print ≤ length output.now.print.items }
@@ -202,8 +189,10 @@ pub(crate) fn fault_after<W1: Write, W2: Write>(
         CycleFault::Read { file, fault } => RunFault::Read { file, fault },
         CycleFault::NoMemory => {
             let (lines, records) = (&output.print[..waiting.print], &output.disk[..waiting.disk]);
-            send_or_leave(writers, lines, records, sent);
-            RunFault::NoMemory { cycles }
+            match send_both(writers, lines, records, &mut sent) {
+                Ok(()) => RunFault::NoMemory { cycles },
+                Err(fault) => fault,
+            }
         }
     }
 }

@@ -39,11 +39,11 @@ module _ (p : Object) (cards : List SpecCard) (allowance : ℕ) (day : ℤ) (giv
   prints_of each (Err e) h = tt
 
   -- by one that stopped early
-  pub stops_of : (none_failed : Type 0) → ((e : RunFault) (primary secondary : List ℕ) → SendsFirstParts p day e before after primary secondary → SendsPartsAsMeant cards allowance day e before after primary secondary)
-      → (r : Result Report RunFault) → IfErr r (λ e. OfFronts given left others rest (SendsParts p day e none_failed before after))
+  pub stops_of : ((e : RunFault) (primary secondary : List ℕ) → SendsFirstParts p day e before after primary secondary → SendsPartsAsMeant cards allowance day e before after primary secondary)
+      → (r : Result Report RunFault) → IfErr r (λ e. OfFronts given left others rest (SendsParts p day e before after))
       → IfErr r (λ e. OfInputs given left others rest (SendsPartsAsMeant cards allowance day e before after))
-  stops_of none_failed each (Ok report) h = tt
-  stops_of none_failed each (Err e) o = record {
+  stops_of each (Ok report) h = tt
+  stops_of each (Err e) o = record {
     primary = o.primary;
     secondary = o.secondary;
     fact = λ more following can can_too. each e (o.primary.read ++ more) (o.secondary.read ++ following) (let stops = o.fact.stops more following can can_too in stops.parts);

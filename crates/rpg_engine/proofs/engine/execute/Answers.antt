@@ -15,8 +15,8 @@ returns-in_err-program-clause-runs g c =
       run = λ p day job. record {
         headline = tt;
         report = tt;
-        early = with_run p day (λ rs. c.runs_end_well.ensures.exists p c.args.date.now day rs job.spells.program job.accepted job.dated) _ _ _ _ _ _ _ _
-            (object_refused _ _ _ _ _ c.args.object.now p day c.in_err-program.ensures.refused);
+        early = with_run p day (λ rs. c.runs_end_well.ensures.exists p c.args.date.now day rs job.spells.program job.accepted job.dated) _ _ _ _ _ _ _
+            (object_refused _ _ _ _ c.args.object.now p day c.in_err-program.ensures.refused);
       };
     })
 

@@ -1,4 +1,4 @@
-use Rattle.std.proofs.Common.{◌≡◌, Err, ap, inl, refl, rules, sym, ◌∙◌}
+use Rattle.std.proofs.Common.{◌≡◌, Err, ap, refl, rules, sym, ◌∙◌}
 use Rattle.std.proofs.lemmas.Result.{err_from_is_err_and}
 use Rattle.rpg_cycle.specs.Job.{AtWork}
 use Rattle.rpg_files.specs.Counting.{device_of}
@@ -22,7 +22,7 @@ returns-in_err-job-clause-runs g c =
         headline = tt;
         report = tt;
         early = with_run c.args.program.now day (λ rs. c.runs_end_well.ensures.exists c.args.program.now c.args.date.now day rs c.program.ensures.program c.program.ensures.accepted dated)
-            _ _ _ _ _ _ _ _ (not_started _ _ _ _ _ c.args.program.now day);
+            _ _ _ _ _ _ _ (not_started _ _ _ _ c.args.program.now day);
       };
     })
 
@@ -37,7 +37,7 @@ returns-in_err-primary_room-clause-runs g c =
         headline = tt;
         report = tt;
         early = with_run c.args.program.now day (λ rs. c.runs_end_well.ensures.exists c.args.program.now c.args.date.now day rs c.program.ensures.program c.program.ensures.accepted dated)
-            _ _ _ _ _ _ _ _ (no_room _ _ _ _ c.args.program.now day);
+            _ _ _ _ _ _ _ (no_room _ _ _ c.args.program.now day);
       };
     })
 
@@ -52,7 +52,7 @@ returns-in_err-secondary_room-clause-runs g c =
         headline = tt;
         report = tt;
         early = with_run c.args.program.now day (λ rs. c.runs_end_well.ensures.exists c.args.program.now c.args.date.now day rs c.program.ensures.program c.program.ensures.accepted dated)
-            _ _ _ _ _ _ _ _ (no_room _ _ _ _ c.args.program.now day);
+            _ _ _ _ _ _ _ (no_room _ _ _ c.args.program.now day);
       };
     })
 
@@ -64,12 +64,12 @@ returns-in_err-job-clause-faults g c =
 pub returns-in_err-primary_room-clause-faults : goal.returns-in_err-primary_room-clause-faults
 returns-in_err-primary_room-clause-faults g c =
     let e = err_from_is_err_and c.from_residual-in_err-primary_room.result c.from_residual-in_err-primary_room.ensures.1 in
-    rw (e.1, e.2) (inl (λ device. refl))
+    rw (e.1, e.2) (λ device. refl)
 
 pub returns-in_err-secondary_room-clause-faults : goal.returns-in_err-secondary_room-clause-faults
 returns-in_err-secondary_room-clause-faults g c =
     let e = err_from_is_err_and c.from_residual-in_err-secondary_room.result c.from_residual-in_err-secondary_room.ensures.1 in
-    rw (e.1, e.2) (inl (λ device. refl))
+    rw (e.1, e.2) (λ device. refl)
 
 -- ---- the readers end as the run left them
 
@@ -89,7 +89,7 @@ returns-clause-runs g c =
           (on_ok ran.result _ _ (λ report holds. reports_same c.args.date.now c.args.program.now day c.in_ok-job.job _ _ _ _ _ _ _ _ _ _ report
           (ap (λ x. g.R1.Read.remaining (device_of x)) c.new-records.ensures.untouched) (ap (λ x. g.R1.Read.remaining (device_of x)) same)
           (ap (λ x. g.R2.Read.remaining (device_of x)) c.new-others.ensures.untouched) (ap (λ x. g.R2.Read.remaining (device_of x)) same_too) holds start dated) ran.ensures.report)
-          (on_err ran.result _ _ (λ e holds. parts_same c.args.date.now c.args.program.now day c.in_ok-job.job _ _ _ _ _ _ _ _ _ _ e _
+          (on_err ran.result _ _ (λ e holds. parts_same c.args.date.now c.args.program.now day c.in_ok-job.job _ _ _ _ _ _ _ _ _ _ e
           (ap (λ x. g.R1.Read.remaining (device_of x)) c.new-records.ensures.untouched) (ap (λ x. g.R1.Read.remaining (device_of x)) same)
           (ap (λ x. g.R2.Read.remaining (device_of x)) c.new-others.ensures.untouched) (ap (λ x. g.R2.Read.remaining (device_of x)) same_too) holds start dated) ran.ensures.early);
     }

@@ -64,8 +64,8 @@ returns-in_err-send_before_reading-clause-early g c =
     let writers = writers_of _ _ _ _ fails in
     let a = source_of g.R1.Read.remaining c.cycles.primary in
     let b = source_of g.R2.Read.remaining c.cycles.secondary in
-    rw (e.1, e.2) (stopped_between c.args.job.now c.cycles.job _ _ a b a.input b.input c.cycles.cycles c.cycles.most f.streams (stays_there a.input) (stays_there b.input) _ _ _ _
-    (writers_count _ _ writers) (some_parts _ _ _ _ _ f.sent _ fails) (some_have _ _ _ _ _ f.sent _ _ fails) (λ file why read. absurd (writers_read _ writers file why read)))
+    rw (e.1, e.2) (stopped_between c.args.job.now c.cycles.job _ _ a b a.input b.input c.cycles.cycles c.cycles.most f.streams (stays_there a.input) (stays_there b.input) _ _ _
+    (writers_count _ _ writers) (some_parts _ _ _ _ _ f.sent _ fails) (some_have _ _ _ _ _ f.sent _ fails) (λ file why read. absurd (writers_read _ writers file why read)))
 
 pub returns-in_err-send_before_reading-clause-only : goal.returns-in_err-send_before_reading-clause-only
 returns-in_err-send_before_reading-clause-only g c =
@@ -117,7 +117,7 @@ returns-in-Err-clause-early g c =
     let lines = front_is job.output.print c.next_cycle.new.job.output.print grows.more.print c.waiting_in-waiting.result.print grows.print (c.waiting_in-waiting.ensures.print ∙ ap length c.output.ensures.print) in
     let records = front_is job.output.disk c.next_cycle.new.job.output.disk grows.more.disk c.waiting_in-waiting.result.disk grows.disk (c.waiting_in-waiting.ensures.disk ∙ ap length c.output.ensures.disk) in
     let stop = rw (lines, records) at (rw (c.output-in-Err.ensures.print, c.output-in-Err.ensures.disk) at c.fault_after.ensures.1) in
-    stopped_between c.args.job.now job _ _ a b _ _ c.cycles.cycles c.cycles.most s moved.0 moved.1 _ _ _ _
+    stopped_between c.args.job.now job _ _ a b _ _ c.cycles.cycles c.cycles.most s moved.0 moved.1 _ _ _
     (stop_counts _ _ _ _ _ f.sent c.in-Err.fault _ _ stop)
     (stop_parts _ _ _ _ _ f.sent c.in-Err.fault _ _ stop)
     (stop_has _ _ _ _ _ f.sent c.in-Err.fault _ _ stop)
@@ -164,8 +164,8 @@ returns-in_err-send_where_enough-clause-early g c =
     (takes_next g.R1.Read.remaining g.R2.Read.remaining job mid c.cycles.primary c.next_cycle.new.primary c.cycles.secondary c.next_cycle.new.secondary _
     (ready_still c.cycles.job job sends.rest c.cycles.primary c.cycles.secondary c.cycles.invariant.ready) c.in-Ok.ensures.cycle s.earlier s.left s.orderly (last_position s.out.lines) s.last) in
     let fails = c.in_err-send_where_enough.ensures.sends in
-    rw (e.1, e.2) (stopped_after c.args.job.now job mid _ _ a b a' b' c.cycles.cycles c.cycles.most _ _ k.ending _ _ s k.takes
-    (some_parts _ _ _ _ _ k.sent _ fails) (some_have _ _ _ _ _ k.sent _ _ fails) (writers_of _ _ _ _ fails))
+    rw (e.1, e.2) (stopped_after c.args.job.now job mid _ _ a b a' b' c.cycles.cycles c.cycles.most _ k.ending _ _ s k.takes
+    (some_parts _ _ _ _ _ k.sent _ fails) (some_have _ _ _ _ _ k.sent _ fails) (writers_of _ _ _ _ fails))
 
 pub returns-in_err-send_where_enough-clause-only : goal.returns-in_err-send_where_enough-clause-only
 returns-in_err-send_where_enough-clause-only g c =

@@ -18,7 +18,7 @@ returns-clause-runs g c =
           (λ report primary secondary. law.prints source.text.items source.allowance source.program c.program.ensures.program compiled c.args.date.now day dated report _ _ primary secondary)
           c.watch_program.result on.report;
       stops = λ day dated. let on = ran.run day dated in
-          stops_of source.program (cards_in source.text.items) source.allowance day _ _ _ _ _ _ _
+          stops_of source.program (cards_in source.text.items) source.allowance day _ _ _ _ _ _
           (λ e primary secondary. law.parts source.text.items source.allowance source.program c.program.ensures.program compiled c.args.date.now day dated e _ _ primary secondary)
           c.watch_program.result on.early;
     }
