@@ -1,11 +1,11 @@
 #!/usr/bin/env python3
 """Prints where the instructions of a record go, by callgrind.
 
-usage: bench/profile.py total|sales [FUNCTION]        RPG2 names the program
+usage: bench/profile.py JOB [FUNCTION]        RPG2 names the program
 
 Without FUNCTION it prints the instructions a record of each function itself, without those that it calls; with it, of each address in the
-functions whose names have that text, next to the disassembly. A count is the difference between runs over 2,000 and 4,000 records of a job
-of bench/running.py, divided by 2,000; so what is done once drops out.
+functions whose names have that text, next to the disassembly. A count is the difference between the runs of a job of bench/running.py over
+few and more records, divided by theirs; so what is done once drops out.
 """
 
 import os
@@ -33,17 +33,18 @@ def add_lines(report, sign, counts):
             is_call = False
 
 
-def counts_of(program, few, more, folder):
+def counts_of(job, folder):
     """Instructions a record, by function and address."""
     counts = {}
-    for source, sign in ((more, 1), (few, -1)):
+    for inputs, sign in ((job.more, 1), (job.few, -1)):
         out = os.path.join(folder, "callgrind")
-        words = running.words_for(program, source, os.path.join(folder, "print"))
+        words = running.words_for(job.programs["rpg2"], folder, inputs, os.path.join(folder, "print"))
         flags = ["--tool=callgrind", "--dump-instr=yes", "--compress-pos=no", "--compress-strings=no", f"--callgrind-out-file={out}"]
         subprocess.run(["valgrind", *flags, *words], capture_output=True, check=True)
         with open(out, encoding="utf-8") as report:
             add_lines(report, sign, counts)
-    return {place: count / (running.MORE - running.FEW) for place, count in counts.items() if count}
+    records = running.records_in(job.more) - running.records_in(job.few)
+    return {place: count / records for place, count in counts.items() if count}
 
 
 def tell_functions(counts):
@@ -65,13 +66,10 @@ def tell_addresses(counts, wanted):
 
 
 def main(words):
-    if not words or words[0] not in ("total", "sales"):
+    if not words or words[0] not in running.JOBS:
         sys.exit(__doc__)
     with tempfile.TemporaryDirectory() as folder:
-        job = {"total": running.total, "sales": running.sales}[words[0]](folder)
-        lines = job.records(running.MORE).splitlines(keepends=True)
-        few, more = (running.write(folder, f"records-{count}", "".join(lines[:count])) for count in (running.FEW, running.MORE))
-        counts = counts_of(job.programs["rpg2"], few, more, folder)
+        counts = counts_of(running.JOBS[words[0]](folder), folder)
     if len(words) > 1:
         tell_addresses(counts, words[1])
     else:
