@@ -1,7 +1,7 @@
 -- The order of texts.
-use Rattle.std.proofs.Common.{◌≡◌, ◌≢◌, ℕ, ◌+◌, ◌-◌, ◌<◌, max, List, length, get_or, drop, replicate, refl, sym, ap, ap₂, ◌∙◌, arith, length-append, inl, inr, nat_cmp, Ordering, Less, Equal, Greater, true, false, not, ◌==◌, true≢false}
+use Rattle.std.proofs.Common.{◌≡◌, ◌≢◌, ℕ, ◌+◌, ◌-◌, ◌<◌, max, Bool, ◌&&◌, eqb, eqb-true, List, [], ◌∷◌, length, get_or, drop, replicate, refl, sym, ap, ap₂, ◌∙◌, arith, length-append, inl, inr, nat_cmp, Ordering, Less, Equal, Greater, true, false, not, ◌==◌, true≢false}
 use Rattle.std.specs.Ordering.{ordering_then, ordering_index}
-use Rattle.std.specs.Cmp.Lexicographic.{slice_cmp}
+use Rattle.std.specs.Cmp.Lexicographic.{pointwise, slice_cmp}
 use Rattle.std.proofs.lemmas.Bool.{cases_lt}
 use Rattle.std.proofs.lemmas.Bool.Decides.{nat_tests}
 use Rattle.std.proofs.lemmas.List.{drop_more, length-replicate, get_or_append_left, get_or-append_right, get_or-replicate, get_or_past, get_or_default}
@@ -54,3 +54,25 @@ pub equal_order : (o : Ordering) → false ≡ not (ordering_index o == 1) → o
 equal_order Less h = absurd (true≢false (sym h))
 equal_order Equal h = refl
 equal_order Greater h = absurd (true≢false (sym h))
+
+-- equal texts
+tied : (text : List ℕ) → slice_cmp character_cmp text text ≡ Equal
+tied [] = refl
+tied (x ∷ xs) = ap₂ ordering_then (same_character x x refl) (tied xs)
+
+alike : (a b : List ℕ) → pointwise eqb a b ≡ true → a ≡ b
+alike [] [] h = refl
+alike [] (y ∷ ys) h = cc
+alike (x ∷ xs) [] h = cc
+alike (x ∷ xs) (y ∷ ys) h = by_first (alike xs ys) (eqb x y) refl h
+  where
+    by_first : (pointwise eqb xs ys ≡ true → xs ≡ ys) → (t : Bool) → eqb x y ≡ t → (t && pointwise eqb xs ys) ≡ true → (x ∷ xs) ≡ (y ∷ ys)
+    by_first rest true e more = ap (λ z. z ∷ xs) (eqb-true x y e) ∙ ap (λ zs. y ∷ zs) (rest more)
+    by_first rest false e more = cc
+
+pub equal_texts : (a b : List ℕ) → pointwise eqb a b ≡ true → Equal ≡ slice_cmp character_cmp (padded_text (length b) a) (padded_text (length a) b)
+equal_texts a b h =
+    let e = alike a b h in
+    sym (ap (λ (x : List ℕ). slice_cmp character_cmp (padded_text (length b) a) (padded_text (length x) b)) e
+    ∙ ap (λ (x : List ℕ). slice_cmp character_cmp (padded_text (length b) x) (padded_text (length b) b)) e
+    ∙ tied (padded_text (length b) b))
