@@ -14,6 +14,7 @@ ghost use Rattle.rpg_memory.specs.Memory.{forms_in, position_in};
 use crate::entries::Entries;
 use crate::field::{count_page, lay_fixed_value, lay_value};
 use crate::plan::FieldPlan;
+use crate::words::EditWords;
 use rpg_memory::condition::three_hold;
 use rpg_memory::entry;
 use rpg_memory::memory::Memory;
@@ -68,6 +69,7 @@ fn with_field<S: Store + Drop>(
     text: &mut [u8],
     to_blank: &mut Entries,
     field: &LineField<u16>,
+    words: &EditWords,
 ) -> End
     requires right { faults.field_fault (forms_in memory.old) (word_at memory.old.program) (length text.old) field.now ≡ None }
     requires more { CanRemember memory.old.program.fields (length to_blank.old) to_blank.old }
@@ -83,7 +85,7 @@ fn with_field<S: Store + Drop>(
         None => End::Halt(Halt::BadIndex),
         Some(position) => {
             count_page(memory, field, position);
-            lay_value(memory, text, field, form, position);
+            lay_value(memory, text, field, form, position, words);
             remember(memory, to_blank, field, position);
             End::Continues
         }
@@ -98,6 +100,7 @@ fn with_fixed_field<S: Store + Drop>(
     to_blank: &mut Entries,
     field: &LineField<u16>,
     fixed: &FixedEntry,
+    words: &EditWords,
 )
     requires right { faults.field_fault (forms_in memory.now) (word_at memory.now.program) (length text.old) field.now ≡ None }
     requires holds { three_hold memory.now.world.data.on field.now.conditions ≡ true }
@@ -107,7 +110,7 @@ fn with_fixed_field<S: Store + Drop>(
     ensures one { RemembersOne memory.now.program.fields (length to_blank.old) (length to_blank.new) to_blank.new }
 {
     memory.is_kept();
-    lay_fixed_value(memory, text, field, fixed);
+    lay_fixed_value(memory, text, field, fixed, words);
     remember(memory, to_blank, field, fixed.resolved.entry.position);
 }
 
@@ -119,6 +122,7 @@ fn with_planned_field<S: Store + Drop>(
     to_blank: &mut Entries,
     field: &LineField<u16>,
     found: &FieldPlan,
+    words: &EditWords,
 ) -> End
     requires right { faults.field_fault (forms_in memory.old) (word_at memory.old.program) (length text.old) field.now ≡ None }
     requires planned { IsFieldPlan memory.old.program.fields field.now found.now }
@@ -131,9 +135,9 @@ fn with_planned_field<S: Store + Drop>(
             return End::Continues;
         }
         FieldPlan::Always(fixed) | FieldPlan::Conditional(fixed) => fixed,
-        FieldPlan::Sought => return with_field(memory, text, to_blank, field),
+        FieldPlan::Sought => return with_field(memory, text, to_blank, field, words),
     };
-    with_fixed_field(memory, text, to_blank, field, fixed);
+    with_fixed_field(memory, text, to_blank, field, fixed, words);
     End::Continues
 }
 
@@ -144,6 +148,7 @@ pub fn assemble<S: Store + Drop>(
     to_blank: &mut Entries,
     fields: &[LineField<u16>],
     plan: &[FieldPlan],
+    words: &EditWords,
 ) -> End
     requires right { faults.AreRight (forms_in memory.old) (word_at memory.old.program) (length text.old) fields.now }
     requires room { length to_blank.old + length fields.now ≤ 200 }
@@ -155,7 +160,7 @@ pub fn assemble<S: Store + Drop>(
 {
     let (mut left, mut found) = (fields, plan);
     'fields: while let Some((field, following)) = left.split_first() {
-        match with_planned_field(memory, text, to_blank, field, &found[0]) {
+        match with_planned_field(memory, text, to_blank, field, &found[0], words) {
             End::Continues => {}
             End::Halt(halt) => return End::Halt(halt),
         }

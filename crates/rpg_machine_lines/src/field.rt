@@ -1,6 +1,7 @@
 //! Fields of lines: how they are edited, their text in the line, PAGE, and blank after.
-ghost use Rattle.std.specs.Prelude.{◌≡◌, ◌≤◌, ◌<◌, ◌^◌, Some, length, unsigned_abs, replicate, true};
+ghost use Rattle.std.specs.Prelude.{◌≡◌, ◌+◌, ◌-◌, ◌≤◌, ◌<◌, ◌^◌, ◌++◌, Some, length, take, unsigned_abs, replicate, true};
 ghost use Rattle.rpg_edit_marks.specs.How.{edited, width_of};
+ghost use Rattle.rpg_edit_marks.specs.Word.{word_marks, worded};
 ghost use Rattle.rpg_program.specs.Forms as forms;
 ghost use Rattle.rpg_program.specs.LineFaults as faults;
 ghost use Rattle.rpg_program.specs.Lines as lines;
@@ -12,6 +13,7 @@ ghost use Rattle.rpg_program.specs.Object.{seen};
 ghost use Rattle.rpg_store.specs.Contents.{IsEntryAt};
 ghost use Rattle.rpg_memory.specs.Memory.{forms_in};
 
+use crate::words::EditWords;
 use rpg_edit::{write_coded, write_plain, write_worded};
 use rpg_edit_widths::EditWord;
 use rpg_memory::memory::Memory;
@@ -36,9 +38,38 @@ fn edit_word(rows: &Rows, constant: u16, digits: u8) -> EditWord
     }
 }
 
+/// Writes a number edited by a word at the end of a line. A word that isn't among the parsed ones is parsed here.
+#[tactic(auto, using(crate::proofs::Fields::fitting))]
+fn write_by_word(
+    rows: &Rows,
+    words: &EditWords,
+    constant: u16,
+    digits: u8,
+    n: i64,
+    line: &mut [u8],
+) -> usize
+    requires constant { forms.is_text_constant (forms.form_at (seen rows.now).fields constant) ≡ true }
+    requires fits { faults.fits_word digits (constants.word_at (seen rows.now) constant) ≡ true }
+    requires room { length (word_marks (constants.word_at (seen rows.now) constant)) ≤ length line.old }
+    ensures start { result + length (word_marks (constants.word_at (seen rows.now) constant)) ≡ length line.old }
+    ensures text { let word = constants.word_at (seen rows.now) constant in line.new ≡ take (length line.old - length (word_marks word)) line.old ++ worded n word }
+{
+    match words.of(constant, word_at(rows, constant)) {
+        Some(word) => write_worded(n, word, line),
+        None => write_worded(n, &edit_word(rows, constant, digits), line),
+    }
+}
+
 /// Writes a number over the line, edited as its field requires.
 #[inline(always)]
-fn lay_number(rows: &Rows, text: &mut [u8], field: &LineField<u16>, form: FieldForm, n: i64)
+fn lay_number(
+    rows: &Rows,
+    text: &mut [u8],
+    field: &LineField<u16>,
+    form: FieldForm,
+    n: i64,
+    words: &EditWords,
+)
     requires numeric { IsEditableForm form }
     requires fits { unsigned_abs n < 10 ^ form.length }
     requires editing { FitsEditing (seen rows.now) form field.now.editing field.now.fill }
@@ -51,7 +82,7 @@ fn lay_number(rows: &Rows, text: &mut [u8], field: &LineField<u16>, form: FieldF
     let _start = match field.editing {
         Editing::Plain => write_plain(n, digits, line),
         Editing::Code(code) => write_coded(n, digits, form.decimals, code, field.fill, line),
-        Editing::Word(word) => write_worded(n, &edit_word(rows, word, digits), line),
+        Editing::Word(word) => write_by_word(rows, words, word, digits, n, line),
     };
 }
 
@@ -96,6 +127,7 @@ pub fn lay_value<S: Store + Drop>(
     field: &LineField<u16>,
     form: Option<FieldForm>,
     entry: u16,
+    words: &EditWords,
 )
     requires right { IsRightField (forms_in memory.now) (constants.word_at memory.now.program) (length text.old) field.now }
     requires form { form ≡ forms_in memory.now field.now.operand.field }
@@ -108,7 +140,7 @@ pub fn lay_value<S: Store + Drop>(
     match form.kind {
         Kind::Number => {
             let n = memory.number(number, entry);
-            lay_number(memory.rows(), text, field, form, n);
+            lay_number(memory.rows(), text, field, form, n, words);
         }
         Kind::Text => lay_text(text, field.end, memory.text(number, entry)),
     }
@@ -122,6 +154,7 @@ pub fn lay_fixed_value<S: Store + Drop>(
     text: &mut [u8],
     field: &LineField<u16>,
     fixed: &FixedEntry,
+    words: &EditWords,
 )
     requires right { IsRightField (forms_in memory.now) (constants.word_at memory.now.program) (length text.old) field.now }
     requires form { Some fixed.now.resolved.form ≡ forms_in memory.now field.now.operand.field }
@@ -135,7 +168,7 @@ pub fn lay_fixed_value<S: Store + Drop>(
     match form.kind {
         Kind::Number => {
             let n = memory.number_in(fixed.place, number, entry);
-            lay_number(memory.rows(), text, field, form, n);
+            lay_number(memory.rows(), text, field, form, n, words);
         }
         Kind::Text => lay_text(text, field.end, memory.text_in(fixed.place, number, entry)),
     }

@@ -16,6 +16,7 @@ mod passage;
 mod plan;
 mod printer;
 pub mod weights;
+mod words;
 
 pub use bytes::Output;
 pub use entries::Entries;

@@ -12,6 +12,7 @@ use crate::entries::Entries;
 use crate::field::{blank_all, fill_blanks};
 use crate::plan::LinePlan;
 use crate::printer::put_on;
+use crate::words::EditWords;
 use rpg_memory::memory::Memory;
 use rpg_program::outcome::End;
 use rpg_program::rows::Line;
@@ -26,6 +27,7 @@ pub fn put_line<S: Store + Drop>(
     to_blank: &mut Entries,
     line: &Line,
     plan: &LinePlan,
+    words: &EditWords,
 ) -> Result<End, AllocError>
     requires { CanPutLine memory.old text.old line.now plan.now }
     ensures done { IfOk result (λ e. PutsOwn (λ p. line_effect p (line_row line.now)) memory.old output.old (end_of e) memory.new output.new) }
@@ -34,7 +36,7 @@ pub fn put_line<S: Store + Drop>(
 {
     fill_blanks(text);
     to_blank.clear();
-    match assemble(memory, text, to_blank, &line.fields, &plan.fields) {
+    match assemble(memory, text, to_blank, &line.fields, &plan.fields, words) {
         End::Continues => {}
         End::Halt(halt) => return Ok(End::Halt(halt)),
     }

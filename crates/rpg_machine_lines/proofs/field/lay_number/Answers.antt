@@ -1,4 +1,4 @@
-use Rattle.std.proofs.Common.{ℕ, ap, ◌∙◌, sym}
+use Rattle.std.proofs.Common.{ℕ, ap}
 use Rattle.std.proofs.lemmas.Int.{to_z-of_z}
 use Rattle.rpg_edit_marks.specs.declared.how.How.TheVariants as hows
 use Rattle.rpg_program.specs.Editing.{how_of}
@@ -39,8 +39,8 @@ returns-in-Word c =
     let p = seen c.args.rows.now in
     let form = c.args.form in
     let number = to_z-of_z _ _ c.ranges.n in
-    let is = ap (λ (e : Editing ℕ). how_of (word_at p) e f.fill) c.in-Word.is ∙ ap hows.Word (sym c.edit_word.ensures) in
+    let is = ap (λ (e : Editing ℕ). how_of (word_at p) e f.fill) c.in-Word.is in
     record {
-      text = number_at_end (how_in p f) (hows.Word _) c.args.n form.length form.decimals c.args.text.now c.write_worded-start.new.out f.end is
-          c.requires.end c.requires.width c.write_worded-start.auto.out (rw number at c.write_worded-start.ensures.text);
+      text = number_at_end (how_in p f) (hows.Word (word_at p c.in-Word.word)) c.args.n form.length form.decimals c.args.text.now c.write_by_word-start.new.line f.end is
+          c.requires.end c.requires.width c.write_by_word-start.auto.line (rw number at c.write_by_word-start.ensures.text);
     }
