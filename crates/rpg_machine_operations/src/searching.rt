@@ -31,6 +31,7 @@ fn same_order(a: Ordering, b: Ordering) -> bool
 }
 
 /// Whether the entry at a position of factor 2 has this order relative to factor 1.
+#[inline(always)]
 #[tactic(auto, using(rpg_memory::proofs::Values::other_value))]
 fn stands<S: Store + Drop>(
     memory: &Memory<'_, S>,
