@@ -48,11 +48,13 @@ unlike bytes columns text f e other =
     ∙ sym (other_lengths bytes (compared text f) (λ same. other (same ∙ length-map (slice_range text (f.from - 1) f.to) (compared_byte f.is_numeric) ∙ ap length (sym e))))
 
 -- those of one that isn't
+pub plain_columns : (columns text : List ℕ) (f : ControlField) → columns ≡ slice_range text (f.from - 1) f.to → f.is_numeric ≡ false → compared text f ≡ columns
+plain_columns columns text f e plain =
+    ap (λ b. map (compared_byte b) (slice_range text (f.from - 1) f.to)) plain ∙ as_they_are (slice_range text (f.from - 1) f.to) ∙ sym e
+
 pub plainly : (bytes columns text : List ℕ) (f : ControlField) → columns ≡ slice_range text (f.from - 1) f.to → f.is_numeric ≡ false →
     pointwise eqb bytes columns ≡ same_bytes bytes (compared text f)
-plainly bytes columns text f e plain =
-    same_by_pairs bytes columns
-    ∙ ap (same_bytes bytes) (e ∙ sym (as_they_are (slice_range text (f.from - 1) f.to)) ∙ ap (λ b. map (compared_byte b) (slice_range text (f.from - 1) f.to)) (sym plain))
+plainly bytes columns text f e plain = same_by_pairs bytes columns ∙ ap (same_bytes bytes) (sym (plain_columns columns text f e plain))
 
 -- ---- fields that are alone of their levels
 

@@ -91,16 +91,29 @@ fn is_joined(bytes: &[u8], fields: &[ControlField], text: &[u8], level: u8) -> b
     rest.is_empty()
 }
 
-/// Appends the bytes of a control field.
-fn add(bytes: &mut Vec<u8>, text: &[u8], field: ControlField) -> Result<(), AllocError>
+/// Appends the digits of numeric columns.
+fn add_digits(bytes: &mut Vec<u8>, columns: &[u8]) -> Result<(), AllocError>
+    ensures { OnOk result (bytes.new.items ≡ bytes.old.items ++ map spec.unsigned_digit columns.now) }
+{
+    for byte in columns {
+        bytes.push(digit_of(*byte))?;
+    }
+    Ok(())
+}
+
+/// Appends the bytes of a control field, in one piece if it isn't numeric.
+#[inline(always)]
+#[tactic(auto, using(crate::proofs::Lasting::plain_columns))]
+pub(crate) fn add(bytes: &mut Vec<u8>, text: &[u8], field: ControlField) -> Result<(), AllocError>
     requires { IsControlIn (length text.now) field }
     ensures { OnOk result (bytes.new.items ≡ bytes.old.items ++ spec.compared text.now field) }
 {
     let columns = columns_of(text, field);
-    for byte in columns {
-        bytes.push(byte_of(field.is_numeric, *byte))?;
+    if field.is_numeric {
+        add_digits(bytes, columns)
+    } else {
+        bytes.extend_from_slice(columns)
     }
-    Ok(())
 }
 
 /// Appends the bytes of a level.

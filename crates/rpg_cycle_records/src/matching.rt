@@ -4,7 +4,7 @@ ghost use Rattle.rpg_cycle_records.specs.Fitting.{IsControlIn};
 ghost use Rattle.rpg_cycle_records.specs.Keeping.{seen_value};
 ghost use Rattle.rpg_cycle_records.specs.Matching as spec;
 
-use crate::levels::join;
+use crate::levels::{add, join};
 use crate::program::{file_of, match_fields};
 use rpg_decimal::compare_text;
 use rpg_program::input::{ControlField, InputFile};
@@ -116,12 +116,15 @@ impl LastValues {
     }
 }
 
-/// Appends the bytes of all levels, from L9 down.
+/// Appends the bytes of all levels, from L9 down: in one piece if there is one field, as in most types.
 #[inline(never)]
 fn join_down(bytes: &mut Vec<u8>, fields: &[ControlField], text: &[u8]) -> Result<(), AllocError>
     requires { All (IsControlIn (length text.now)) fields.now }
     ensures { OnOk result (bytes.new.items ≡ bytes.old.items ++ spec.joined_down fields.now text.now 9) }
 {
+    if fields.len() == 1 && fields[0].level >= 1 && fields[0].level <= 9 {
+        return add(bytes, text, fields[0]);
+    }
     for i in 0..9u8 {
         join(bytes, fields, text, 9 - i)?;
     }

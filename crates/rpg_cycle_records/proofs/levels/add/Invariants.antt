@@ -1,6 +1,0 @@
-use Rattle.std.proofs.Common.{◌≡◌, ◌++◌, drop, map}
-use Rattle.rpg_cycle_records.specs.Levels as spec
-use Rattle.rpg_cycle_records.proofs.levels.add.Given as goal
-
-abbrev pub invariant-loop-byte : goal.invariant-loop-byte
-invariant-loop-byte l = l.bytes.items ++ map (spec.compared_byte l.field.is_numeric) (drop l.byte-index l.columns) ≡ l.initial.bytes.items ++ spec.compared l.text l.field
