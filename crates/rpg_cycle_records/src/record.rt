@@ -1,5 +1,5 @@
 //! The text of a record.
-ghost use Rattle.std.specs.Prelude.{◌≡◌, ◌≤◌, IfOk, length, true};
+ghost use Rattle.std.specs.Prelude.{◌≡◌, ◌-◌, ◌≤◌, ◌++◌, IfOk, length, replicate, true};
 ghost use Rattle.rpg_cycle_records.specs.Identifying as spec;
 ghost use Rattle.rpg_program.specs.Object.{input_length as length_of};
 
@@ -31,12 +31,23 @@ pub fn fill(
     ensures whole { IfOk result (λ _. length room.new.items ≡ length_of program.now file) }
 {
     let length = input_length(program, file);
-    if text.len() == length && room.len() == length {
-        room.copy_from_slice(text);
-        return Ok(());
+    if room.len() != length {
+        room.clear();
+        room.resize(length, b' ')?;
     }
-    room.clear();
-    room.extend_from_slice(text)?;
-    room.resize(length, b' ')?;
+    lay(room, text);
     Ok(())
+}
+
+/// Copies a text over a record, with blanks after it.
+#[inline(always)]
+fn lay(room: &mut [u8], text: &[u8])
+    requires { length text.now ≤ length room.old }
+    ensures { room.new ≡ text.now ++ replicate (length room.old - length text.now) 32 }
+{
+    let (front, rest) = room.split_at_mut(text.len());
+    front.copy_from_slice(text);
+    if !rest.is_empty() {
+        rest.fill(b' ');
+    }
 }
