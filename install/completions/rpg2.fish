@@ -45,6 +45,7 @@ complete -c rpg2 -n '__fish_seen_subcommand_from fit' -l force -d 'Replaces NEW 
 complete -c rpg2 -n '__fish_seen_subcommand_from fit' -l table -x -d 'The records of a table file, by its name on the cards; may be given several times'
 complete -c rpg2 -n '__fish_seen_subcommand_from fit' -l switches -x -d 'A digit for each of U1 to U8: 1 if the job was run with it on; without this all are off'
 complete -c rpg2 -n '__fish_seen_subcommand_from fit' -l forms -d 'No form gets more lines than its L card has'
+complete -c rpg2 -n '__fish_seen_subcommand_from fit' -l printer -x -d 'Of several printers the one whose deck NEW is'
 complete -c rpg2 -n '__fish_seen_subcommand_from fit' -l format -x -a 'text json' -d 'The form of diagnostics and of the answer [default: text] [possible values: text, json]'
 complete -c rpg2 -n '__fish_seen_subcommand_from fit' -s h -l help -d 'Print help'
 complete -c rpg2 -n '__fish_seen_subcommand_from verify' -l format -x -a 'text json' -d 'The form of diagnostics and of the answer [default: text] [possible values: text, json]'
@@ -83,4 +84,4 @@ complete -c rpg2 -n '__fish_seen_subcommand_from go' -l allow -x -a 'W1 W2 W3 W4
 complete -c rpg2 -n '__fish_seen_subcommand_from go' -l format -x -a 'text json' -d 'The form of diagnostics and of the answer [default: text] [possible values: text, json]'
 complete -c rpg2 -n '__fish_seen_subcommand_from go' -s q -l quiet -d 'Prints no line if the exit status is 0'
 complete -c rpg2 -n '__fish_seen_subcommand_from go' -s h -l help -d 'Print help'
-complete -c rpg2 -n '__fish_seen_subcommand_from explain' -f -a 'S1 S2 S3 S4 S5 S6 F1 F2 F3 F4 F5 F6 F7 F8 F9 F10 F11 F12 F13 F14 F15 F16 F17 F18 W1 W2 W3 W4 W5 W6 W7 V1 V2 V3 V4 V5 V6 V7 V8 V9 V10 V11 V12 V13 V14 V15 V16 V17 V18 V19 V20 V21 V22 V23 V24 V25 V26 B1 B2 B3 B4 B5 B6 B7 A1 A2 A3 A4 A5 A6 A7 A8 A9 A10 A11 A12 A13 A14 A15 A16 A17 A18 A19 A20 A21 halt'
+complete -c rpg2 -n '__fish_seen_subcommand_from explain' -f -a 'S1 S2 S3 S4 S5 S6 F1 F2 F3 F4 F5 F6 F7 F8 F9 F10 F11 F12 F13 F14 F15 F16 F17 F18 W1 W2 W3 W4 W5 W6 W7 V1 V2 V3 V4 V5 V6 V7 V8 V9 V10 V11 V12 V13 V14 V15 V16 V17 V18 V19 V20 V21 V22 V23 V24 V25 V26 B1 B2 B3 B4 B5 B6 B7 A1 A2 A3 A4 A5 A6 A7 A8 A9 A10 A11 A12 A13 A14 A15 A16 A17 A18 A19 A20 A21 A22 A23 A24 A27 A28 A29 A30 halt'

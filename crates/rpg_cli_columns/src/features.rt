@@ -35,9 +35,9 @@ shared areas aren't supported: blank column 48, nothing depends on them (rpg2 fi
  H 48-48
 forms alignment isn't supported: blank column 41, a file needs none (rpg2 fit rewrites it: A2)
  H 41-41
-update files aren't supported: write a new master to the disk file (docs/OLD_PROGRAMS.md)
+update files aren't supported: write a new master to the disk file (rpg2 fit rewrites it: A27)
  F 15-15 U
-combined files aren't supported: write the records to the disk file (docs/OLD_PROGRAMS.md)
+combined files aren't supported: write the records to the disk file (rpg2 fit rewrites it: A27)
  F 15-15 C
 display files aren't supported: put parameters in a first record of its own type (docs/OLD_PROGRAMS.md)
  F 15-15 D
@@ -98,6 +98,10 @@ descending sequence isn't supported: write the entries in ascending order
  E 57-57 D
 OR among record types isn't supported: write a record type for each, and repeat the fields (rpg2 fit rewrites it: A6)
  T 07-14 _______OR
+data structures aren't supported: read the pieces as fields, or put them together by MOVEL and MOVE (rpg2 fit rewrites it: A29)
+ T 15-16 ____DS
+ I 18-18 UDS
+ I 19-19 DS
 sequence by number isn't supported: write two letters; the order of the types isn't checked then (rpg2 fit rewrites it: A7)
  T 15-16 ##
 sequence by number isn't supported: blank column 17
@@ -109,9 +113,9 @@ look ahead isn't supported
  T 19-20 **
 spread cards aren't supported: write each part in a record of its own
  T 19-20 TR
-codes by zone aren't supported: write C, and a record type for each character (docs/OLD_PROGRAMS.md)
+codes by zone aren't supported: write C, and a record type for each character (rpg2 fit rewrites it: A28)
  T 21-41 .....Z
-codes by digit aren't supported: write C, and a record type for each character (docs/OLD_PROGRAMS.md)
+codes by digit aren't supported: write C, and a record type for each character (rpg2 fit rewrites it: A28)
  T 21-41 .....D
 stacker select isn't supported: blank this column (rpg2 fit rewrites it: A2)
  T 42-42
@@ -153,7 +157,7 @@ this operation isn't supported: loop over the array with an index (rpg2 fit rewr
  C 28-32 MOVEA
 this operation isn't supported: loop over the array with an index (docs/OLD_PROGRAMS.md)
  C 28-32 SORTA
-this operation isn't supported: use Newton's method in a loop (docs/OLD_PROGRAMS.md)
+this operation isn't supported: use Newton's method in a loop (rpg2 fit rewrites it: A30)
  C 28-32 SQRT_
 this operation isn't supported, and nothing takes its place: rewrite what depends on zones (docs/OLD_PROGRAMS.md)
  C 28-32 TESTZ

@@ -57,6 +57,11 @@ fn switches_of(request: &Request) -> Switches {
     }
 }
 
+/// Returns the name of the printer whose deck is wanted.
+fn printer_of<'b>(request: &Request<'b>) -> Option<&'b [u8]> {
+    Some(request.printer?.as_bytes())
+}
+
 /// Rewrites a deck.
 fn rewrite(
     alloc: Global,
@@ -68,6 +73,7 @@ fn rewrite(
     let settings = Settings {
         switches: switches_of(request),
         keeps_forms: request.keeps_forms,
+        printer: printer_of(request),
         tables: tables.as_slice(),
     };
     fit(alloc, source, &settings)

@@ -1,4 +1,4 @@
-//! The pages of A1 to A21, the rules by which old decks are rewritten.
+//! The pages of A1 to A30, the rules by which old decks are rewritten.
 
 /// The pages, in the order of their codes, each as [`crate::page::Page`] reads it.
 pub(crate) const REWRITINGS: &str = "\
@@ -9,7 +9,7 @@ pub(crate) const REWRITINGS: &str = "\
     @A2%columns that stand for nothing are blanked%\
     %     FINPUT   IP  F  80                READ40 SYS005S                R\
     %     FINPUT   IP  F  80  80            READ40\
-    %nothing. The columns are 32 (a digit), 47-53 and 67-70 of F, 15, 37, 41 and 48 of H, 42\nof I, 16 of O if it has a digit, and all after 80. If 24-27 of a printer or a card device are blank,\na record is a block. Rejected are 32 beside keys, letters in 67-69, and signs and translation (40\nand 43 of H)\
+    %nothing. The columns are 32 (a digit), 47-53 and 67-70 of F, 15, 37, 41 and 48 of H, 42\nof I, 16 of O if it has a digit, and all after 80. If 24-27 of a printer or a card device are blank,\na record is a block. Table data with entries after column 80 are put on more cards. Rejected are 32\nbeside keys, letters in 67-69, and signs and translation (40 and 43 of H)\
     @A3%conditions on external switches are decided%\
     %     C   U1      TOT       ADD  AMT       TOT\n     O                NU1      TOT       20\
     %     C   L0      TOT       ADD  AMT       TOT\n     O                NL0      TOT       20\
@@ -85,4 +85,34 @@ pub(crate) const REWRITINGS: &str = "\
     @A21%several disk files become one%\
     %     FONE     O   F      20            DISK\n     FTWO     O   F      30            DISK\n     OTWO     D        01\n     O                         AMT       30\
     %     FONE     O   F      31            DISK\n     OONE     D        01\n     O                                    1 'B'\n     O                         AMT       31\
-    %split the file: `grep '^B' FILE | cut -c2-31` prints the records of TWO";
+    %split the file: `grep '^B' FILE | cut -c2-31` prints the records of TWO\
+    @A22%cards of job control are taken out%\
+    %     OPRINT   D  1     01\n     O                         AMT       30\n/&\
+    %     OPRINT   D  1     01\n     O                         AMT       30\
+    %nothing. They begin with //, /& or * $$. What follows the card /* is read by nobody\
+    @A23%printers by other names are PRINTER, and each of several has a deck of its own%\
+    %     FLIST    O   F     132     OF     PRINTER\n     FERRORS  O   F     132     OG     PRINTR2\n     OLIST    D  1     01\n     O                         AMT       30\n     OERRORS  D  1     01 30\n     O                         AMT       40\
+    %     FLIST    O   F     132     OF     PRINTER\n     OLIST    D  1     01\n     O                         AMT       30\
+    %give --printer LIST, then --printer ERRORS, and run both decks. If the lines of the\nother printer count pages or blank fields for others, it becomes a disk file, whose records are\nthrown away. Rejected is a card that asks for the other printer's overflow indicator\
+    @A24%E in 17 of the last file alone is blanked%\
+    %     FDATE    IP  F      80            READ40\n     FMASTER  ISE F      80            TAPE\
+    %     FDATE    IP  F      80            READ40\n     FMASTER  IS  F      80            TAPE\
+    %nothing: the last file is read last. Where files are matched, or the last one has no E,\nthe old job ends with records left: take these out of the data, and put E on all files or on none\
+    @\
+    @\
+    @A27%a combined file, or one that is updated in place, is read, and a new one written%\
+    %     FCARDS   CP  F      80            MFCU1\n     ICARDS   AA  01   1 CA\n     I                                        2   60AMT\n     OCARDS   D        01 30\n     O                         AMT       40\
+    %     FCARDS   IP  F      80            MFCU1\n     FNEW     O   F      80            DISK\n     ICARDS   AA  01   1 CA\n     I                                        2   60AMT\n     I                                        1  80 REC#\n     ONEW     D        01 30\n     O                         REC#      80\n     O                         AMT       40\n     ONEW     D        01N30\n     O                         REC#      80\
+    %read the new file in place of the old one afterwards. Where the job halts, it ends with\nthe last record written. Rejected are keys, new records, total lines for the file, two lines\nfor one record, and cards that turn on LR\
+    @A28%codes by zone or digit become codes of characters%\
+    %     IIN      AA  01   1 ZS\n     I                                        2   6 NAM\n     I        BB  02   1NZS\
+    %     IIN      AA  01   1 CS\n     I                                        2   6 NAM\n     ..\n     I        AA  01   1 C\\\n     I                                        2   6 NAM\n     I        BB  02   1NCS   1NCT   1NCU\n     I       AND       1NCV   1NCW   1NCX\n     I       AND       1NCY   1NCZ   1NC\\\
+    %nothing. A zone has 9 to 11 characters, and rule A6 makes a type of each. Rejected are\nthe zones of signs, and more than 100 alternatives\
+    @A29%a data structure over an input field becomes fields%\
+    %     IIN      AA  01   1 CA\n     I                                        2   70DATE\n     I            DS\n     I                                        1   60DATE\n     I                                        1   20MONTH\
+    %     IIN      AA  01   1 CA\n     I                                        2   70DATE\n     I                                        2   30MONTH\
+    %nothing. Rejected are UDS, arrays, fields of it that calculations change, and a structure that\nseveral fields fill: put it together by MOVE and MOVEL\
+    @A30%SQRT becomes a loop%\
+    %     C                     SQRT N         R       80\
+    %     C                     SETOF                     99\n     C                     SETON                     99\n     C  N99                GOTO ROOT#\n     C           N         MULT 4         SQ#     60\n     ..\n     C           ROOT#     TAG\
+    %give --allowance a greater number, if the loop is done often. A negative number is halt\n1. Rejected are whole arrays, resulting indicators, and numbers of too many digits";

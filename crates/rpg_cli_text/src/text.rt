@@ -78,13 +78,13 @@ pub fn pages_text(alloc: Global, topics: &[Topic]) -> Result<String, AllocError>
 }
 
 /// More than the codes of any family.
-const MOST: usize = 99;
+const MOST: usize = 40;
 
 /// Writes the pages of a family, each after an empty line; or a line for each, with the code and its sentence.
 fn write_family(out: &mut TextWriter, family: Topic, has_pages: bool) {
     for number in 1..MOST {
         let Some(topic) = family.sibling_if_any(number) else {
-            break;
+            continue;
         };
         if has_pages {
             out.write_char('\n');

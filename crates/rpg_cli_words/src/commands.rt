@@ -11,7 +11,7 @@ check: SRC.each faults deny allow format quiet: Reports all faults of each sourc
 list: SRC format: Lists the source SRC: its cards with their faults, record layouts, names, indicators and printed lines
 cards: SRC.short short ruler: Turns the lines of shorthand in SRC into cards, such as O 32=TOT 42=10
 records: IN OUT by to file length rdw lines ascii low-blank drop deck format: Converts a shop's records to lines, guided by the deck that reads them, or back
-fit: SRC.old NEW force table switches forms format: Rewrites the old deck SRC as cards that are read, and reports each change
+fit: SRC.old NEW force table switches forms printer format: Rewrites the old deck SRC as cards that are read, and reports each change
 verify: OBJ format quiet: Verifies the object program OBJ, and prints the most steps that a cycle can take
 explain: CODE list: Explains codes, such as F16, S5, V21, B5 or halt 4, or all of them
 show: OBJ source rows format: Shows what the object program OBJ reads, writes and needs, or its rows
@@ -78,6 +78,7 @@ deck V=NEW!to Where to write the deck that reads the lines
 table W=NAME=FILE The records of a table file, by its name on the cards; may be given several times
 switches V=00000000 A digit for each of U1 to U8: 1 if the job was run with it on; without this all are off
 forms F No form gets more lines than its L card has
+printer V=NAME Of several printers the one whose deck NEW is
 list F!CODE Prints a line for each code
 source V=SRC The source of OBJ, whose names and cards are shown
 rows F Prints all rows of the object program

@@ -107,6 +107,8 @@ pub struct Request<'a> {
     pub switches: Option<&'a str>,
     /// Whether each form keeps at most the lines of its L card.
     pub keeps_forms: bool,
+    /// The file of the printer whose deck is wanted, if the deck has several.
+    pub printer: Option<&'a str>,
     /// The codes, with the number of a halt as one of its own; if there are none, all are explained.
     pub codes: Vec<&'a str>,
     /// Whether `explain` prints a line for each code instead of pages.
@@ -225,6 +227,7 @@ fn request_with<'a>(command: CommandName, given: &ArgMatches<'a>, lists: Lists<'
         tables: lists.tables,
         switches: given.get_str("switches"),
         keeps_forms: given.get_flag("forms"),
+        printer: given.get_str("printer"),
         codes: lists.codes,
         lists: given.get_flag("list"),
     }

@@ -5,25 +5,36 @@ ghost use Rattle.rpg_fit.specs.Applied.{Applied, AppliedInTurn};
 use crate::array_input::input_arrays;
 use crate::or_type::or_types;
 use crate::sequenced::sequence;
-use rpg_fit_calculations::{dates, figures, moves, whole_calculations};
-use rpg_fit_cards::{Settings, columns, comments, disks, forms, numbered_pages, switches, tables};
+use rpg_fit_calculations::{dates, figures, moves, square_roots, whole_calculations};
+use rpg_fit_cards::{
+    Settings, columns, comments, disks, forms, job_control, numbered_pages, switches, tables,
+};
 use rpg_fit_deck::{Editor, Rule};
+use rpg_fit_files::{end_of_files, printers, updated_files};
 use rpg_fit_lines::{dollars, or_spaces, places, whole_outputs, words};
 use rpg_fit_overflow::{fetch, pages};
+use rpg_fit_records::{structures, zone_codes};
 use rpg_fit_terms::settle;
 
 /// The rules in order, since they depend on one another.
-pub const RULES: [Rule; 21] = [
+pub const RULES: [Rule; 28] = [
+    Rule::JobControl,
     Rule::Comments,
     Rule::Columns,
+    Rule::Printers,
     Rule::Switches,
     Rule::Forms,
     Rule::Tables,
+    Rule::Structures,
+    Rule::ZoneCodes,
     Rule::OrTypes,
+    Rule::EndOfFiles,
+    Rule::UpdatedFiles,
     Rule::Sequence,
     Rule::NumberedPages,
     Rule::OrSpaces,
     Rule::Figures,
+    Rule::SquareRoots,
     Rule::Moves,
     Rule::InputArrays,
     Rule::WholeCalculations,
@@ -40,6 +51,7 @@ pub const RULES: [Rule; 21] = [
 /// Applies a rule that looks at cards one by one.
 fn apply_to_cards(editor: &mut Editor, settings: &Settings, rule: Rule) {
     let outcome = match rule {
+        Rule::JobControl => job_control(editor),
         Rule::Comments => comments(editor),
         Rule::Columns => columns(editor),
         Rule::Switches => switches(editor, &settings.switches),
@@ -56,6 +68,7 @@ fn apply_to_cards(editor: &mut Editor, settings: &Settings, rule: Rule) {
 fn apply_to_calculations(editor: &mut Editor, rule: Rule) {
     let outcome = match rule {
         Rule::Figures => figures(editor),
+        Rule::SquareRoots => square_roots(editor),
         Rule::Moves => moves(editor),
         Rule::WholeCalculations => whole_calculations(editor),
         Rule::Dates => dates(editor),
@@ -69,9 +82,14 @@ fn apply_to_calculations(editor: &mut Editor, rule: Rule) {
     settle(editor, outcome);
 }
 
-/// Applies a rule about record types, pages or overflow.
-fn apply_to_cycle(editor: &mut Editor, rule: Rule) {
+/// Applies a rule about files, record types, pages or overflow.
+fn apply_to_cycle(editor: &mut Editor, settings: &Settings, rule: Rule) {
     let outcome = match rule {
+        Rule::Printers => printers(editor, settings.printer),
+        Rule::EndOfFiles => end_of_files(editor),
+        Rule::UpdatedFiles => updated_files(editor),
+        Rule::Structures => structures(editor),
+        Rule::ZoneCodes => zone_codes(editor),
         Rule::OrTypes => or_types(editor),
         Rule::Sequence => sequence(editor),
         Rule::InputArrays => input_arrays(editor),
@@ -95,7 +113,7 @@ pub trait Rules {
         ensures { leaves self.now rule editor.old editor.new };
 }
 
-/// The rules A1 to A21, with the settings of the command.
+/// The rules A1 to A30, with the settings of the command.
 #[derive(Clone, Copy)]
 pub(crate) struct OldDeckRules<'a> {
     pub settings: &'a Settings<'a>,
@@ -108,7 +126,7 @@ impl Rules for OldDeckRules<'_> {
         editor.begin(rule);
         apply_to_cards(editor, self.settings, rule);
         apply_to_calculations(editor, rule);
-        apply_to_cycle(editor, rule);
+        apply_to_cycle(editor, self.settings, rule);
     }
 }
 

@@ -1,11 +1,10 @@
 //! Blanks columns that have no meaning.
 
 use crate::cards::is_device;
+use crate::table_data::COLUMNS;
+use crate::wide::narrow_data;
 use rpg_fit_deck::{Card, Editor, Seen, Sentence, Word};
 use rpg_fit_words::{Done, RuleStop};
-
-/// The columns of a card. Any after them are cut off.
-const COLUMNS: usize = 80;
 
 /// Blanks columns that have no meaning, gives a card file the record length of its block, and cuts what follows column 80.
 pub fn columns(editor: &mut Editor) -> Done {
@@ -22,11 +21,11 @@ pub fn columns(editor: &mut Editor) -> Done {
             blank_stackers(editor, &mut now);
         }
     }
-    Ok(())
+    narrow_data(editor)
 }
 
 /// Cuts off what follows the columns of a card.
-fn cut(editor: &mut Editor, now: &Seen) {
+pub(crate) fn cut(editor: &mut Editor, now: &Seen) {
     if now.width > COLUMNS {
         let last = Word::of_number(now.width);
         let sentence = if now.width == COLUMNS + 1 {

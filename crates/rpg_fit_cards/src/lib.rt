@@ -1,4 +1,4 @@
-//! Rules for old decks that rewrite single cards: comments, columns, switches, forms, table files, page counters and disk files.
+//! Rules for old decks that rewrite single cards: job control, comments, columns, switches, forms, table files, page counters and disk files.
 #![tactic(auto)]
 
 mod cards;
@@ -6,17 +6,20 @@ mod column;
 mod comment;
 mod disk;
 mod form;
+mod job;
 mod numbered_page;
 mod outputs;
 mod settings;
 mod switch;
 mod table;
 mod table_data;
+mod wide;
 
 pub use column::columns;
 pub use comment::comments;
 pub use disk::disks;
 pub use form::forms;
+pub use job::job_control;
 pub use numbered_page::numbered_pages;
 pub use settings::{Settings, Switches, TableFile};
 pub use switch::switches;

@@ -1,8 +1,8 @@
 //! Turns PAGE1 to PAGE7 into PAGE.
 
-use rpg_fit_deck::{Card, Editor, Sentence, View, Word};
-use rpg_fit_terms::rename;
-use rpg_fit_words::{Done, List, Operand, RuleStop, is_card};
+use rpg_fit_deck::{Editor, Sentence, View, Word};
+use rpg_fit_terms::{is_name_on, rename};
+use rpg_fit_words::{Done, List, RuleStop, is_card};
 
 /// The page counters of the old language.
 const COUNTERS: [&[u8]; 8] = [
@@ -50,32 +50,11 @@ fn is_defined(view: &View, name: &[u8]) -> bool {
     false
 }
 
-/// Whether columns of a card have a name, perhaps with an index.
-fn has_at(card: &Card, first: usize, last: usize, name: &[u8]) -> bool {
-    Operand::of(card.value(first, last)).name == name
-}
-
-/// Whether a card has a name.
-fn has_name(card: &Card, name: &[u8]) -> bool {
-    !card.is_comment()
-        && match card.form() {
-            b'E' => has_at(card, 27, 32, name) || has_at(card, 46, 51, name),
-            b'I' => has_at(card, 53, 58, name),
-            b'C' => {
-                has_at(card, 18, 27, name)
-                    || has_at(card, 33, 42, name)
-                    || has_at(card, 43, 48, name)
-            }
-            b'O' => has_at(card, 32, 37, name),
-            _ => false,
-        }
-}
-
 /// Returns the first card that prints a name, or else the first that has it.
 fn first_with(view: &View, name: &[u8]) -> Option<usize> {
     let mut first = None;
     for seen in &view.cards {
-        if has_name(&seen.card, name) {
+        if is_name_on(&seen.card, name) {
             if seen.card.form() == b'O' {
                 return Some(seen.number);
             }

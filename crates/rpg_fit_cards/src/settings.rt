@@ -53,6 +53,8 @@ pub struct Settings<'a> {
     pub switches: Switches,
     /// Whether each form keeps at most the lines of its L card.
     pub keeps_forms: bool,
+    /// The printer whose deck is wanted, if a deck has several.
+    pub printer: Option<&'a [u8]>,
     pub tables: &'a [TableFile<'a>],
 }
 

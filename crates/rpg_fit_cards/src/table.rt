@@ -33,7 +33,7 @@ fn has_file(card: &Card) -> bool {
 }
 
 /// Whether a line begins the data of a table.
-fn begins_data(seen: &Seen) -> bool {
+pub(crate) fn begins_data(seen: &Seen) -> bool {
     matches!(seen.card.columns(1, 3), b"** ")
 }
 
@@ -116,20 +116,20 @@ fn put_shaped(
         let why = "% has a byte that is no character";
         return Err(RuleStop::about(seen.number, why, word));
     }
-    put_entries(editor, shape, before, entries.as_slice(), seen.number);
+    editor.insert(before, Card::of(b"**"), seen.number);
+    put_cards_of(editor, shape, before, entries.as_slice(), seen.number);
     take_over(editor, shape, records.len(), seen);
     Ok(())
 }
 
-/// Inserts a `**` card and the entries after it.
-fn put_entries(
+/// Inserts cards with as many entries on each as fit there.
+pub(crate) fn put_cards_of(
     editor: &mut Editor,
     shape: &TableShape,
     before: Address,
     entries: &[u8],
     with: usize,
 ) {
-    editor.insert(before, Card::of(b"**"), with);
     let width = shape.width.saturating_mul(shape.per_card()).max(1);
     let mut rest = entries;
     for _ in 0..shape.entries {

@@ -5,8 +5,8 @@ use rpg_fit_words::{Done, List, RuleStop};
 use rpg_text::first_line;
 use std::alloc::Global;
 
-/// The columns of a data card.
-const COLUMNS: usize = 80;
+/// The columns of a card.
+pub(crate) const COLUMNS: usize = 80;
 
 /// What an E card says about its table, and about the one that alternates with it.
 #[derive(Clone, Copy)]
@@ -34,8 +34,13 @@ impl TableShape {
         (shape.per_record > 0 && shape.width > 0).then_some(shape)
     }
 
+    /// Returns how many columns of a record have entries.
+    pub fn record_columns(&self) -> usize {
+        self.width.saturating_mul(self.per_record)
+    }
+
     /// Returns how many records have all entries.
-    fn records(&self) -> usize {
+    pub fn records(&self) -> usize {
         let mut records: usize = 0;
         let mut held: usize = 0;
         for _ in 0..self.entries {
@@ -114,7 +119,7 @@ pub(crate) fn entries_of(
     records: &[&[u8]],
 ) -> Result<Vec<u8>, RuleStop> {
     let mut text = Vec::new(alloc);
-    let width = shape.width.saturating_mul(shape.per_record);
+    let width = shape.record_columns();
     for record in records {
         let end = text.len().saturating_add(width);
         text.extend_from_slice(record.get(..width).unwrap_or(*record))?;

@@ -83,6 +83,14 @@ impl<'a> Editor<'a> {
         all.saturating_sub(self.gone)
     }
 
+    /// Returns the line of a card of the source, counted from 1; empty if there is none.
+    pub fn line(&self, card: usize) -> &'a [u8] {
+        match self.lines.get(card.saturating_sub(1)) {
+            Some(line) => line,
+            None => &[],
+        }
+    }
+
     fn keep(&mut self, outcome: Result<(), AllocError>)
         ensures { StaysStopped self.old self.new }
     {
@@ -196,7 +204,7 @@ impl<'a> Editor<'a> {
         for (place, line) in self.lines.iter().enumerate() {
             if let Some(slot) = self.slots.get(place) {
                 if ends_source(line) {
-                    view.end_at(place);
+                    view.end_at(place, line, &slot.here);
                     return view.push_made(place, slot.before.as_slice());
                 }
                 view.push_slot(place, line, slot)?;

@@ -2,7 +2,7 @@
 
 use crate::word::Word;
 
-/// The rules, in their order. A rule's number is its code: A1 to A21.
+/// The rules by their codes: A1, the first, has 0. `rpg_fit::RULES` has the order in which they are applied.
 #[derive(Clone, Copy)]
 pub enum Rule {
     Comments,
@@ -26,6 +26,13 @@ pub enum Rule {
     Fetch,
     Dates,
     Disks,
+    JobControl,
+    Printers,
+    EndOfFiles,
+    UpdatedFiles = 26,
+    ZoneCodes,
+    Structures,
+    SquareRoots,
 }
 
 impl Rule {

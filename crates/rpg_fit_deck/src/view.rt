@@ -37,6 +37,8 @@ pub struct View {
     pub cards_end: Address,
     /// The address after all cards and data.
     pub end: Address,
+    /// The card `/*` that ends the source.
+    pub last: Option<Seen>,
     in_data: bool,
 }
 
@@ -52,6 +54,7 @@ impl View {
             data: Vec::new(alloc),
             cards_end: end,
             end,
+            last: None,
             in_data: false,
         }
     }
@@ -64,9 +67,10 @@ impl View {
         }
     }
 
-    /// Ends the source.
-    pub(crate) fn end_at(&mut self, slot: usize) {
+    /// Ends the source with a line.
+    pub(crate) fn end_at(&mut self, slot: usize, line: &[u8], here: &Here) {
         self.end = Address { slot, made: 0 };
+        self.last = seen_at(slot, line, here);
         if !self.in_data {
             self.cards_end = self.end;
         }
@@ -115,16 +119,24 @@ impl View {
         if begins_data(line) {
             self.begin_data(at);
         }
-        let (card, width) = match slot.here {
-            Here::Kept => (Card::of(line), line.len()),
-            Here::Changed(card) => (card, 80),
-            Here::Gone => return Ok(()),
-        };
-        self.push(Seen {
-            at,
-            number: place.saturating_add(1),
-            card,
-            width,
-        })
+        match seen_at(place, line, &slot.here) {
+            Some(seen) => self.push(seen),
+            None => Ok(()),
+        }
     }
+}
+
+/// Returns the card in a slot, unless it is removed.
+fn seen_at(slot: usize, line: &[u8], here: &Here) -> Option<Seen> {
+    let (card, width) = match here {
+        Here::Kept => (Card::of(line), line.len()),
+        Here::Changed(card) => (*card, 80),
+        Here::Gone => return None,
+    };
+    Some(Seen {
+        at: Address { slot, made: 0 },
+        number: slot.saturating_add(1),
+        card,
+        width,
+    })
 }

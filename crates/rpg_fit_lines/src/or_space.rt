@@ -2,12 +2,9 @@
 
 use rpg_fit_deck::{Editor, Seen, Sentence, Word};
 use rpg_fit_words::{
-    Alternative, Conjunction, DeckLines, Done, Indicator, Line, List, NewCard, RuleStop, Term,
-    Time, name_files, printer_of, put_cards,
+    Alternative, Apart, Conjunction, DeckLines, Done, Indicator, Line, List, NewCard, RuleStop,
+    Term, Time, name_files, printer_of, put_cards,
 };
-
-/// The most alternatives of a line, since no deck has more cards.
-const MOST_ALTERNATIVES: usize = 2000;
 
 /// Replaces each line whose alternatives have different spaces or skips by several lines. No two of these are printed together.
 pub fn or_spaces(editor: &mut Editor) -> Done {
@@ -85,6 +82,13 @@ impl<'a> Split<'a> {
             line,
             overflow,
             card,
+        }
+    }
+
+    fn apart(&self) -> Apart {
+        Apart {
+            overflow: self.overflow,
+            card: self.card,
         }
     }
 
@@ -191,57 +195,12 @@ impl<'a> Split<'a> {
         for other in earlier {
             if self.is_overflow(&other.condition) == self.is_overflow(&condition) {
                 let mut still = List::new(editor.alloc());
-                self.push_without(&mut still, left.checked()?, &other.condition)?;
+                self.apart()
+                    .push_without(&mut still, left.checked()?, &other.condition)?;
                 left = still;
             }
         }
         apart.append(&left);
-        Ok(())
-    }
-
-    /// Appends conditions that hold if one of some does and another one doesn't.
-    fn push_without(
-        &self,
-        left: &mut List<Conjunction>,
-        conditions: &[Conjunction],
-        other: &Conjunction,
-    ) -> Done {
-        for condition in conditions {
-            if condition.clashes_with(other) {
-                left.push(*condition);
-            } else {
-                self.push_opposites(left, condition, other)?;
-            }
-        }
-        Ok(())
-    }
-
-    /// Appends conditions that hold if one does and another one doesn't: for each term of that one, the terms before it and its opposite.
-    fn push_opposites(
-        &self,
-        left: &mut List<Conjunction>,
-        condition: &Conjunction,
-        other: &Conjunction,
-    ) -> Done {
-        let mut met = *condition;
-        for term in other.terms() {
-            if !condition.has(*term) {
-                self.check(term.indicator, left.as_slice().len())?;
-                left.push(met.and(term.opposite()));
-                met.push(*term);
-            }
-        }
-        Ok(())
-    }
-
-    /// Rejects an alternative that would test overflow, or is one too many: an earlier line may turn overflow on.
-    fn check(&self, tested: Indicator, alternatives: usize) -> Done {
-        if !self.overflow.is_blank() && tested == self.overflow {
-            return Err(RuleStop::because(self.card, "an earlier alternative tests overflow"));
-        }
-        if alternatives >= MOST_ALTERNATIVES {
-            return Err(RuleStop::because(self.card, "more than 2000 alternatives"));
-        }
         Ok(())
     }
 }

@@ -83,7 +83,7 @@ fn has_name_in(card: &Card, places: &[Columns], name: &[u8]) -> bool
 }
 
 /// Whether a card has a name.
-fn is_name_on(card: &Card, name: &[u8]) -> bool
+pub fn is_name_on(card: &Card, name: &[u8]) -> bool
     ensures { result ≡ card_has_operand (is_name_in name.now) card.now }
 {
     !card.is_comment() && has_name_in(card, name_columns(card.form()), name)

@@ -2,6 +2,7 @@
 //! printed.
 #![tactic(auto)]
 
+mod apart;
 mod columns;
 mod constant;
 mod first_output;
@@ -15,6 +16,7 @@ mod printer;
 mod record_type;
 mod template;
 
+pub use apart::Apart;
 pub use columns::Columns;
 pub use constant::Constant;
 pub use first_output::{
@@ -24,11 +26,13 @@ pub use first_output::{
 pub use flagged::{Flagged, push_conditioned, under_flag};
 pub use group::{Group, Section, groups, groups_now};
 pub use indicator_use::{IndicatorUse, UseKind, check_only_type, indicator_uses};
-pub use line::{Alternative, DeckLines, Line, Time, lines, name_files, remove_cards};
+pub use line::{
+    Alternative, DeckLines, Line, Time, lines, name_files, push_conditions, remove_cards,
+};
 pub use list::List;
 pub use place::{Place, insert_at};
 pub use printer::{Printer, printer_of};
-pub use record_type::{RecordType, record_types};
+pub use record_type::{RecordType, is_structure, name_types, record_types};
 pub use rpg_fit_terms::{
     Array, Conjunction, Done, Form, FreeIndicators, FreshNames, Indicator, NewCard, Operand,
     RuleStop, Term, array_of, entry, form_of, fresh_name, is_card, is_date_part, is_name_used,

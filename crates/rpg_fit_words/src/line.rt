@@ -130,17 +130,30 @@ impl Line {
         head: NewCard,
         alternatives: &[Conjunction],
     ) -> Done {
-        let number = self.head.number;
-        let mut first = head;
-        for condition in alternatives {
-            condition.check(number)?;
-            cards.push(first.with(23, 31, condition.columns(0).text()));
-            push_and_cards(cards, condition, number);
-            first = condition_card(b"OR", number);
-        }
+        push_conditions(cards, head, alternatives)?;
         push_copies(cards, self.fields.as_slice());
         Ok(())
     }
+}
+
+/// Appends a record card with alternatives, at least one.
+///
+/// # Errors
+///
+/// An alternative has more than 60 conditions.
+pub fn push_conditions(
+    cards: &mut List<NewCard>,
+    head: NewCard,
+    alternatives: &[Conjunction],
+) -> Done {
+    let mut first = head;
+    for condition in alternatives {
+        condition.check(head.number)?;
+        cards.push(first.with(23, 31, condition.columns(0).text()));
+        push_and_cards(cards, condition, head.number);
+        first = condition_card(b"OR", head.number);
+    }
+    Ok(())
 }
 
 /// Returns an AND or OR card without conditions.

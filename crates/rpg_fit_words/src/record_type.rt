@@ -1,10 +1,10 @@
 //! Record types.
 
-use rpg_fit_deck::{Card, Seen, View, Word};
+use rpg_fit_deck::{Card, Editor, Seen, View, Word};
 use rpg_fit_terms::{Done, RuleStop, is_card};
 use std::alloc::Global;
 
-/// A record type.
+/// A record type, or a data structure, whose file is empty.
 #[derive(Drop)]
 pub struct RecordType {
     pub head: Seen,
@@ -17,6 +17,11 @@ pub struct RecordType {
 /// Whether an I card adds or alternates codes of a type: AND or OR in 14 to 16.
 fn continues(card: &Card) -> bool {
     card.is_blank(7, 13) && matches!(card.columns(14, 16), b"OR " | b"AND")
+}
+
+/// Whether an I card begins a data structure.
+pub fn is_structure(card: &Card) -> bool {
+    matches!(card.columns(19, 20), b"DS") && card.is_blank(43, 58)
 }
 
 /// Appends a card to the type that it belongs to.
@@ -34,17 +39,18 @@ fn push_to_last(found: &mut Vec<RecordType>, seen: &Seen) -> Done {
 /// Appends a card to the type that it belongs to, or the type that it begins. `file`: that of the previous
 /// type.
 fn push_card(alloc: Global, found: &mut Vec<RecordType>, file: &mut Word, seen: &Seen) -> Done {
-    if continues(&seen.card) || seen.card.is_blank(7, 16) {
+    let is_structure = is_structure(&seen.card);
+    if continues(&seen.card) || seen.card.is_blank(7, 16) && !is_structure {
         return push_to_last(found, seen);
     }
-    if !seen.card.is_blank(7, 14) {
+    if !seen.card.is_blank(7, 14) && !is_structure {
         *file = Word::of(seen.card.value(7, 14));
     }
     found.push(RecordType {
         head: *seen,
         more: Vec::new(alloc),
         fields: Vec::new(alloc),
-        file: *file,
+        file: if is_structure { Word::empty() } else { *file },
     })?;
     Ok(())
 }
@@ -63,4 +69,14 @@ pub fn record_types(view: &View) -> Result<Vec<RecordType>, RuleStop> {
         }
     }
     Ok(found)
+}
+
+/// Puts the name of its file on each type's card, as part of the change of the card `with`.
+pub fn name_types(editor: &mut Editor, types: &[RecordType], with: usize) {
+    for kind in types {
+        let head = &kind.head;
+        if head.card.value(7, 14) != kind.file.text() && !is_structure(&head.card) {
+            editor.change(head.at, head.card.with(7, 14, kind.file.text()), with);
+        }
+    }
 }

@@ -1,0 +1,286 @@
+//! SQRT: replaced by a loop that takes Newton's steps on whole numbers.
+
+use crate::now::{Now, replace};
+use rpg_fit_deck::{Card, Editor, Sentence, View, Word};
+use rpg_fit_words::{
+    Columns, Done, FreeIndicators, Group, Indicator, NewCard, Operand, RuleStop, array_of,
+    calculation, form_of, fresh_name, groups, under_flag,
+};
+
+/// The most digits of a number.
+const MOST_DIGITS: usize = 15;
+
+/// The most decimals of a root: four times a power of ten with twice as many zeros is a constant of at most 10 digits.
+const MOST_DECIMALS: usize = 4;
+
+/// Replaces each SQRT by a loop. Its result is rounded.
+pub fn square_roots(editor: &mut Editor) -> Done {
+    let view = editor.view()?;
+    let found = groups(&view)?;
+    let mut free = FreeIndicators::new();
+    for group in found.iter() {
+        if is_root(group) {
+            rewrite_root(editor, &mut free, group, found.as_slice())?;
+        }
+    }
+    Ok(())
+}
+
+fn is_root(group: &Group) -> bool {
+    group.operation() == b"SQRT".as_slice()
+}
+
+/// Whether a calculation follows another one under the same conditions, both on a card of their own.
+fn follows(group: &Group, before: &Group) -> bool {
+    group.leading.is_empty()
+        && before.leading.is_empty()
+        && group.last.card.columns(7, 17) == before.last.card.columns(7, 17)
+}
+
+/// Rejects an MVR that may take the remainder of a DIV of the loop.
+fn check_remainders(number: usize, found: &[Group]) -> Done {
+    let mut before: Option<&Group> = None;
+    for group in found {
+        let is_paired = match before {
+            Some(division) => follows(group, division),
+            None => false,
+        };
+        if group.operation() == b"MVR".as_slice() && !is_paired {
+            let why =
+                "an MVR (card %) under other conditions than its DIV: the rest of another DIV, and SQRT becomes some";
+            return Err(RuleStop::about(number, why, Word::of_number(group.last.number)));
+        }
+        before = Some(group);
+    }
+    Ok(())
+}
+
+/// Rejects whole arrays and resulting indicators.
+fn check(now: &Now, found: &[Group]) -> Done {
+    let (card, number) = (&now.seen.card, now.seen.number);
+    let factor = array_of(&now.view, Columns::Factor2.value(card));
+    if factor
+        .or(array_of(&now.view, Columns::Result.value(card)))
+        .is_some()
+    {
+        return Err(RuleStop::because(number, "SQRT of whole arrays"));
+    }
+    if !card.is_blank(54, 59) {
+        return Err(RuleStop::because(number, "SQRT with resulting indicators"));
+    }
+    check_remainders(number, found)
+}
+
+/// How many digits a number has, and how many of them are decimals.
+#[derive(Clone, Copy)]
+struct Digits {
+    length: usize,
+    decimals: usize,
+}
+
+/// Returns the digits of a constant.
+fn digits_of(constant: &[u8]) -> Digits {
+    let mut digits = Digits {
+        length: 0,
+        decimals: 0,
+    };
+    let mut is_decimal = false;
+    for character in constant {
+        is_decimal = is_decimal || *character == b'.';
+        if character.is_ascii_digit() {
+            digits.length = digits.length.saturating_add(1);
+            digits.decimals = digits.decimals.saturating_add(usize::from(is_decimal));
+        }
+    }
+    digits
+}
+
+/// Returns the digits of an operand, or None if nothing defines it as a number.
+fn operand_digits(view: &View, text: &[u8]) -> Option<Digits> {
+    if matches!(text, [b'0'..=b'9' | b'.' | b'+' | b'-', ..]) {
+        return Some(digits_of(text));
+    }
+    let form = form_of(view, Operand::of(text).name)?;
+    form.is_number().then_some(Digits {
+        length: form.length,
+        decimals: form.places(),
+    })
+}
+
+/// Returns how many decimals the root has: those on its card, or those of the result.
+fn decimals_of(view: &View, card: &Card) -> Option<usize> {
+    if card.is_blank(49, 51) {
+        Some(operand_digits(view, Columns::Result.value(card))?.decimals)
+    } else {
+        card.number(52, 52)
+    }
+}
+
+/// Replaces a SQRT. One whose operands nothing defines stays, for the compiler to report.
+fn rewrite_root(
+    editor: &mut Editor,
+    free: &mut FreeIndicators,
+    group: &Group,
+    found: &[Group],
+) -> Done {
+    let now = Now::of(editor, group.last)?;
+    check(&now, found)?;
+    let card = &now.seen.card;
+    let (Some(digits), Some(decimals)) = (
+        operand_digits(&now.view, Columns::Factor2.value(card)),
+        decimals_of(&now.view, card),
+    ) else {
+        return Ok(());
+    };
+    let whole = digits.length.saturating_sub(digits.decimals);
+    let length = whole
+        .saturating_add(decimals.saturating_mul(2))
+        .saturating_add(1);
+    if length > MOST_DIGITS || decimals > MOST_DECIMALS {
+        let why = "the root of a number of % digits to % decimals";
+        let (length, decimals) = (Word::of_number(digits.length), Word::of_number(decimals));
+        return Err(RuleStop::refused(now.seen.number, Sentence::of_two(why, length, decimals)));
+    }
+    put_loop(editor, free, group, &now, length.max(2), decimals)
+}
+
+/// Replaces a SQRT by a loop over numbers of `length` digits.
+fn put_loop(
+    editor: &mut Editor,
+    free: &mut FreeIndicators,
+    group: &Group,
+    now: &Now,
+    length: usize,
+    decimals: usize,
+) -> Done {
+    let under = under_flag(&now.view, group, free, true)?;
+    let Some(flag) = under.flag else {
+        return Ok(());
+    };
+    let root = Root::of(now, free, under.level, flag, length)?;
+    let mut cards = under.before;
+    cards.push_all(&root.begin(&now.seen.card, power(4, decimals.saturating_mul(2))));
+    cards.push_all(&root.check(&now.seen.card));
+    cards.push_all(&root.step());
+    cards.push_all(&root.end(&now.seen.card, power(2, decimals)));
+    let most = length.saturating_mul(167) / 100;
+    let text = "SQRT: a loop, rounded; at most % of the allowance";
+    let remark = Sentence::about(text, Word::of_number(most.saturating_add(6)));
+    replace(editor, group, &cards, remark)
+}
+
+/// Returns a number with zeros after it.
+fn power(first: usize, zeros: usize) -> Word {
+    let mut number = first;
+    for _ in 0..zeros {
+        number = number.saturating_mul(10);
+    }
+    Word::of_number(number)
+}
+
+/// The parts of the loop.
+#[derive(Clone, Copy)]
+struct Root {
+    /// Columns 7 to 8 of each calculation.
+    level: Indicator,
+    /// On if the loop is done at all.
+    flag: Indicator,
+    /// On while it continues.
+    goes_on: Indicator,
+    /// Four times the number, as a whole one.
+    square: Word,
+    /// Twice the root, from above.
+    root: Word,
+    /// The next root.
+    next: Word,
+    /// The label at its start.
+    again: Word,
+    /// The label after it.
+    done: Word,
+    length: usize,
+    number: usize,
+}
+
+impl Root {
+    fn of(
+        now: &Now,
+        free: &mut FreeIndicators,
+        level: Indicator,
+        flag: Indicator,
+        length: usize,
+    ) -> Result<Root, RuleStop> {
+        let number = now.seen.number;
+        Ok(Root {
+            level,
+            flag,
+            square: fresh_name(&now.view, b"SQ#", number)?,
+            root: fresh_name(&now.view, b"SG#", number)?,
+            next: fresh_name(&now.view, b"SH#", number)?,
+            again: fresh_name(&now.view, b"STEP#", number)?,
+            done: fresh_name(&now.view, b"ROOT#", number)?,
+            goes_on: free.take(&now.view, number)?,
+            length,
+            number,
+        })
+    }
+
+    fn card(&self, template: &[u8], words: &[Word]) -> NewCard {
+        let card = calculation(template, words, self.number);
+        card.with(7, 8, self.level.word().text())
+    }
+
+    /// Returns a card that defines its result as a whole number.
+    fn defining(&self, template: &[u8], words: &[Word]) -> NewCard {
+        let card = self.card(template, words);
+        card.with_number(49, 51, self.length).with(52, 52, b"0")
+    }
+
+    /// Returns the cards that set the first root: a negative number divides by 0.
+    fn begin(&self, card: &Card, factor: Word) -> [NewCard; 5] {
+        let (goes_on, square) = (self.goes_on.word(), self.square);
+        let operand = Word::of(Columns::Factor2.value(card));
+        [
+            self.card(b"N%||GOTO|%", &[self.flag.word(), self.done]),
+            self.defining(b"|%|MULT|%|%", &[operand, factor, square]),
+            self.defining(b"||Z-ADD|%|%", &[square, self.root]),
+            self.card(b"|%|COMP|0||||%", &[square, goes_on]),
+            self.card(b" %|%|DIV|0|%", &[goes_on, square, square]),
+        ]
+    }
+
+    /// Returns the cards for a number that is 0.
+    fn check(&self, card: &Card) -> [NewCard; 4] {
+        let (goes_on, square) = (self.goes_on.word(), self.square);
+        let result = Word::of(Columns::Result.value(card));
+        [
+            self.card(b"|%|COMP|0|||||%", &[square, goes_on]),
+            self.defining(b"N%||Z-ADD|%|%", &[goes_on, square, self.next]),
+            self.card(b" %||Z-ADD|0|%", &[goes_on, result])
+                .with_columns(49, 52, card),
+            self.card(b" %||GOTO|%", &[goes_on, self.done]),
+        ]
+    }
+
+    /// Returns the cards of a step: the next root is the mean of the last one and what it divides the number to.
+    fn step(&self) -> [NewCard; 6] {
+        let (goes_on, root, next) = (self.goes_on.word(), self.root, self.next);
+        [
+            self.card(b"|%|TAG", &[self.again]),
+            self.card(b"|%|DIV|%|%", &[self.square, root, next]),
+            self.card(b"|%|COMP|%||||%", &[next, root, goes_on]),
+            self.card(b" %|%|ADD|%|%", &[goes_on, next, root, next]),
+            self.card(b" %|%|DIV|2|%", &[goes_on, next, root]),
+            self.card(b" %||GOTO|%", &[goes_on, self.again]),
+        ]
+    }
+
+    /// Returns the cards that round the root.
+    fn end(&self, card: &Card, divisor: Word) -> [NewCard; 3] {
+        let result = Word::of(Columns::Result.value(card));
+        [
+            self.card(b"|%|ADD|1|%", &[self.root, self.root]),
+            self.card(b"|%|DIV|%|%", &[self.root, divisor, result]),
+            self.card(b"|%|TAG", &[self.done]),
+        ]
+    }
+}

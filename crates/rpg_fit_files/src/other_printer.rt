@@ -1,0 +1,254 @@
+//! The lines of a printer whose deck isn't wanted.
+
+use crate::file::name_of;
+use rpg_fit_deck::{Address, Card, Editor, Seen, Sentence, Word};
+use rpg_fit_terms::is_name_on;
+use rpg_fit_words::{
+    Conjunction, DeckLines, Done, Indicator, Line, List, NewCard, Operand, RuleStop, Term, Time,
+    UseKind, indicator_uses, is_card, name_files, push_conditions, put_cards,
+};
+
+/// A printer whose lines are taken out, and the deck before that.
+#[derive(Drop)]
+pub(crate) struct OtherPrinter {
+    file: Seen,
+    overflow: Indicator,
+    deck: DeckLines,
+}
+
+/// Returns the name that a field prints, without its index.
+fn base_of(field: &Seen) -> &[u8] {
+    Operand::of(field.card.value(32, 37)).name
+}
+
+/// Whether a field counts pages.
+fn is_page(field: &Seen) -> bool {
+    matches!(base_of(field), [b'P', b'A', b'G', b'E', ..])
+}
+
+impl OtherPrinter {
+    /// Returns a printer of a deck in its present form. Each line gets its file's name, so that lines may go.
+    pub fn of(editor: &mut Editor, file: &Seen) -> Result<OtherPrinter, RuleStop> {
+        let unnamed = DeckLines::of(editor)?;
+        name_files(editor, unnamed.lines.as_slice(), file.number);
+        Ok(OtherPrinter {
+            file: *file,
+            overflow: Indicator::at(&file.card, 33),
+            deck: DeckLines::of(editor)?,
+        })
+    }
+
+    /// Takes the printer out with its lines, or makes a disk file of it, if its lines change what others put out.
+    pub fn take_out(&self, editor: &mut Editor) -> Done {
+        self.check_overflow()?;
+        if self.has_effects()? {
+            self.become_disk(editor)?;
+        } else {
+            self.remove(editor);
+        }
+        self.remove_forms(editor);
+        Ok(())
+    }
+
+    fn name(&self) -> Word {
+        Word::of(name_of(&self.file))
+    }
+
+    fn has(&self, line: &Line) -> bool {
+        line.file.text() == name_of(&self.file)
+    }
+
+    /// Rejects its overflow indicator anywhere but in the alternatives of its own lines.
+    fn check_overflow(&self) -> Done {
+        let uses = indicator_uses(&self.deck.view);
+        for one in uses.checked()? {
+            let is_asked = one.indicator == self.overflow && matches!(one.kind, UseKind::Asked);
+            if is_asked && !self.is_own(one.at) {
+                let why = "% is the overflow of %, and is asked for here";
+                let why = Sentence::of_two(why, self.overflow.word(), self.name());
+                return Err(RuleStop::refused(one.number, why));
+            }
+        }
+        Ok(())
+    }
+
+    /// Whether a card is of a line of its own, which doesn't ask that there be no overflow.
+    fn is_own(&self, at: Address) -> bool {
+        for line in self.deck.lines.iter() {
+            if self.has(line) && line.time != Time::Exception {
+                if let Some(card) = condition_card(line, at) {
+                    return !Conjunction::at(card, 23).has(Term::off(self.overflow));
+                }
+            }
+        }
+        false
+    }
+
+    fn is_overflow(&self, condition: &Conjunction) -> bool {
+        !self.overflow.is_blank() && condition.has(Term::on(self.overflow))
+    }
+
+    /// Whether one of its lines changes what other lines put out.
+    fn has_effects(&self) -> Result<bool, RuleStop> {
+        let mut found = false;
+        for line in self.deck.lines.iter() {
+            if let Some(field) = self.effect_of(line) {
+                self.check_time(line, field)?;
+                found = true;
+            }
+        }
+        Ok(found)
+    }
+
+    /// Returns the first field of a line of its own that changes what other lines put out.
+    fn effect_of<'a>(&self, line: &'a Line) -> Option<&'a Seen> {
+        for field in line.fields.iter() {
+            if self.has(line) && self.has_effect(field) {
+                return Some(field);
+            }
+        }
+        None
+    }
+
+    /// Whether a field counts pages or is blanked for others, or may have a bad index.
+    fn has_effect(&self, field: &Seen) -> bool {
+        let operand = Operand::of(field.card.value(32, 37));
+        let is_changed = field.card.column(39) == b'B' || is_page(field);
+        operand.has_index_field() || is_changed && self.is_used_elsewhere(operand.name)
+    }
+
+    /// Whether a calculation, or a line of another file, has a name.
+    fn is_used_elsewhere(&self, name: &[u8]) -> bool {
+        if name.is_empty() {
+            return false;
+        }
+        for line in self.deck.lines.iter() {
+            if !self.has(line) && is_on(line.fields.as_slice(), name) {
+                return true;
+            }
+        }
+        for seen in &self.deck.view.cards {
+            if is_card(seen, b'C') && is_name_on(&seen.card, name) {
+                return true;
+            }
+        }
+        false
+    }
+
+    /// Rejects a field that changes others at overflow, which a disk file doesn't have.
+    fn check_time(&self, line: &Line, field: &Seen) -> Done {
+        for alternative in line.alternatives.iter() {
+            if self.is_overflow(&alternative.condition) {
+                let why = "PAGE, blank after or an index field on a line of % at its overflow";
+                return Err(RuleStop::about(field.number, why, self.name()));
+            }
+        }
+        Ok(())
+    }
+
+    /// Takes out the printer and its lines.
+    fn remove(&self, editor: &mut Editor) {
+        let mut lines: usize = 0;
+        for line in self.deck.lines.iter() {
+            if self.has(line) {
+                line.remove(editor, self.file.number);
+                lines = lines.saturating_add(1);
+            }
+        }
+        let text = if lines == 1 {
+            "% and its % line taken out: --printer % writes its deck"
+        } else {
+            "% and its % lines taken out: --printer % writes its deck"
+        };
+        let sentence = Sentence::of_three(text, self.name(), Word::of_number(lines), self.name());
+        editor.report(self.file.number, sentence);
+        editor.remove(self.file.at, self.file.number);
+    }
+
+    /// Takes out the forms of the printer.
+    fn remove_forms(&self, editor: &mut Editor) {
+        for seen in &self.deck.view.cards {
+            if is_card(seen, b'L') && seen.card.value(7, 14) == name_of(&self.file) {
+                editor.remove(seen.at, self.file.number);
+            }
+        }
+    }
+
+    /// Makes a disk file of the printer.
+    fn become_disk(&self, editor: &mut Editor) -> Done {
+        for line in self.deck.lines.iter() {
+            if self.has(line) {
+                self.write_line(editor, line)?;
+            }
+        }
+        let text =
+            "% is a disk file in this deck, as its lines change what others put out: --printer % writes its deck";
+        let sentence = Sentence::of_two(text, self.name(), self.name());
+        let card = self.file.card.with(20, 23, &[]).with(33, 34, &[]);
+        let card = card.with(39, 39, &[]).with(40, 46, b"DISK");
+        editor.rewrite(&self.file, card, sentence);
+        Ok(())
+    }
+
+    /// Replaces a line by one without overflow, spaces and skips.
+    fn write_line(&self, editor: &mut Editor, line: &Line) -> Done {
+        let mut conditions = List::new(editor.alloc());
+        for alternative in line.alternatives.iter() {
+            if !self.is_overflow(&alternative.condition) {
+                conditions.push(alternative.condition);
+            }
+        }
+        let conditions = conditions.checked()?;
+        if !conditions.is_empty() {
+            let mut cards = List::new(editor.alloc());
+            let head = line.new_head().with(16, 22, &[]);
+            push_conditions(&mut cards, head, conditions)?;
+            self.push_fields(&mut cards, line);
+            put_cards(editor, line.head.at, cards.checked()?, self.file.number)?;
+        }
+        line.remove(editor, self.file.number);
+        Ok(())
+    }
+
+    /// Appends the fields of a line without counters that no other line has, or a blank if there are none.
+    fn push_fields(&self, cards: &mut List<NewCard>, line: &Line) {
+        let mut is_empty = true;
+        for field in line.fields.iter() {
+            if !is_page(field) || self.is_used_elsewhere(base_of(field)) {
+                cards.push(NewCard::copy(field));
+                is_empty = false;
+            }
+        }
+        if is_empty {
+            cards.push(NewCard {
+                card: Card::of_form(b'O')
+                    .with_right(40, 43, b"1")
+                    .with(45, 47, b"' '"),
+                number: self.file.number,
+            });
+        }
+    }
+}
+
+/// Whether one of some fields has a name.
+fn is_on(fields: &[Seen], name: &[u8]) -> bool {
+    for field in fields {
+        if is_name_on(&field.card, name) {
+            return true;
+        }
+    }
+    false
+}
+
+/// Returns the card at an address, if it has conditions of a line.
+fn condition_card(line: &Line, at: Address) -> Option<&Card> {
+    if line.head.at == at {
+        return Some(&line.head.card);
+    }
+    for seen in line.more.iter() {
+        if seen.at == at {
+            return Some(&seen.card);
+        }
+    }
+    None
+}

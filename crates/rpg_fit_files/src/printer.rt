@@ -1,0 +1,68 @@
+//! Printers by other names than PRINTER, and several of them.
+
+use crate::file::{files_printed, name_of};
+use crate::other_printer::OtherPrinter;
+use rpg_fit_deck::{Editor, Seen, Sentence, Word};
+use rpg_fit_words::{Done, RuleStop};
+
+/// Makes each printer a PRINTER. Of several, the deck keeps the one that is `wanted`.
+pub fn printers(editor: &mut Editor, wanted: Option<&[u8]>) -> Done {
+    let view = editor.view()?;
+    let files = files_printed(&view);
+    let files = files.checked()?;
+    for file in files {
+        name_device(editor, file);
+    }
+    let [_, second, ..] = files else {
+        return Ok(());
+    };
+    let Some(kept) = kept_of(files, wanted) else {
+        return Err(RuleStop::refused(second.number, several(files)));
+    };
+    for file in files {
+        if name_of(file) != name_of(kept) {
+            OtherPrinter::of(editor, file)?.take_out(editor)?;
+        }
+    }
+    Ok(())
+}
+
+/// Makes the device of a printer PRINTER.
+fn name_device(editor: &mut Editor, file: &Seen) {
+    let device = file.card.value(40, 46);
+    if device != b"PRINTER".as_slice() {
+        let sentence = Sentence::about("% is a printer: PRINTER", Word::of(device));
+        editor.rewrite(file, file.card.with(40, 46, b"PRINTER"), sentence);
+    }
+}
+
+/// Returns the printer that the arguments name, if it is one of these.
+fn kept_of<'a>(files: &'a [Seen], wanted: Option<&[u8]>) -> Option<&'a Seen> {
+    for file in files {
+        if wanted == Some(name_of(file)) {
+            return Some(file);
+        }
+    }
+    None
+}
+
+/// Returns why a deck with several printers is rejected if no argument names one.
+fn several(files: &[Seen]) -> Sentence {
+    let mut words = [
+        Word::of_number(files.len()),
+        Word::empty(),
+        Word::empty(),
+        Word::empty(),
+    ];
+    for (place, file) in files.iter().enumerate() {
+        if let Some(word) = words.get_mut(place.saturating_add(1)) {
+            *word = Word::of(name_of(file));
+        }
+    }
+    let text = if files.len() == 2 {
+        "% printers: --printer % or % writes the deck of one, to be run once for each"
+    } else {
+        "% printers: --printer % or % or % writes the deck of one, to be run once for each"
+    };
+    Sentence { text, words }
+}

@@ -1,0 +1,368 @@
+//! Combined files, and files that are updated in place: their records go to a new file.
+
+use crate::file::{files_read, name_of};
+use crate::record_text::RecordText;
+use crate::updated_line::write_lines;
+use rpg_fit_deck::{Card, Editor, Seen, Sentence, View, Word};
+use rpg_fit_terms::address_after;
+use rpg_fit_words::{
+    Conjunction, DeckLines, Done, FreeIndicators, Indicator, IndicatorUse, Line, List, NewCard,
+    RecordType, RuleStop, UseKind, indicator_uses, is_card, is_put_first, name_files, name_types,
+    put_cards, record_types,
+};
+
+/// LR, which ends the job.
+const LAST_RECORD: &[u8] = b"LR";
+
+/// Makes an input file of each combined file and each file that is updated in place, and writes its records to a new one.
+pub fn updated_files(editor: &mut Editor) -> Done {
+    let view = editor.view()?;
+    let files = files_read(&view);
+    let mut free = FreeIndicators::new();
+    for file in files.checked()? {
+        if matches!(file.card.column(15), b'C' | b'U') {
+            write_back(editor, &mut free, file)?;
+        }
+    }
+    Ok(())
+}
+
+/// An alternative of a line for the file.
+#[derive(Clone, Copy)]
+pub(crate) struct Put {
+    /// The number of its line's first card.
+    pub line: usize,
+    pub condition: Conjunction,
+}
+
+/// A file whose records are written back, and the deck before that.
+#[derive(Drop)]
+pub(crate) struct Updated {
+    pub file: Seen,
+    /// The new file.
+    pub new: Word,
+    pub deck: DeckLines,
+    types: Vec<RecordType>,
+    /// The indicators of its types, each once.
+    pub indicators: List<Indicator>,
+    pub record: RecordText,
+}
+
+/// Returns the length of a file's records.
+fn length_of(file: &Card) -> Option<usize> {
+    if file.is_blank(24, 27) {
+        file.number(20, 23)
+    } else {
+        file.number(24, 27)
+    }
+}
+
+/// Returns a name that no file has.
+fn fresh_file(view: &View) -> Word {
+    let mut name = Word::of(b"NEW");
+    for number in 1..99 {
+        if !is_file(view, name.text()) {
+            return name;
+        }
+        name = Word::of(b"NEW").and(Word::of_number(number).text());
+    }
+    name
+}
+
+/// Whether a deck has a file with a name.
+fn is_file(view: &View, name: &[u8]) -> bool {
+    for seen in &view.cards {
+        if is_card(seen, b'F') && name_of(seen) == name {
+            return true;
+        }
+    }
+    false
+}
+
+/// Whether a record type is of a file, and isn't looked ahead.
+fn is_of(kind: &RecordType, file: &Seen) -> bool {
+    kind.file.text() == name_of(file) && !matches!(kind.head.card.columns(19, 20), b"**")
+}
+
+/// Rejects a file with keys or new records, and a deck that ends the job before the last record.
+fn check_file(view: &View, file: &Seen) -> Done {
+    if !file.card.is_blank(28, 32) || !file.card.is_blank(66, 66) {
+        return Err(RuleStop::because(file.number, "keys, or records are added (66)"));
+    }
+    let uses = indicator_uses(view);
+    for one in uses.checked()? {
+        let is_last = one.indicator.word().text() == LAST_RECORD;
+        if is_last && !matches!(one.kind, UseKind::Asked) {
+            let why = "LR is turned on here, and the records after it would be missing";
+            return Err(RuleStop::because(one.number, why));
+        }
+    }
+    Ok(())
+}
+
+/// Gives each type of a file its name, and an indicator if it has none.
+fn complete_types(editor: &mut Editor, free: &mut FreeIndicators, file: &Seen) -> Done {
+    let unnamed = record_types(&editor.view()?)?;
+    name_types(editor, unnamed.as_slice(), file.number);
+    let view = editor.view()?;
+    let types = record_types(&view)?;
+    for kind in types.iter() {
+        let head = &kind.head;
+        if is_of(kind, file) && Indicator::at(&head.card, 19).is_blank() {
+            let indicator = free.take(&view, head.number)?;
+            let card = head.card.with(19, 20, indicator.word().text());
+            editor.change(head.at, card, file.number);
+        }
+    }
+    Ok(())
+}
+
+/// Returns the indicators of a file's types, each once.
+fn indicators_of(view: &View, types: &[RecordType], file: &Seen) -> List<Indicator> {
+    let mut found = List::new(view.alloc);
+    for kind in types {
+        let indicator = Indicator::at(&kind.head.card, 19);
+        if is_of(kind, file) && !is_among(found.as_slice(), indicator) {
+            found.push(indicator);
+        }
+    }
+    found
+}
+
+fn is_among(indicators: &[Indicator], one: Indicator) -> bool {
+    for indicator in indicators {
+        if *indicator == one {
+            return true;
+        }
+    }
+    false
+}
+
+/// Writes the records of a file to a new one. A file whose length can't be read stays, for the compiler to report.
+fn write_back(editor: &mut Editor, free: &mut FreeIndicators, file: &Seen) -> Done {
+    let Some(length) = length_of(&file.card) else {
+        return Ok(());
+    };
+    check_file(&editor.view()?, file)?;
+    complete_types(editor, free, file)?;
+    let deck = DeckLines::of(editor)?;
+    let types = record_types(&deck.view)?;
+    let updated = Updated {
+        file: *file,
+        new: fresh_file(&deck.view),
+        indicators: indicators_of(&deck.view, types.as_slice(), file),
+        record: RecordText::of(&deck.view, length, file.number)?,
+        types,
+        deck,
+    };
+    updated.check_indicators()?;
+    updated.check_lines()?;
+    let puts = updated.puts();
+    let puts = puts.checked()?;
+    updated.check_apart(puts)?;
+    updated.put_files(editor, length)?;
+    write_lines(editor, &updated, puts)
+}
+
+impl Updated {
+    pub fn name(&self) -> Word {
+        Word::of(name_of(&self.file))
+    }
+
+    /// Rejects the deck for a card, with a sentence about its file.
+    pub fn refused(&self, card: usize, why: &'static str) -> RuleStop {
+        RuleStop::about(card, why, self.name())
+    }
+
+    /// Whether a line is for the file.
+    pub fn has(&self, line: &Line) -> bool {
+        line.file.text() == name_of(&self.file)
+    }
+
+    /// Rejects an indicator of its types that anything else turns on or off.
+    fn check_indicators(&self) -> Done {
+        let uses = indicator_uses(&self.deck.view);
+        let uses = uses.checked()?;
+        for indicator in self.indicators.checked()? {
+            if !indicator.is_number() {
+                let why = "its indicator is %, and may be on in other cycles";
+                return Err(RuleStop::about(self.file.number, why, indicator.word()));
+            }
+            self.check_uses(uses, *indicator)?;
+        }
+        Ok(())
+    }
+
+    fn check_uses(&self, uses: &[IndicatorUse], indicator: Indicator) -> Done {
+        for one in uses {
+            if one.indicator == indicator && self.is_changed(one) {
+                let why = "% of a record of % is turned on or off here";
+                let why = Sentence::of_two(why, indicator.word(), self.name());
+                return Err(RuleStop::refused(one.number, why));
+            }
+        }
+        Ok(())
+    }
+
+    /// Whether a card turns an indicator on or off, other than as that of its types.
+    fn is_changed(&self, one: &IndicatorUse) -> bool {
+        match one.kind {
+            UseKind::Field | UseKind::Result => true,
+            UseKind::Type => one.form == b'I' && !self.is_own(one),
+            UseKind::Asked => false,
+        }
+    }
+
+    /// Whether an indicator stands on the card of one of its types.
+    fn is_own(&self, one: &IndicatorUse) -> bool {
+        for kind in self.types.iter() {
+            if is_of(kind, &self.file) && kind.head.at == one.at {
+                return true;
+            }
+        }
+        false
+    }
+
+    /// Whether a record of the file is read in each cycle, and each of its types has an indicator of its own.
+    fn is_alone(&self) -> bool {
+        let mut count: usize = 0;
+        for kind in self.types.iter() {
+            count = count.saturating_add(usize::from(is_of(kind, &self.file)));
+        }
+        let is_only = files_read(&self.deck.view).as_slice().len() == 1;
+        is_only && self.indicators.as_slice().len() == count
+    }
+
+    /// Rejects lines that aren't for the record that was read.
+    fn check_lines(&self) -> Done {
+        let is_alone = self.is_alone();
+        for line in self.deck.lines.iter() {
+            if self.has(line) {
+                self.check_line(line, is_alone)?;
+            }
+        }
+        Ok(())
+    }
+
+    fn check_line(&self, line: &Line, is_alone: bool) -> Done {
+        let number = line.head.number;
+        if !line.time.is_detail() {
+            let why = "a line of time % for a record of %";
+            let time = Word::of(line.head.card.columns(15, 15));
+            return Err(RuleStop::refused(number, Sentence::of_two(why, time, self.name())));
+        }
+        if is_put_first(None, line) {
+            return Err(self.refused(number, "a line for a record of % at the first output"));
+        }
+        for alternative in line.alternatives.iter() {
+            if !is_alone && self.type_in(&alternative.condition).is_none() {
+                let why = "a line for a record of % where none need have been read";
+                return Err(self.refused(number, why));
+            }
+        }
+        Ok(())
+    }
+
+    /// Returns the first indicator of its types that a condition wants on.
+    fn type_in(&self, condition: &Conjunction) -> Option<Indicator> {
+        for term in condition.terms() {
+            if !term.is_off && is_among(self.indicators.as_slice(), term.indicator) {
+                return Some(term.indicator);
+            }
+        }
+        None
+    }
+
+    /// Whether a condition wants another one of its types than this one.
+    fn wants_other(&self, condition: &Conjunction, own: Indicator) -> bool {
+        for term in condition.terms() {
+            let is_type = !term.is_off && is_among(self.indicators.as_slice(), term.indicator);
+            if is_type && term.indicator != own {
+                return true;
+            }
+        }
+        false
+    }
+
+    /// Whether two conditions never hold together.
+    pub fn excludes(&self, one: &Conjunction, other: &Conjunction) -> bool {
+        let own = self.type_in(one).or(self.type_in(other));
+        let wants_two = match own {
+            Some(own) => self.wants_other(one, own) || self.wants_other(other, own),
+            None => false,
+        };
+        wants_two || one.clashes_with(other)
+    }
+
+    /// Returns the alternatives of its lines.
+    fn puts(&self) -> List<Put> {
+        let mut found = List::new(self.deck.view.alloc);
+        for line in self.deck.lines.iter() {
+            if self.has(line) {
+                push_puts(&mut found, line);
+            }
+        }
+        found
+    }
+
+    /// Rejects two lines that may be for one record.
+    fn check_apart(&self, puts: &[Put]) -> Done {
+        for (place, put) in puts.iter().enumerate() {
+            if let Some(earlier) = self.earlier(puts.get(..place).unwrap_or(&[]), put) {
+                let why = Sentence::of_three(
+                    "two lines may change one record of % (cards % and %)",
+                    self.name(),
+                    Word::of_number(earlier.line),
+                    Word::of_number(put.line),
+                );
+                return Err(RuleStop::refused(put.line, why));
+            }
+        }
+        Ok(())
+    }
+
+    /// Returns the first alternative of another line that may hold together with one.
+    fn earlier<'a>(&self, before: &'a [Put], put: &Put) -> Option<&'a Put> {
+        for other in before {
+            if other.line != put.line && !self.excludes(&put.condition, &other.condition) {
+                return Some(other);
+            }
+        }
+        None
+    }
+
+    /// Makes an input file of it, with the whole record in each type, and inserts the new file.
+    fn put_files(&self, editor: &mut Editor, length: usize) -> Done {
+        let number = self.file.number;
+        for kind in self.types.iter() {
+            if is_of(kind, &self.file) {
+                self.record.read(editor, &self.deck.view, kind, number)?;
+            }
+        }
+        let new = NewCard {
+            card: Card::of_form(b'F')
+                .with(7, 14, self.new.text())
+                .with(15, 15, b"O"),
+            number,
+        };
+        let new = new
+            .with(19, 19, b"F")
+            .with_number(24, 27, length)
+            .with(40, 46, b"DISK");
+        let following = address_after(&self.deck.view, self.file.at);
+        put_cards(editor, following, &[new], number)?;
+        editor.change(self.file.at, self.file.card.with(15, 15, b"I"), number);
+        name_files(editor, self.deck.lines.as_slice(), number);
+        Ok(())
+    }
+}
+
+/// Appends the alternatives of a line.
+fn push_puts(found: &mut List<Put>, line: &Line) {
+    for alternative in line.alternatives.iter() {
+        found.push(Put {
+            line: line.head.number,
+            condition: alternative.condition,
+        });
+    }
+}

@@ -1,0 +1,148 @@
+//! Lines that each write a record of their own to the new file, and those that no line changes.
+
+use crate::updated::{Put, Updated};
+use rpg_fit_deck::{Address, Card, Editor, Sentence, View, Word};
+use rpg_fit_terms::address_after;
+use rpg_fit_words::{
+    Apart, Conjunction, Done, Indicator, Line, List, NewCard, RuleStop, Term, is_card, printer_of,
+    push_conditions, put_cards,
+};
+
+/// Writes each line of a file to the new one, after the whole record, and the records that no line changes.
+pub(crate) fn write_lines(editor: &mut Editor, updated: &Updated, puts: &[Put]) -> Done {
+    let rest = unchanged(updated, puts)?;
+    let rest = rest.checked()?;
+    for line in updated.deck.lines.iter() {
+        if updated.has(line) {
+            write_line(editor, updated, line)?;
+        }
+    }
+    if !rest.is_empty() {
+        write_rest(editor, updated, rest)?;
+    }
+    editor.report(updated.file.number, remark(updated, rest.len()));
+    Ok(())
+}
+
+/// Returns the sentence about a file with so many alternatives for records that no line changes.
+fn remark(updated: &Updated, rest: usize) -> Sentence {
+    let (none, one, several) = (
+        "% is read, and % gets its records as they are after the job",
+        "% is read, and % gets its records as they are after the job; % alternative puts out those that no line changes",
+        "% is read, and % gets its records as they are after the job; % alternatives put out those that no line changes",
+    );
+    let text = match rest {
+        0 => none,
+        1 => one,
+        _ => several,
+    };
+    Sentence::of_three(text, updated.name(), updated.new, Word::of_number(rest))
+}
+
+/// Returns the conditions for records that no line changes.
+fn unchanged(updated: &Updated, puts: &[Put]) -> Result<List<Conjunction>, RuleStop> {
+    let view = &updated.deck.view;
+    let apart = Apart {
+        overflow: match printer_of(view) {
+            Some(printer) => printer.overflow,
+            None => Indicator::BLANK,
+        },
+        card: updated.file.number,
+    };
+    let mut found = List::new(view.alloc);
+    for indicator in updated.indicators.checked()? {
+        let left = left_of(updated, &apart, puts, *indicator)?;
+        push_possible(&mut found, updated, left.checked()?);
+    }
+    Ok(found)
+}
+
+/// Appends the conditions that may hold.
+fn push_possible(found: &mut List<Conjunction>, updated: &Updated, conditions: &[Conjunction]) {
+    for condition in conditions {
+        if !updated.excludes(condition, condition) {
+            found.push(*condition);
+        }
+    }
+}
+
+/// Returns the conditions for records of an indicator that no line changes.
+fn left_of(
+    updated: &Updated,
+    apart: &Apart,
+    puts: &[Put],
+    indicator: Indicator,
+) -> Result<List<Conjunction>, RuleStop> {
+    let alloc = updated.deck.view.alloc;
+    let own = Conjunction::on(indicator);
+    let mut left = List::new(alloc);
+    left.push(own);
+    for put in puts {
+        if !updated.excludes(&put.condition, &own) {
+            let other = put.condition.without(Term::on(indicator));
+            let mut still = List::new(alloc);
+            if !other.is_empty() {
+                apart.push_without(&mut still, left.checked()?, &other)?;
+            }
+            left = still;
+        }
+    }
+    Ok(left)
+}
+
+/// Writes a line to the new file, after the whole record.
+fn write_line(editor: &mut Editor, updated: &Updated, line: &Line) -> Done {
+    let head = &line.head;
+    let card = head.card.with(7, 14, updated.new.text()).with(17, 22, &[]);
+    editor.change(head.at, card, updated.file.number);
+    let last = line.more.last().unwrap_or(head);
+    let mut cards = List::new(editor.alloc());
+    updated.record.push_fields(&mut cards, head.number);
+    let following = address_after(&updated.deck.view, last.at);
+    put_cards(editor, following, cards.checked()?, updated.file.number)
+}
+
+/// Writes the records under some conditions to the new file as they are.
+fn write_rest(editor: &mut Editor, updated: &Updated, conditions: &[Conjunction]) -> Done {
+    let head = NewCard {
+        card: Card::of_form(b'O')
+            .with(7, 14, updated.new.text())
+            .with(15, 15, b"D"),
+        number: updated.file.number,
+    };
+    let mut cards = List::new(editor.alloc());
+    push_conditions(&mut cards, head, conditions)?;
+    updated.record.push_fields(&mut cards, updated.file.number);
+    put_cards(
+        editor,
+        after_lines(updated),
+        cards.checked()?,
+        updated.file.number,
+    )
+}
+
+/// Returns the address after the last line of a file, or before the first output card.
+fn after_lines(updated: &Updated) -> Address {
+    let view = &updated.deck.view;
+    let mut found = before_output(view);
+    for line in updated.deck.lines.iter() {
+        if updated.has(line) {
+            let last = match line.fields.last() {
+                Some(field) => field,
+                None => line.more.last().unwrap_or(&line.head),
+            };
+            found = address_after(view, last.at);
+        }
+    }
+    found
+}
+
+/// Returns the address of the first output card, or that after all cards.
+fn before_output(view: &View) -> Address {
+    for seen in &view.cards {
+        if is_card(seen, b'O') {
+            return seen.at;
+        }
+    }
+    view.cards_end
+}

@@ -1,0 +1,286 @@
+//! Codes by zone or digit: replaced by codes for the characters that have it.
+
+use crate::zone::{same_digit, same_zone};
+use rpg_fit_deck::{Card, Editor, MOST_CARDS, Seen, Sentence, View, Word};
+use rpg_fit_terms::address_after;
+use rpg_fit_words::{
+    Constant, Done, Indicator, List, NewCard, RecordType, RuleStop, put_cards, record_types,
+    remove_cards,
+};
+use std::alloc::Global;
+
+/// The first columns of a card's codes.
+const CODES: [usize; 3] = [21, 28, 35];
+
+/// The most alternatives of a type.
+const MOST: usize = 100;
+
+/// Replaces codes by zone or digit: an alternative for each character that has it, and conditions on all of them for a code with N.
+pub fn zone_codes(editor: &mut Editor) -> Done {
+    let view = editor.view()?;
+    let types = record_types(&view)?;
+    for kind in types.iter() {
+        let cards = cards_of(view.alloc, kind);
+        if has_zone_code(cards.checked()?) {
+            rewrite_type(editor, &view, kind, cards.as_slice())?;
+        }
+    }
+    Ok(())
+}
+
+/// Returns the cards with a type's codes.
+fn cards_of(alloc: Global, kind: &RecordType) -> List<Seen> {
+    let mut cards = List::new(alloc);
+    cards.push(kind.head);
+    cards.push_all(kind.more.as_slice());
+    cards
+}
+
+/// Whether one of some cards has a code by zone or digit.
+fn has_zone_code(cards: &[Seen]) -> bool {
+    for seen in cards {
+        for column in CODES {
+            if matches!(seen.card.column(column.saturating_add(5)), b'Z' | b'D') {
+                return true;
+            }
+        }
+    }
+    false
+}
+
+/// A code of a record type, with the characters that it stands for.
+#[derive(Clone, Copy)]
+struct Code {
+    /// The four columns of the position.
+    position: Word,
+    /// Whether none of them may stand there.
+    is_not: bool,
+    /// C, or a letter that no code has.
+    kind: u8,
+    characters: Constant,
+}
+
+impl Code {
+    /// Returns the code in the columns of a card.
+    fn of(seen: &Seen, column: usize) -> Result<Code, RuleStop> {
+        let kind = seen.card.column(column.saturating_add(5));
+        let character = seen.card.column(column.saturating_add(6));
+        let found = match kind {
+            b'Z' => same_zone(character),
+            b'D' => same_digit(character),
+            _ => None,
+        };
+        if found.is_none() && kind == b'Z' {
+            let why = "the zone of '%', which is a sign";
+            return Err(RuleStop::about(seen.number, why, Word::of(&[character])));
+        }
+        Ok(Code {
+            position: Word::of(seen.card.columns(column, column.saturating_add(3))),
+            is_not: seen.card.column(column.saturating_add(4)) == b'N',
+            kind: if matches!(kind, b'Z' | b'D') {
+                b'C'
+            } else {
+                kind
+            },
+            characters: constant_of(found.unwrap_or(&[character])),
+        })
+    }
+
+    /// Returns how many alternatives it makes.
+    fn alternatives(&self) -> usize {
+        if self.is_not {
+            1
+        } else {
+            self.characters.text().len()
+        }
+    }
+}
+
+fn constant_of(text: &[u8]) -> Constant {
+    let mut constant = Constant::empty();
+    for character in text {
+        constant.push(*character);
+    }
+    constant
+}
+
+/// Returns the codes of an alternative.
+fn codes_of(alloc: Global, cards: &[Seen]) -> Result<List<Code>, RuleStop> {
+    let mut codes = List::new(alloc);
+    for seen in cards {
+        for column in CODES {
+            if !seen.card.is_blank(column, column.saturating_add(6)) {
+                codes.push(Code::of(seen, column)?);
+            }
+        }
+    }
+    Ok(codes)
+}
+
+/// Returns how many alternatives codes make together.
+fn count_of(codes: &[Code]) -> usize {
+    let mut count: usize = 1;
+    for code in codes {
+        count = count.saturating_mul(code.alternatives());
+    }
+    count
+}
+
+/// The cards that replace those of a type's codes.
+#[derive(Drop)]
+struct Punch {
+    cards: List<NewCard>,
+    /// The last card.
+    last: NewCard,
+    /// How many codes the last card has.
+    held: usize,
+}
+
+impl Punch {
+    fn new(alloc: Global, head: &Seen) -> Punch {
+        Punch {
+            cards: List::new(alloc),
+            last: NewCard {
+                card: head.card.with(21, 41, &[]),
+                number: head.number,
+            },
+            held: 0,
+        }
+    }
+
+    /// Begins another card.
+    fn begin(&mut self, card: NewCard) {
+        self.cards.push(self.last);
+        self.last = card;
+        self.held = 0;
+    }
+
+    /// Appends a code for one character.
+    fn push(&mut self, code: &Code, character: u8) {
+        if self.held == CODES.len() {
+            let and = NewCard {
+                card: Card::of_form(b'I').with(14, 16, b"AND"),
+                number: self.last.number,
+            };
+            self.begin(and);
+        }
+        let not = if code.is_not { b"N" } else { b" " };
+        let text = code.position.and(not).and(&[code.kind, character]);
+        let column = self.held.saturating_mul(7).saturating_add(21);
+        self.last = self
+            .last
+            .with(column, column.saturating_add(6), text.text());
+        self.held = self.held.saturating_add(1);
+    }
+
+    /// Appends an alternative of codes, by its number among theirs.
+    fn push_codes(&mut self, codes: &[Code], number: usize) {
+        let mut left = count_of(codes).max(1);
+        for code in codes {
+            if code.is_not {
+                self.push_all(code);
+            } else {
+                let choices = code.alternatives().max(1);
+                left = (left / choices).max(1);
+                let chosen = number / left % choices;
+                self.push(
+                    code,
+                    code.characters.text().get(chosen).copied().unwrap_or(b' '),
+                );
+            }
+        }
+    }
+
+    /// Appends a code for each of its characters.
+    fn push_all(&mut self, code: &Code) {
+        for character in code.characters.text() {
+            self.push(code, *character);
+        }
+    }
+}
+
+/// Returns the card that begins another alternative.
+fn or_card(first: &Seen, indicator: Indicator) -> NewCard {
+    NewCard::copy(first)
+        .with(7, 18, &[])
+        .with(14, 15, b"OR")
+        .with(19, 20, indicator.word().text())
+        .with(21, 41, &[])
+}
+
+fn is_or(seen: &Seen) -> bool {
+    matches!(seen.card.columns(14, 15), b"OR")
+}
+
+/// A type's alternatives so far.
+#[derive(Drop)]
+struct Rewriting {
+    punch: Punch,
+    count: usize,
+    /// The indicator of the last alternative.
+    indicator: Indicator,
+}
+
+impl Rewriting {
+    /// Appends the alternatives of codes. `head`: the number of the type's card.
+    fn push(&mut self, first: &Seen, codes: &[Code], head: usize) -> Done {
+        let count = count_of(codes);
+        if count > MOST {
+            return Err(RuleStop::about(head, "% alternatives", Word::of_number(count)));
+        }
+        let own = Indicator::at(&first.card, 19);
+        self.indicator = if own.is_blank() { self.indicator } else { own };
+        for number in 0..count {
+            if self.count > 0 {
+                self.punch.begin(or_card(first, self.indicator));
+            }
+            self.punch.push_codes(codes, number);
+            self.count = self.count.saturating_add(1);
+            if self.punch.cards.as_slice().len() > 2 * MOST_CARDS {
+                return Err(RuleStop::TooMany);
+            }
+        }
+        Ok(())
+    }
+}
+
+/// Replaces the codes of a type.
+fn rewrite_type(editor: &mut Editor, view: &View, kind: &RecordType, cards: &[Seen]) -> Done {
+    let head = &kind.head;
+    let mut rewriting = Rewriting {
+        punch: Punch::new(view.alloc, head),
+        count: 0,
+        indicator: Indicator::at(&head.card, 19),
+    };
+    for alternative in cards.chunk_by(|_, next| !is_or(next)) {
+        let codes = codes_of(view.alloc, alternative)?;
+        let first = alternative.first().unwrap_or(head);
+        rewriting.push(first, codes.checked()?, head.number)?;
+    }
+    put_codes(editor, view, kind, &rewriting)
+}
+
+/// Replaces the cards of a type's codes.
+fn put_codes(editor: &mut Editor, view: &View, kind: &RecordType, rewriting: &Rewriting) -> Done {
+    let head = &kind.head;
+    let (one, several) = (
+        "codes by zone or digit: % alternative of characters",
+        "codes by zone or digit: % alternatives of characters",
+    );
+    editor.report(
+        head.number,
+        Sentence::counted(one, several, rewriting.count),
+    );
+    let Punch { cards, last, .. } = &rewriting.punch;
+    let following = address_after(view, head.at);
+    match cards.checked()? {
+        [first, more @ ..] => {
+            editor.change(head.at, first.card, head.number);
+            put_cards(editor, following, more, head.number)?;
+            put_cards(editor, following, &[*last], head.number)?;
+        }
+        [] => editor.change(head.at, last.card, head.number),
+    }
+    remove_cards(editor, kind.more.as_slice(), head.number);
+    Ok(())
+}
