@@ -68,6 +68,8 @@ impl<'p, 'f, 's, 'l, L: Listener> Looking<'p, 'f, 's, 'l, L> {
 }
 
 impl<L: Listener> Watcher for Looking<'_, '_, '_, '_, L> {
+    ghost has_begun = { λ _. Unit {0} };
+
     fn looks(&self) -> bool {
         self.words.looks()
     }

@@ -62,6 +62,7 @@ fn run_through_files<R1: Read, R2: Read, W1: Write, W2: Write, W: Watcher>(
 ) -> Result<Report, RunFault>
     requires { CanCountFaults (both primary.old secondary.old) writers.old }
     ensures runs { RunsProgramOver R1.remaining R2.remaining W1.contents W2.contents program.now date.now primary secondary writers result }
+    ensures watched { IfOk result (λ _. W.has_begun watcher.new) }
     ensures faults { NamesFault R1.remaining R2.remaining (both primary.old secondary.old) (both primary.new secondary.new) writers.old writers.new result }
 {
     runs_end_well();
@@ -99,6 +100,7 @@ pub fn watch_program<R1: Read, R2: Read, W1: Write, W2: Write, W: Watcher>(
 ) -> Result<Report, RunFault>
     requires { CanCountFaults readers.old writers.old }
     ensures runs { RunsProgram R1.remaining R2.remaining W1.contents W2.contents program.now date.now readers writers result }
+    ensures watched { IfOk result (λ _. W.has_begun watcher.new) }
     ensures faults { ReportsWhoseFault R1.remaining R2.remaining readers writers result }
 {
     run_through_files(

@@ -36,6 +36,7 @@ pub(crate) fn run<S: Store + Drop, R1: Read, R2: Read, W1: Write, W2: Write, W: 
     ensures report { IfOk result (ReportsFrom R1.remaining R2.remaining W1.contents W2.contents job.old primary secondary writers) }
     ensures early { IfErr result (StopsFrom R1.remaining R2.remaining W1.contents W2.contents job.old primary secondary writers) }
     ensures only { IfErr result IsRunFault }
+    ensures watched { IfOk result (λ _. W.has_begun watcher.new) }
     ensures faults { ReportsWhoseFaultOf R1.remaining R2.remaining primary secondary writers result }
 {
     let enough = enough_for(watcher);

@@ -140,6 +140,8 @@ fn look_and_send<S: Store + Drop, W1: Write, W2: Write, W: Watcher>(
     sent: &mut Sent,
 ) -> Result<(), RunFault>
     requires ready { CanSend writers.old sent.old }
+    requires watching { W.has_begun watcher.old }
+    ensures watching { W.has_begun watcher.new }
     ensures sends { SendsWaitingTo W1.contents W2.contents result job.old job.new writers sent }
     ensures all { OnOk result (job.new.output ≡ no_bytes) }
 {
@@ -158,6 +160,8 @@ pub(crate) fn send_where_enough<S: Store + Drop, W1: Write, W2: Write, W: Watche
     sent: &mut Sent,
 ) -> Result<(), RunFault>
     requires ready { CanSend writers.old sent.old }
+    requires watching { W.has_begun watcher.old }
+    ensures watching { W.has_begun watcher.new }
     ensures sends { SendsWaitingTo W1.contents W2.contents result job.old job.new writers sent }
     ensures all { is_some ended ≡ true → OnOk result (job.new.output ≡ no_bytes) }
 {

@@ -1,5 +1,6 @@
 //! Runs a compiled source over its files.
 
+ghost use Rattle.std.specs.Prelude.{IfOk};
 ghost use Rattle.rpg_engine.specs.Devices.{CanCountFaults, ReportsWhoseFault};
 ghost use Rattle.rpg_engine.specs.Running.{RunsProgram};
 ghost use Rattle.rpg_meaning.specs.Sources.Running.{RunsSource};
@@ -27,6 +28,8 @@ pub fn run_source<R1: Read, R2: Read, W1: Write, W2: Write, W: Watcher>(
     // As a run of its program it keeps the promises of `watch_program`: the report's bound and place, and how much was sent before it
     // stopped.
     ensures program { RunsProgram R1.remaining R2.remaining W1.contents W2.contents source.now.program date.now readers writers result }
+    // The run is shown to this watcher.
+    ensures watched { IfOk result (λ _. W.has_begun watcher.new) }
     ensures faults { ReportsWhoseFault R1.remaining R2.remaining readers writers result }
 {
     source_to_print();

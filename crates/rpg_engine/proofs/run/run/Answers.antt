@@ -37,6 +37,7 @@ cycles-init g c =
       };
       same_primary = refl;
       same_secondary = refl;
+      watching = c.begin.ensures;
       alone = λ _. refl;
       few = omega arith;
       few_sent = λ file. omega (arith, unsent file);
@@ -146,6 +147,7 @@ send_where_enough-requires g c =
         faults = λ file. omega (arith, (out file).faults, (i.flows.sent file).faults, can_fail _ _ c.requires.devices file);
         few = λ file. omega (arith, (out file).count, (out file).few, i.few_sent file, i.few);
       };
+      watching = i.watching;
     }
 
 pub returns-in_err-send_where_enough-clause-early : goal.returns-in_err-send_where_enough-clause-early
@@ -246,6 +248,7 @@ cycles-preserved g c =
       ready = ready_still mid next all.rest c.next_cycle.new.primary c.next_cycle.new.secondary following;
       same_primary = c.in-Ok.ensures.same.0 ∙ i.same_primary;
       same_secondary = c.in-Ok.ensures.same.1 ∙ i.same_secondary;
+      watching = c.in_ok-send_where_enough.ensures.watching;
       alone = λ none. c.in-Ok.ensures.alone (ap (λ (p : Object). p.secondary_length) s.program ∙ none) ∙ i.alone none;
       few = let one = few_given c.next_cycle.new.primary in let two = few_given c.next_cycle.new.secondary in let few = later.streams.few in omega (arith, one, two, few);
       few_sent = λ file. omega (arith, (sends.out file).count, (sends.out file).few, (all.out file).count, (all.out file).few, i.few_sent file);

@@ -18,6 +18,7 @@ invariant-cycles g l = record {
   ready : AreReady l.job l.primary l.secondary;
   same_primary : l.primary.reader.ghost_name ≡ l.initial.primary.reader.ghost_name;
   same_secondary : l.secondary.reader.ghost_name ≡ l.initial.secondary.reader.ghost_name;
+  watching : g.W.Watcher.has_begun l.watcher;
   alone : l.initial.job.program.secondary_length ≡ 0 → l.secondary ≡ l.initial.secondary;
   few : l.cycles ≤ max_records + max_records;
   few_sent : (file : OutputFile) → sent_to l.sent file ≤ l.cycles * 36893488147419103232;
