@@ -1,8 +1,9 @@
 //! F7, and F9 of lines: files that are unknown, described twice or of the wrong use, and spaces and skips for the disk
 //! file.
 
+use crate::near::{NameKind, write_near};
 use crate::spot::{Spot, text_at};
-use rpg_cards::{FileUse, SpecCard};
+use rpg_cards::FileUse;
 use rpg_cli_text::{TextWriter, is_near};
 use rpg_faults::{FileCause, FileOnCard, FileUser};
 
@@ -58,19 +59,6 @@ const LINE_LENGTH: &str = "a printed line of {} places: a line has 1 to 132 (doc
 /// The sentence for a bad record length.
 const RECORD_LENGTH: &str = "a record length of {}: a record has 1 to 9,999 columns";
 
-/// Writes a file name similar to one that no F card has.
-fn write_near_file(out: &mut TextWriter, cards: &[SpecCard], name: &[u8]) {
-    for card in cards {
-        if let Some(file) = card.file() {
-            let other = file.name.as_slice();
-            if is_near(name, other) {
-                out.fill_two(" ({} is on card {})", other, card.number);
-                return;
-            }
-        }
-    }
-}
-
 /// Returns what names a file, and the use that the file doesn't have.
 const fn user_names(user: FileUser) -> (&'static str, &'static str) {
     match user {
@@ -104,7 +92,7 @@ pub(crate) fn write_file(out: &mut TextWriter, spot: Spot<'_>, cause: &FileCause
         }
         FileCause::Unknown { name, .. } => {
             out.fill_one("no F card has {}", name.as_slice());
-            write_near_file(out, spot.source.as_slice(), name.as_slice());
+            write_near(out, spot, NameKind::File, name.as_slice());
         }
         FileCause::WrongUse { user, file } => {
             let (of_whom, other_use) = user_names(*user);

@@ -1,26 +1,14 @@
 //! F10, F11, F13 and F14: labels and subroutines.
 
+use crate::near::{NameKind, write_near};
 use crate::spot::Spot;
 use rpg_cards::{Named, SpecCard, defined_name};
-use rpg_cli_text::{TextWriter, is_near};
+use rpg_cli_text::TextWriter;
 use rpg_faults::{NowhereCause, Target, TwiceCause};
 
 /// Returns the label or the subroutine that a card defines.
-fn given_on(card: &SpecCard) -> Option<Named> {
+pub(crate) fn given_on(card: &SpecCard) -> Option<Named> {
     defined_name(card.calculation()?)
-}
-
-/// Writes a label or a subroutine whose name is similar to an undefined one.
-fn write_near_label(out: &mut TextWriter, cards: &[SpecCard], name: &[u8], is_subroutine: bool) {
-    for card in cards {
-        if let Some(named) = given_on(card) {
-            let other = named.name.as_slice();
-            if named.is_subroutine == is_subroutine && is_near(name, other) {
-                out.fill_two(" ({} is on card {})", other, card.number);
-                return;
-            }
-        }
-    }
 }
 
 const IS_SUBROUTINE: &str = "{} is a subroutine (card {}): EXSR calls it, GOTO goes to labels";
@@ -34,8 +22,7 @@ pub(crate) fn write_nowhere(out: &mut TextWriter, spot: Spot<'_>, cause: &Nowher
             let name = wanted.name.as_slice();
             let operation = if wanted.is_subroutine { "BEGSR" } else { "TAG" };
             out.fill_two("no {} defines {}", operation, name);
-            let cards = spot.source.as_slice();
-            write_near_label(out, cards, name, wanted.is_subroutine);
+            write_near(out, spot, NameKind::of(wanted), name);
         }
         NowhereCause::Other { name, giver } => {
             let sentence = if giver.is_subroutine {

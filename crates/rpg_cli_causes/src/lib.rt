@@ -20,5 +20,6 @@ mod sizes;
 mod spot;
 
 pub use cause::write_cause;
+pub use near::NearNames;
 pub use root::{Root, root_of};
 pub use spot::SourceCards;

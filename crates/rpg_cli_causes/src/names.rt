@@ -1,7 +1,7 @@
 //! F1 and F2: names that no card defines, and names that are defined again.
 
 use crate::forms::write_form;
-use crate::near::write_near_names;
+use crate::near::NameKind;
 use crate::spot::Spot;
 use rpg_cli_text::TextWriter;
 use rpg_faults::Redefined;
@@ -20,6 +20,30 @@ fn unread(name: &[u8]) -> Option<&'static str> {
         [b'P', b'A', b'G', b'E', b'1'..=b'7'] => Some(PAGES),
         _ => None,
     }
+}
+
+/// How many similar names are listed.
+const MOST: usize = 3;
+
+/// Writes which defined names are similar to a name.
+fn write_near_names(out: &mut TextWriter, spot: Spot<'_>, name: &[u8]) {
+    let mut from = 0;
+    let mut end = "";
+    for count in 0..MOST {
+        let place = spot.near.next(NameKind::Field, name, from);
+        let Some(near) = spot.near.at(place) else {
+            break;
+        };
+        out.write_str(if count == 0 { " (" } else { ", " });
+        out.write_shown(near.name.as_slice());
+        end = if count == 0 {
+            " is defined)"
+        } else {
+            " are defined)"
+        };
+        from = place.saturating_add(1);
+    }
+    out.write_str(end);
 }
 
 /// F1: which name no card defines, and which defined names are similar.

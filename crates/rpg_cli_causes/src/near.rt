@@ -1,57 +1,164 @@
-//! Names similar to an undefined one, which may be a misspelling.
+//! Names that one slip of the pen turns into each other. Two of them share a stem: a whole name, or what is left of it without one of its
+//! characters. So similar names are looked up by their stems, without going over all names.
 
+ghost use Rattle.std.specs.Prelude.{◌≤◌, length};
+
+use crate::labels::given_on;
 use crate::spot::Spot;
-use rpg_card_index::IndexedCards;
-use rpg_cards::SpecCard;
+use rpg_cards::{Named, SpecCard, given_form};
 use rpg_cli_text::{TextWriter, is_near};
+use rpg_faults::{CardFault, Cause, FileCause, NowhereCause};
+use rpg_sheet::Word;
+use std::alloc::{AllocError, Global};
+use std::collections::{HashMap, HashSet};
 
-/// How many similar names are listed.
-const MOST: usize = 3;
-
-/// How many names are listed so far, and how many definitions come before a card.
-#[derive(Clone, Copy)]
-struct Near {
-    reported: usize,
-    definitions: usize,
+/// What a name stands for.
+#[derive(Clone, Copy, PartialEq, Eq, Hash)]
+pub(crate) enum NameKind {
+    Field,
+    File,
+    Label,
+    Subroutine,
 }
 
-/// Writes the similar names that a card is the first to define.
-fn write_defined(
-    out: &mut TextWriter,
-    source: &IndexedCards,
-    name: &[u8],
-    near: Near,
-    card: &SpecCard,
-) -> Near {
-    let mut near = near;
-    let definitions = card.definitions();
-    for definition in definitions.as_slice() {
-        let other = definition.name.as_slice();
-        if near.reported < MOST
-            && is_near(name, other)
-            && source.is_new_name(near.definitions, &definition.name)
-        {
-            out.write_str(if near.reported == 0 { " (" } else { ", " });
-            out.write_shown(other);
-            near.reported = near.reported.saturating_add(1);
+impl NameKind {
+    pub const fn of(named: &Named) -> Self {
+        if named.is_subroutine {
+            NameKind::Subroutine
+        } else {
+            NameKind::Label
         }
-        near.definitions = near.definitions.saturating_add(1);
     }
-    near
 }
 
-/// Writes which defined names are similar to a name.
-pub(crate) fn write_near_names(out: &mut TextWriter, spot: Spot<'_>, name: &[u8]) {
-    let mut near = Near {
-        reported: 0,
-        definitions: 0,
-    };
-    for card in spot.source.as_slice() {
-        near = write_defined(out, spot.source, name, near, card);
+/// At most eight characters of a name.
+#[derive(Clone, Copy, PartialEq, Eq, Hash)]
+struct Stem {
+    kind: NameKind,
+    text: u64,
+}
+
+/// Returns a name without the character at a place, or the whole name if it has none there.
+fn stem_of(kind: NameKind, name: &[u8], without: usize) -> Stem {
+    let mut text = 0_u64;
+    for (place, character) in name.iter().enumerate() {
+        if place != without {
+            text = text.wrapping_mul(256).wrapping_add(u64::from(*character));
+        }
     }
-    match near.reported {
-        0 => {}
-        1 => out.write_str(" is defined)"),
-        _ => out.write_str(" are defined)"),
+    Stem { kind, text }
+}
+
+/// A name, and the first card that defines it.
+#[derive(Drop)]
+pub(crate) struct KnownName {
+    pub name: Word<8>,
+    pub card: u16,
+}
+
+/// The names that cards define, in the order of their cards.
+#[derive(Drop)]
+pub struct NearNames {
+    alloc: Global,
+    names: Vec<KnownName>,
+    whole: HashSet<Stem>,
+    /// The places of the names that have this stem.
+    places: HashMap<Stem, Vec<usize>>,
+}
+
+/// Whether a fault has a name that no card defines.
+const fn has_unknown_name(fault: &CardFault) -> bool {
+    matches!(
+        &fault.cause,
+        Some(
+            Cause::UndefinedName(_)
+                | Cause::File(FileCause::Unknown { .. })
+                | Cause::Nowhere(NowhereCause::Absent(_))
+        )
+    )
+}
+
+impl NearNames {
+    /// Notes the names of cards, if one of the faults has a name that no card defines.
+    pub fn of(alloc: Global, cards: &[SpecCard], faults: &[CardFault]) -> Result<Self, AllocError> {
+        let mut names = NearNames {
+            alloc,
+            names: Vec::new(alloc),
+            whole: HashSet::new(alloc),
+            places: HashMap::new(alloc),
+        };
+        if faults.iter().any(has_unknown_name) {
+            for card in cards {
+                names.note_card(card)?;
+            }
+        }
+        Ok(names)
+    }
+
+    fn note_card(&mut self, card: &SpecCard) -> Result<(), AllocError> {
+        if let Some(file) = card.file() {
+            self.note(NameKind::File, file.name.as_slice(), card.number)?;
+        }
+        if let Some(named) = given_on(card) {
+            self.note(NameKind::of(&named), named.name.as_slice(), card.number)?;
+        }
+        let definitions = card.definitions();
+        for definition in definitions.as_slice() {
+            if given_form(&definition.name).is_none() {
+                self.note(NameKind::Field, definition.name.as_slice(), card.number)?;
+            }
+        }
+        Ok(())
+    }
+
+    /// Notes a name under all its stems, unless it is known.
+    fn note(&mut self, kind: NameKind, name: &[u8], card: u16) -> Result<(), AllocError>
+        requires { length name.now ≤ 8 }
+    {
+        if !self.whole.insert(stem_of(kind, name, name.len()))? {
+            return Ok(());
+        }
+        for without in 0..=name.len() {
+            let places = self.places.entry(stem_of(kind, name, without))?;
+            places
+                .or_insert(Vec::new(self.alloc))
+                .push(self.names.len())?;
+        }
+        let name = Word::new(name);
+        self.names.push(KnownName { name, card })?;
+        Ok(())
+    }
+
+    /// Returns the place of the first name, from a place on, that is similar to this one; if there is none, how many names there are.
+    pub(crate) fn next(&self, kind: NameKind, name: &[u8], from: usize) -> usize {
+        let mut next = self.names.len();
+        for without in 0..=name.len() {
+            if let Some(places) = self.places.get(&stem_of(kind, name, without)) {
+                next = next.min(self.next_of(places, name, from));
+            }
+        }
+        next
+    }
+
+    fn next_of(&self, places: &[usize], name: &[u8], from: usize) -> usize {
+        for place in places {
+            if matches!(self.at(*place), Some(known) if from <= *place && is_near(name, known.name.as_slice()))
+            {
+                return *place;
+            }
+        }
+        self.names.len()
+    }
+
+    /// Returns the name at a place.
+    pub(crate) fn at(&self, place: usize) -> Option<&KnownName> {
+        self.names.get(place)
+    }
+}
+
+/// Writes the first name that is similar to an unknown one, and its card.
+pub(crate) fn write_near(out: &mut TextWriter, spot: Spot<'_>, kind: NameKind, name: &[u8]) {
+    if let Some(known) = spot.near.at(spot.near.next(kind, name, 0)) {
+        out.fill_two(" ({} is on card {})", known.name.as_slice(), known.card);
     }
 }

@@ -6,7 +6,7 @@ use rpg_program::form::Kind;
 use rpg_sheet::Entry;
 
 /// A mistake that other faults follow from.
-#[derive(Clone, Copy, PartialEq, Eq)]
+#[derive(Clone, Copy, PartialEq, Eq, Hash)]
 pub enum Root {
     /// This card defines a text, and its name is used as a number.
     Text(u16),

@@ -1,22 +1,23 @@
 //! A fault's card among the others, and its contents.
 
+use crate::near::NearNames;
 use rpg_card_index::IndexedCards;
 use rpg_cards::{Defined, SpecCard};
 use rpg_program::form::FieldForm;
 use rpg_sheet::{ColumnFault, ColumnRange, DataSpec, Entry, Factor, Word};
 use rpg_text::{first_line, trimmed};
 
-/// A source's text and its cards. There are no cards if only the card of the fault is known.
+/// A source's text, its cards and the names that they define. There are no cards if only the card of the fault is known.
 #[derive(Clone, Copy)]
 pub struct SourceCards<'a> {
-    pub cards: Option<&'a IndexedCards<'a>>,
+    pub cards: &'a IndexedCards<'a>,
+    pub near: &'a NearNames,
     pub text: &'a [u8],
 }
 
 impl<'a> SourceCards<'a> {
-    pub fn of(cards: &'a IndexedCards<'a>, text: &'a [u8]) -> Self {
-        let cards = Some(cards);
-        SourceCards { cards, text }
+    pub fn of(cards: &'a IndexedCards<'a>, near: &'a NearNames, text: &'a [u8]) -> Self {
+        SourceCards { cards, near, text }
     }
 }
 
@@ -24,6 +25,7 @@ impl<'a> SourceCards<'a> {
 #[derive(Clone, Copy)]
 pub(crate) struct Spot<'a> {
     pub source: &'a IndexedCards<'a>,
+    pub near: &'a NearNames,
     pub text: &'a [u8],
     pub line: &'a [u8],
     pub card: &'a SpecCard,
@@ -51,11 +53,11 @@ impl<'a> Spot<'a> {
         number: u16,
         columns: Option<ColumnFault>,
     ) -> Option<Self> {
-        let SourceCards { cards, text } = source;
-        let source = cards?;
-        let card = card_at(source.as_slice(), number)?;
+        let SourceCards { cards, near, text } = source;
+        let card = card_at(cards.as_slice(), number)?;
         Some(Spot {
-            source,
+            source: cards,
+            near,
             text,
             line,
             card,

@@ -8,7 +8,7 @@ use crate::records::write_records;
 use crate::tables::write_tables;
 use rpg_card_index::IndexedCards;
 use rpg_cli_list_names::{Indicators, Labels, Names, write_constants};
-use rpg_cli_messages::SourceCards;
+use rpg_cli_messages::{NearNames, SourceCards};
 use rpg_cli_text::TextWriter;
 use rpg_faults::{CardFault, source_faults};
 use std::alloc::{AllocError, Global};
@@ -89,7 +89,8 @@ fn cards_text(
     let source = IndexedCards::new(alloc, &read.cards)?;
     let mut out = TextWriter::new(alloc);
     write_head(&mut out, path, read.lines.len(), faults);
-    let known = SourceCards::of(&source, text);
+    let near = NearNames::of(alloc, &read.cards, faults)?;
+    let known = SourceCards::of(&source, &near, text);
     write_cards(&mut out, &read.lines, known, faults);
     write_contents(alloc, &mut out, &source, read.has_all_tables)?;
     out.finish()

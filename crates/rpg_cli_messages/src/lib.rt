@@ -16,4 +16,4 @@ pub use card_lines::CardLines;
 pub use message::{card_message, object_message, source_messages, write_place, write_reported};
 pub use note::write_note;
 pub use picture::{write_first, write_picture};
-pub use rpg_cli_causes::SourceCards;
+pub use rpg_cli_causes::{NearNames, SourceCards};

@@ -7,13 +7,14 @@ use crate::picture::write_picture;
 use crate::shorthand::write_shorthand;
 use crate::unmarked::write_unmarked;
 use rpg_card_index::IndexedCards;
-use rpg_cli_causes::{Root, SourceCards, root_of, write_cause};
+use rpg_cli_causes::{NearNames, Root, SourceCards, root_of, write_cause};
 use rpg_cli_columns::{character_at, write_bad_columns, write_form_type};
 use rpg_cli_text::{TextWriter, sentence_of};
 use rpg_faults::{CardFault, SourceCode, SourceFaults};
 use rpg_sheet::{ColumnFault, SheetCode};
 use rpg_text::{is_character, trimmed};
 use std::alloc::{AllocError, Global};
+use std::collections::HashSet;
 
 /// Returns the diagnostics for the faults of the source `path`: for each a line `PATH:CARD:COLUMN: CODE: SENTENCE`, the card and a mark,
 /// for at most `most` faults, and for one if the source is an object program; then the number of faults.
@@ -25,12 +26,13 @@ pub fn source_messages(
     most: u16,
 ) -> Result<String, AllocError> {
     let faults = judged.faults.as_slice();
-    let cards = IndexedCards::new(alloc, &judged.cards)?;
-    let known = SourceCards::of(&cards, source);
-    let mut out = TextWriter::new(alloc);
-    let mut mistakes = Vec::new(alloc);
     let most = if is_object(source) { most.min(1) } else { most };
     let listed = faults.get(..usize::from(most)).unwrap_or(faults);
+    let cards = IndexedCards::new(alloc, &judged.cards)?;
+    let near = NearNames::of(alloc, &judged.cards, listed)?;
+    let known = SourceCards::of(&cards, &near, source);
+    let mut out = TextWriter::new(alloc);
+    let mut mistakes = HashSet::new(alloc);
     write_messages(&mut out, &mut mistakes, path, known, listed)?;
     write_count(&mut out, path, faults, most);
     out.finish()
@@ -43,10 +45,9 @@ pub fn card_message(
     source: &[u8],
     fault: &CardFault,
 ) -> Result<String, AllocError> {
-    let known = SourceCards {
-        cards: None,
-        text: source,
-    };
+    let cards = IndexedCards::new(alloc, &[])?;
+    let near = NearNames::of(alloc, &[], &[])?;
+    let known = SourceCards::of(&cards, &near, source);
     let mut out = TextWriter::new(alloc);
     let line = CardLines::of(source).line_of(fault.card);
     write_message(&mut out, path, line, known, fault);
@@ -56,7 +57,7 @@ pub fn card_message(
 /// Writes faults in the order of their cards, and notes the mistakes that caused them.
 fn write_messages(
     out: &mut TextWriter,
-    mistakes: &mut Vec<Mistake>,
+    mistakes: &mut HashSet<Mistake>,
     path: &str,
     source: SourceCards<'_>,
     faults: &[CardFault],
@@ -69,7 +70,7 @@ fn write_messages(
                 out, path, line, fault, mistake,
             ),
             Some(mistake) => {
-                mistakes.push(mistake)?;
+                mistakes.insert(mistake)?;
                 write_message(out, path, line, source, fault);
                 write_mistaken_card(out, path, source.text, mistake);
             }
@@ -80,7 +81,7 @@ fn write_messages(
 }
 
 /// A mistake that can cause several faults.
-#[derive(Clone, Copy, PartialEq, Eq)]
+#[derive(Clone, Copy, PartialEq, Eq, Hash)]
 enum Mistake {
     /// A card that comes before those of earlier sheets.
     Later(LaterCard),

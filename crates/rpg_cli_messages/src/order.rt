@@ -7,7 +7,7 @@ use rpg_sheet_values::form_type_of;
 use rpg_text::first_line;
 
 /// An earlier card, and its form type.
-#[derive(Clone, Copy, PartialEq, Eq)]
+#[derive(Clone, Copy, PartialEq, Eq, Hash)]
 pub(crate) struct LaterCard {
     pub card: u16,
     form: u8,
