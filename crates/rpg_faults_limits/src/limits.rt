@@ -20,6 +20,7 @@ use rpg_card_index::IndexedCards;
 use rpg_cards::SpecCard;
 
 /// F6: which limit is exceeded with the card.
+#[tactic(auto, using(crate::proofs::LimitRule::limit_rule))]
 pub fn limit_cause(
     source: &IndexedCards,
     sheets: &Sheets,
@@ -102,7 +103,8 @@ fn on_types(
     };
     let number = sheets.types.number as u64;
     let number_with = sheets.with(source, before, card).types.number as u64;
-    let with = open_type.with(before, card);
+    let mut with = open_type;
+    with.pass(before, card);
     first_past(&[
         counted(Limit::RecordTypes, 200, number, number_with),
         counted(Limit::Codes, 100, open_type.codes, with.codes),
@@ -130,7 +132,8 @@ fn on_lines(
     };
     let number = sheets.lines.number as u64;
     let number_with = sheets.with(source, before, card).lines.number as u64;
-    let with = line.with(before, card);
+    let mut with = line;
+    with.pass(before, card);
     first_past(&[
         counted(Limit::Lines, 1000, number, number_with),
         counted(

@@ -27,17 +27,16 @@ impl OpenLine {
         fields: 0,
     };
 
-    /// Returns the counts after one more card.
-    pub(crate) fn with(self, before: &[SpecCard], card: &SpecCard) -> Self
+    /// Moves on to the next card, in place: most cards are of another sheet.
+    pub(crate) fn pass(&mut self, before: &[SpecCard], card: &SpecCard)
         requires few_cards { length before.now ≤ 2000 }
-        requires open { IsOpenLine (open_group output_role before.now) self }
-        requires few { HasFewOnLine (length before.now) self }
-        ensures open { IsOpenLine (open_group output_role (before.now ++ card.now ∷ [])) result }
-        ensures few { HasFewOnLine (length before.now + 1) result }
+        requires open { IsOpenLine (open_group output_role before.now) self.old }
+        requires few { HasFewOnLine (length before.now) self.old }
+        ensures open { IsOpenLine (open_group output_role (before.now ++ card.now ∷ [])) self.new }
+        ensures few { HasFewOnLine (length before.now + 1) self.new }
     {
-        match card.output() {
-            None => self,
-            Some(output) => self.with_output(output),
+        if let Some(output) = card.output() {
+            *self = self.with_output(output);
         }
     }
 

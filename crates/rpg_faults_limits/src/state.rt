@@ -48,7 +48,7 @@ impl Limits {
     {
         self.items = items_with(source, self.items, before, card);
         self.calculations = self.calculations.with(before, card, after);
-        self.open_type = self.open_type.with(before, card);
-        self.open_line = self.open_line.with(before, card);
+        self.open_type.pass(before, card);
+        self.open_line.pass(before, card);
     }
 }

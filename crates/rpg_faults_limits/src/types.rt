@@ -28,17 +28,16 @@ impl OpenType {
         fields: 0,
     };
 
-    /// Returns the counts after one more card.
-    pub(crate) fn with(self, before: &[SpecCard], card: &SpecCard) -> Self
+    /// Moves on to the next card, in place: most cards are of another sheet.
+    pub(crate) fn pass(&mut self, before: &[SpecCard], card: &SpecCard)
         requires few_cards { length before.now ≤ 2000 }
-        requires open { IsOpenType (open_group input_role before.now) self }
-        requires few { HasFewOnType (length before.now) self }
-        ensures open { IsOpenType (open_group input_role (before.now ++ card.now ∷ [])) result }
-        ensures few { HasFewOnType (length before.now + 1) result }
+        requires open { IsOpenType (open_group input_role before.now) self.old }
+        requires few { HasFewOnType (length before.now) self.old }
+        ensures open { IsOpenType (open_group input_role (before.now ++ card.now ∷ [])) self.new }
+        ensures few { HasFewOnType (length before.now + 1) self.new }
     {
-        match card.input() {
-            None => self,
-            Some(input) => self.with_input(input),
+        if let Some(input) = card.input() {
+            *self = self.with_input(input);
         }
     }
 
