@@ -7,3 +7,4 @@ pub mod Options
 pub mod OrderLemmas
 pub mod StrayLemmas
 pub mod TargetRules
+pub mod Unlabelled

@@ -25,6 +25,10 @@ use Rattle.rpg_symbols.specs.Chains.{Call, Calls, reaches, reaches_within}
 
 -- ---- names
 
+-- the labels of a source
+abbrev pub labels_of : List SpecCard → List Label
+labels_of cards = labels (calculations cards)
+
 -- what a label is, and its section
 abbrev pub target : Label → Bool × Section
 target l = (l.named.is_subroutine, l.section)
@@ -32,6 +36,10 @@ target l = (l.named.is_subroutine, l.section)
 -- that of the first label of a name
 abbrev pub entry_target : FirstLabel → Bool × Section
 entry_target e = (e.is_subroutine, e.section)
+
+-- that of the first label of a name in a source
+abbrev pub first_target : Name → List SpecCard → Option (Bool × Section)
+first_target q cards = option_map target (label_named q (labels_of cards))
 
 -- the card that defines it
 abbrev pub entry_giver : FirstLabel → Giver
@@ -51,6 +59,10 @@ pub record IsIndexOf (names : List (Name × FirstLabel)) (before rest : List Spe
   pub labels : (q : Name) → option_map entry_target (lookup (pointwise nat_eq q) names) ≡ option_map target (label_named q (labels (calculations_before before rest)))
   pub givers : (q : Name) → option_map entry_giver (lookup (pointwise nat_eq q) names) ≡ giver q before rest
   pub places : (q : Name) → option_map (λ e. e.position) (lookup (pointwise nat_eq q) names) ≡ place_from 0 q before rest
+
+-- none of the cards defines a label or a subroutine
+abbrev pub DefineNothing : List SpecCard → Type 0
+DefineNothing cards = (q : Name) → giver q cards [] ≡ None
 
 -- the label that a calculation defines on a card, under that name
 abbrev pub entry_if : Name → ℕ → Flow → SpecCard → CalculationSpec → Named → Option FirstLabel
@@ -72,7 +84,7 @@ Notes entry old new = (q : Name) → lookup (pointwise nat_eq q) new ≡ option_
 
 -- a GOTO from that section to that name leaves the section
 abbrev pub name_leaves : List SpecCard → Section → Named → Bool
-name_leaves cards own n = option_map_or (leaves_by own n) (label_named n.name (labels (calculations cards))) false
+name_leaves cards own n = option_map_or (leaves_by own n) (label_named n.name (labels_of cards)) false
 
 -- a calculation's GOTO leaves its section
 abbrev pub leaves_section : List SpecCard → Flow → CalculationSpec → Bool
@@ -97,9 +109,13 @@ same_call p q = p.0 == q.0 && p.1 == q.1
 abbrev pub AreCycles : Calls → Calls → Type 0
 AreCycles found all = (p : Call) → list_any (same_call p) found ≡ (list_any (same_call p) all && reaches all p.1 p.0)
 
--- those of a source
+-- the calls of a source
+abbrev pub calls_of : List SpecCard → Calls
+calls_of cards = calls (calculations cards)
+
+-- those of them whose callee reaches their caller
 abbrev pub AreCyclesOf : Calls → List SpecCard → Type 0
-AreCyclesOf found cards = AreCycles found (calls (calculations cards))
+AreCyclesOf found cards = AreCycles found (calls_of cards)
 
 -- ---- which subroutines reach which, 64 of them at a time: each is a bit of a word
 

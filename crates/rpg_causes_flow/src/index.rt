@@ -1,14 +1,13 @@
 //! The labels and subroutines of a source, and the calls between them.
 
-ghost use Rattle.std.specs.Prelude.{◌≡◌, ◌≤◌, [], ◌++◌, List, length, nat_eq, nat_lt, None, Some, true, if◌then◌else◌, IfOk, OnOk};
+ghost use Rattle.std.specs.Prelude.{◌≡◌, ◌≤◌, [], ◌++◌, List, length, nat_eq, nat_lt, None, Some, true, if◌then◌else◌, IfOk, IsTrue, OnOk};
 ghost use Rattle.std.specs.Cmp.Lexicographic.{pointwise};
 ghost use Rattle.std.specs.List.{list_any};
-ghost use Rattle.std.specs.Option.{option_map, option_to_list};
-ghost use Rattle.rpg_cards.specs.Calculations as calculations;
+ghost use Rattle.std.specs.Option.{option_to_list};
 ghost use Rattle.rpg_cards.specs.Calls as calls_of;
-ghost use Rattle.rpg_cards.specs.Labels as labels;
 ghost use Rattle.rpg_cards.specs.declared.spec_card.SpecCard.{SpecCard};
 ghost use Rattle.rpg_causes_flow.specs.Index as index;
+ghost use Rattle.rpg_causes_flow.specs.Index.{IsIndexOf};
 ghost use Rattle.rpg_causes_flow.specs.Labels as causes;
 ghost use Rattle.rpg_symbols.specs.Chains.{reaches};
 
@@ -82,23 +81,30 @@ impl<'a> Labels<'a> {
         giver_among(&self.names, name, count)
     }
 
+    /// Whether no card defines a label or a subroutine.
+    pub(crate) fn is_empty(&self) -> bool
+        ensures { IsTrue result → index.DefineNothing self.now }
+    {
+        has_none(&self.names)
+    }
+
     /// Returns what the first label of a name is, and its section.
     pub(crate) fn target(&self, name: &Name) -> Option<(bool, Section)>
-        ensures { result ≡ option_map index.target (labels.label_named name.now (labels.labels (calculations.calculations self.now))) }
+        ensures { result ≡ index.first_target name.now self.now }
     {
         target_in(&self.names, name)
     }
 
     /// Returns caller and callee of a call in a subroutine.
     pub(crate) fn call(&self, flow: &Flow, calculation: &CalculationSpec) -> Option<(u16, u16)>
-        ensures { result ≡ index.calculation_call flow.now (labels.labels (calculations.calculations self.now)) calculation.now }
+        ensures { result ≡ index.calculation_call flow.now (index.labels_of self.now) calculation.now }
     {
         call_in(flow, &self.names, calculation)
     }
 
     /// Whether the callee of a call of the source reaches its caller.
     pub(crate) fn leads_back(&self, call: (u16, u16)) -> bool
-        ensures { list_any (index.same_call call) (calls_of.calls (calculations.calculations self.now)) ≡ true → result ≡ reaches (calls_of.calls (calculations.calculations self.now)) call.1 call.0 }
+        ensures { list_any (index.same_call call) (index.calls_of self.now) ≡ true → result ≡ reaches (index.calls_of self.now) call.1 call.0 }
     {
         has_call(self.cycles.as_slice(), call)
     }
@@ -107,7 +113,7 @@ impl<'a> Labels<'a> {
 /// Each name with its first label.
 fn names_of(alloc: Global, cards: &[SpecCard]) -> Result<HashMap<Name, FirstLabel>, AllocError>
     requires { length cards.now ≤ 2000 }
-    ensures { IfOk result (λ names. index.IsIndexOf names.entries cards.now []) }
+    ensures { IfOk result (λ names. IsIndexOf names.entries cards.now []) }
 {
     let mut names = HashMap::new(alloc);
     let mut flow = Flow::nothing();
@@ -183,10 +189,13 @@ fn calls_of(
     names: &HashMap<Name, FirstLabel>,
 ) -> Result<Vec<(u16, u16)>, AllocError>
     requires few { length cards.now ≤ 2000 }
-    requires index { index.IsIndexOf names.now.entries cards.now [] }
-    ensures { IfOk result (λ calls. calls.items ≡ calls_of.calls (calculations.calculations cards.now)) }
+    requires index { IsIndexOf names.now.entries cards.now [] }
+    ensures { IfOk result (λ calls. calls.items ≡ index.calls_of cards.now) }
 {
     let mut calls = Vec::new(alloc);
+    if has_none(names) {
+        return Ok(calls);
+    }
     let mut flow = Flow::nothing();
     let mut before = &cards[..0];
     let mut rest = cards;
@@ -197,6 +206,13 @@ fn calls_of(
         rest = after;
     }
     Ok(calls)
+}
+
+/// Whether no card defines a label or a subroutine.
+fn has_none(names: &HashMap<Name, FirstLabel>) -> bool
+    ensures { (cards : List SpecCard) → IsIndexOf names.now.entries cards [] → IsTrue result → index.DefineNothing cards }
+{
+    names.is_empty()
 }
 
 /// Appends a call, if there is one.
@@ -216,7 +232,7 @@ fn call_at(
     card: &SpecCard,
     after: &[SpecCard],
 ) -> Option<(u16, u16)>
-    ensures { (cards : List SpecCard) → index.IsIndexOf names.now.entries cards [] → result ≡ index.card_call flow.now (labels.labels (calculations.calculations cards)) card.now after.now }
+    ensures { (cards : List SpecCard) → IsIndexOf names.now.entries cards [] → result ≡ index.card_call flow.now (index.labels_of cards) card.now after.now }
 {
     call_in(flow, names, last_card(card, after)?)
 }
@@ -226,7 +242,7 @@ fn call_in(
     names: &HashMap<Name, FirstLabel>,
     calculation: &CalculationSpec,
 ) -> Option<(u16, u16)>
-    ensures { (cards : List SpecCard) → index.IsIndexOf names.now.entries cards [] → result ≡ index.calculation_call flow.now (labels.labels (calculations.calculations cards)) calculation.now }
+    ensures { (cards : List SpecCard) → IsIndexOf names.now.entries cards [] → result ≡ index.calculation_call flow.now (index.labels_of cards) calculation.now }
 {
     let caller = subroutine_in(section_at(flow, calculation))?;
     let callee = called(names, &target_name(calculation)?)?;
@@ -244,7 +260,7 @@ fn subroutine_in(section: Section) -> Option<u16>
 
 /// Returns the number of the called subroutine.
 fn called(names: &HashMap<Name, FirstLabel>, wanted: &Named) -> Option<u16>
-    ensures { (cards : List SpecCard) → index.IsIndexOf names.now.entries cards [] → result ≡ calls_of.called_subroutine (labels.labels (calculations.calculations cards)) wanted.now }
+    ensures { (cards : List SpecCard) → IsIndexOf names.now.entries cards [] → result ≡ calls_of.called_subroutine (index.labels_of cards) wanted.now }
 {
     let target = target_in(names, &wanted.name)?;
     if wanted.is_subroutine && target.0 {
@@ -256,7 +272,7 @@ fn called(names: &HashMap<Name, FirstLabel>, wanted: &Named) -> Option<u16>
 
 /// Returns what the first label of a name is, and its section.
 fn target_in(names: &HashMap<Name, FirstLabel>, name: &Name) -> Option<(bool, Section)>
-    ensures { (cards : List SpecCard) → index.IsIndexOf names.now.entries cards [] → result ≡ option_map index.target (labels.label_named name.now (labels.labels (calculations.calculations cards))) }
+    ensures { (cards : List SpecCard) → IsIndexOf names.now.entries cards [] → result ≡ index.first_target name.now cards }
 {
     let first = names.get(name)?;
     Some((first.is_subroutine, first.section))
@@ -264,7 +280,7 @@ fn target_in(names: &HashMap<Name, FirstLabel>, name: &Name) -> Option<(bool, Se
 
 /// Returns the card that defines a name first.
 fn giver_in(names: &HashMap<Name, FirstLabel>, name: &Name) -> Option<Giver>
-    ensures { (cards : List SpecCard) → index.IsIndexOf names.now.entries cards [] → result ≡ causes.giver name.now cards [] }
+    ensures { (cards : List SpecCard) → IsIndexOf names.now.entries cards [] → result ≡ causes.giver name.now cards [] }
 {
     let first = names.get(name)?;
     Some(Giver {
@@ -275,7 +291,7 @@ fn giver_in(names: &HashMap<Name, FirstLabel>, name: &Name) -> Option<Giver>
 
 /// Returns the card that defines a name first, if it is among the first `count`.
 fn giver_among(names: &HashMap<Name, FirstLabel>, name: &Name, count: usize) -> Option<Giver>
-    ensures { (front rest : List SpecCard) → index.IsIndexOf names.now.entries (front ++ rest) [] → count ≡ length front → result ≡ causes.giver name.now front rest }
+    ensures { (front rest : List SpecCard) → IsIndexOf names.now.entries (front ++ rest) [] → count ≡ length front → result ≡ causes.giver name.now front rest }
 {
     match names.get(name) {
         None => None,

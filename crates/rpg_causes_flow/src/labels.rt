@@ -16,7 +16,7 @@ use crate::index::Labels;
 use rpg_card_index::IndexedCards;
 use rpg_cards::{Definition, Named, SpecCard, defined_name, last_card, target_name};
 use rpg_causes_operands::first_defining;
-use rpg_sheet_specs::{CalculationSpec, ColumnRange, Word};
+use rpg_sheet_specs::{ColumnRange, Word};
 use rpg_symbols::Name;
 
 /// The card that defines a label or a subroutine.
@@ -72,6 +72,7 @@ fn given_on(card: &SpecCard, after: &[SpecCard]) -> Option<Named>
 // ---- F10
 
 /// F10: the label or the subroutine that isn't defined, or is the other of the two.
+#[tactic(auto, using(crate::proofs::LabelLemmas::nowhere_rule))]
 pub fn nowhere_cause(
     labels: &Labels,
     before: &[SpecCard],
@@ -81,19 +82,7 @@ pub fn nowhere_cause(
     ensures cause { result ≡ causes.nowhere_cause labels.now card.now after.now }
     ensures rule { is_some result ≡ rules.lacks_target labels.now before.now card.now after.now }
 {
-    of_ending(labels, card, after)
-}
-
-fn of_ending(labels: &Labels, card: &SpecCard, after: &[SpecCard]) -> Option<NowhereCause>
-    ensures { result ≡ causes.nowhere_cause labels.now card.now after.now }
-{
-    of_target(labels, last_card(card, after)?)
-}
-
-fn of_target(labels: &Labels, calculation: &CalculationSpec) -> Option<NowhereCause>
-    ensures { result ≡ causes.of_target labels.now calculation.now }
-{
-    of_wanted(labels, target_name(calculation)?)
+    of_wanted(labels, target_name(last_card(card, after)?)?)
 }
 
 fn of_wanted(labels: &Labels, wanted: Named) -> Option<NowhereCause>
@@ -219,6 +208,9 @@ fn of_definitions(
     ensures cause { result ≡ defined.first_some (causes.of_definition before.now card.now after.now) (names.definitions_on card.now.spec) }
     ensures rule { is_some result ≡ rules.defines_label (known.labels (calculations_before before.now (card.now ∷ after.now))) card.now }
 {
+    if labels.is_empty() {
+        return None;
+    }
     let definitions = card.definitions();
     of_definitions_among(labels, before, card, after, definitions.as_slice())
 }
@@ -250,13 +242,7 @@ fn of_definitions_among(
 pub fn target_on(labels: &Labels, card: &SpecCard, after: &[SpecCard]) -> Option<Target>
     ensures { result ≡ causes.card_target labels.now card.now after.now }
 {
-    target_of(labels, last_card(card, after)?)
-}
-
-fn target_of(labels: &Labels, calculation: &CalculationSpec) -> Option<Target>
-    ensures { result ≡ causes.target_of labels.now calculation.now }
-{
-    target_by(labels, target_name(calculation)?)
+    target_by(labels, target_name(last_card(card, after)?)?)
 }
 
 fn target_by(labels: &Labels, wanted: Named) -> Option<Target>

@@ -62,6 +62,7 @@ fn bracket_range(calculation: &CalculationSpec) -> ColumnRange
 }
 
 /// F12 of a calculation card: what it needs before it, or after it.
+#[tactic(auto, using(crate::proofs::OrderLemmas::order_rule))]
 pub fn order_cause(
     flow: &Flow,
     before: &[SpecCard],

@@ -39,6 +39,7 @@ impl StrayCause {
 }
 
 /// F12 of I and O cards: what the card lacks before it.
+#[tactic(auto, using(crate::proofs::StrayLemmas::stray_rule))]
 pub fn stray_cause(
     source: &IndexedCards,
     sheets: &Sheets,
@@ -48,18 +49,6 @@ pub fn stray_cause(
     requires { AreSheets source.now before.now sheets.now }
     ensures cause { result ≡ causes.stray_cause before.now card.now }
     ensures rule { is_some result ≡ rules.is_stray before.now card.now }
-{
-    on_card(source, sheets, before, card)
-}
-
-fn on_card(
-    source: &IndexedCards,
-    sheets: &Sheets,
-    before: &[SpecCard],
-    card: &SpecCard,
-) -> Option<StrayCause>
-    requires { AreSheets source.now before.now sheets.now }
-    ensures { result ≡ causes.stray_cause before.now card.now }
 {
     if let Some(input) = card.input() {
         return on_input(sheets.types.is_open, before, input);

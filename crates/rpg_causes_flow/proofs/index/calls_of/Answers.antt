@@ -4,8 +4,12 @@ use Rattle.rpg_cards.specs.Calculations.{calculations, calculations_before}
 use Rattle.rpg_cards.specs.Calls.{calls_after}
 use Rattle.rpg_cards.specs.Labels.{labels}
 use Rattle.rpg_causes_flow.proofs.Listing.{call_at-is, calls_next, front_more}
+use Rattle.rpg_causes_flow.proofs.Unlabelled.{calls_none}
 use Rattle.rpg_causes_flow.specs.Flow.{IsFlow}
 use Rattle.rpg_causes_flow.proofs.index.calls_of.Goals as goal
+
+pub returns-then-has_none : goal.returns-then-has_none
+returns-then-has_none c = c.new-calls.ensures.items ∙ sym (calls_none c.args.cards.now (c.has_none.ensures c.args.cards.now c.requires.index c.if-has_none.true))
 
 pub loop-card-init : goal.loop-card-init
 loop-card-init c = record { split = refl; flow = c.nothing-flow.ensures c.args.cards.now; calls = c.new-calls.ensures.items }

@@ -1,7 +1,0 @@
-use Rattle.std.proofs.Common.{◌∙◌, ap}
-use Rattle.std.specs.Prelude.{is_some}
-use Rattle.rpg_causes_flow.proofs.OrderLemmas.{order_rule}
-use Rattle.rpg_causes_flow.proofs.order.order_cause.Goals as goal
-
-pub returns-clause-rule : goal.returns-clause-rule
-returns-clause-rule c = ap is_some c.of_card.ensures ∙ order_rule c.args.before.now c.args.card.now c.args.after.now
