@@ -151,9 +151,13 @@ fn first_never_set(
     ensures cause { result ≡ causes.first_cause_of_three causes.of_setting at three.now }
     ensures rule { is_some result ≡ rules.any_of rules.cannot_be_set three.now }
 {
-    of_setting(at.first, three.first)
-        .or(of_setting(at.second, three.second))
-        .or(of_setting(at.third, three.third))
+    match of_setting(at.first, three.first) {
+        None => match of_setting(at.second, three.second) {
+            None => of_setting(at.third, three.third),
+            found => found,
+        },
+        found => found,
+    }
 }
 
 fn of_line(
@@ -180,9 +184,13 @@ fn first_of_line(
     ensures cause { result ≡ causes.first_cause_of_three (causes.line_indicator_cause source.now) causes.line_columns three.now }
     ensures rule { is_some result ≡ rules.any_of (rules.bad_in_output source.now) three.now }
 {
-    of_line(source, ColumnRange::FirstLineCondition, three.first)
-        .or(of_line(source, ColumnRange::SecondLineCondition, three.second))
-        .or(of_line(source, ColumnRange::ThirdLineCondition, three.third))
+    match of_line(source, ColumnRange::FirstLineCondition, three.first) {
+        None => match of_line(source, ColumnRange::SecondLineCondition, three.second) {
+            None => of_line(source, ColumnRange::ThirdLineCondition, three.third),
+            found => found,
+        },
+        found => found,
+    }
 }
 
 fn of_condition(
@@ -209,7 +217,11 @@ fn first_condition(
     ensures cause { result ≡ causes.first_cause_of_three (causes.of_condition source.now) causes.condition_columns three.now }
     ensures rule { is_some result ≡ rules.any_of (rules.bad_in_calculation source.now) three.now }
 {
-    of_condition(source, ColumnRange::FirstCondition, three.first)
-        .or(of_condition(source, ColumnRange::SecondCondition, three.second))
-        .or(of_condition(source, ColumnRange::ThirdCondition, three.third))
+    match of_condition(source, ColumnRange::FirstCondition, three.first) {
+        None => match of_condition(source, ColumnRange::SecondCondition, three.second) {
+            None => of_condition(source, ColumnRange::ThirdCondition, three.third),
+            found => found,
+        },
+        found => found,
+    }
 }
