@@ -1,7 +1,7 @@
 -- Names that are new have no other form before.
-use Rattle.std.proofs.Common.{◌≡◌, ℕ, ◌+◌, ◌<◌, Bool, true, false, cond, ◌||◌, List, [], ◌∷◌, length, take, get_or, Option, None, Some, refl, sym, ap, ◌∙◌}
+use Rattle.std.proofs.Common.{◌≡◌, ℕ, ◌+◌, ◌<◌, Bool, true, false, cond, ◌||◌, List, [], ◌∷◌, length, take, get_or, Option, None, Some, refl, sym, ap, subst, ◌∙◌, add-zero, arith}
 use Rattle.std.specs.List.{list_any}
-use Rattle.std.specs.Option.{is_some, option_and_then, option_map_or}
+use Rattle.std.specs.Option.{is_some, option_and_then, option_map_or, option_or}
 use Rattle.std.specs.Prelude.{not, slice_get}
 use Rattle.rpg_card_index.proofs.PlaceLemmas.{stands}
 use Rattle.rpg_card_index.specs.Index.{StandAt}
@@ -11,8 +11,8 @@ use Rattle.rpg_cards.specs.declared.names.Defined.{Defined}
 use Rattle.rpg_cards.specs.declared.names.Defined.TheVariants.{Missing}
 use Rattle.rpg_cards.specs.declared.names.Definition.{Definition}
 use Rattle.rpg_cards.specs.declared.spec_card.SpecCard.{SpecCard}
-use Rattle.rpg_causes_operands.specs.Names.{redefined_as, redefined_by}
-use Rattle.rpg_faults_limits.specs.Names.{redefines_as}
+use Rattle.rpg_causes_operands.specs.Names.{redefined_among, redefined_as, redefined_by}
+use Rattle.rpg_faults_limits.specs.Names.{redefine, redefines_as}
 use Rattle.rpg_program.specs.declared.form.FieldForm.{FieldForm}
 use Rattle.rpg_symbols.specs.Fields.{defined_form, given, same_form}
 
@@ -69,3 +69,24 @@ pub new_none : (cards : List SpecCard) (all items : List Definition) (place i : 
     → ((x : Definition) → slice_get all (place + i) ≡ Some x → new ≡ is_new_name x.name (take (place + i) all)) → new ≡ true → redefined_by cards (take (place + i) all) d ≡ None
 new_none cards all items place i d new at lt here is fresh =
     ap (λ (f : Defined). option_and_then (λ here. option_and_then (redefined_as cards d.name here) (form_in f)) d.form) (new_form all items place i d new at lt here is fresh) ∙ no_cause cards d.name d.form
+
+-- ---- a card that defines one name, and that is new
+
+module _ (cards : List SpecCard) (all : List Definition) (place : ℕ) (new : Bool)
+    (is : (x : Definition) → slice_get all place ≡ Some x → new ≡ is_new_name x.name (take place all)) (fresh : new ≡ true) where
+  at_first : (P : ℕ → Type 0) → P place → P (place + 0)
+  at_first P p = subst P (sym (add-zero place)) p
+
+  pub alone_none : (items : List Definition) → StandAt place items all → length items ≡ 1 → redefined_among cards (take place all) items ≡ None
+  alone_none [] at one = absurd cc
+  alone_none (d ∷ []) at one =
+      let none = new_none cards all (d ∷ []) place 0 d new at (omega arith) refl (at_first (λ n. (x : Definition) → slice_get all n ≡ Some x → new ≡ is_new_name x.name (take n all)) is) fresh in
+      ap (λ x. option_or x None) (subst (λ n. redefined_by cards (take n all) d ≡ None) (add-zero place) none)
+  alone_none (d ∷ e ∷ ds) at one = absurd cc
+
+  pub alone_keeps : (items : List Definition) → StandAt place items all → length items ≡ 1 → redefine (take place all) items ≡ false
+  alone_keeps [] at one = absurd cc
+  alone_keeps (d ∷ []) at one =
+      let kept = new_keeps all (d ∷ []) place 0 d new at (omega arith) refl (at_first (λ n. (x : Definition) → slice_get all n ≡ Some x → new ≡ is_new_name x.name (take n all)) is) fresh in
+      ap (λ b. b || false) (subst (λ n. redefines_as (take n all) d ≡ false) (add-zero place) kept)
+  alone_keeps (d ∷ e ∷ ds) at one = absurd cc

@@ -171,6 +171,9 @@ pub fn redefined_name(
     ensures cause { result ≡ causes.redefined source.now before.now card.now }
     ensures rule { is_some result ≡ redefinitions.redefines before.now card.now }
 {
+    if card.definition_count() == 1 && source.is_first_name(count) {
+        return None;
+    }
     redefined_among(source, count, card.definitions().as_slice())
 }
 
