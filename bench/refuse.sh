@@ -112,6 +112,23 @@ SOURCE
 printf '20\n15\n35\n05\n' > "$work/search.txt"
 printf 'B E\nB H\nB\nA H\n' > "$work/search.expected"
 
+# Refuses the allocations of a command in turn, until 100 runs are served one after the other: status 0 comes only with all that it prints.
+keep_told() {
+    local refused=0 served=0 nth status
+    local wanted=$work/wanted printed=$work/printed
+    "$rpg2" "$@" > "$wanted" 2>&1
+    for ((nth = 1; served < 100; nth++)); do
+        status=0
+        REFUSED=$nth LD_PRELOAD=$work/refuse.so "$rpg2" "$@" > "$printed" 2>&1 || status=$?
+        if [ "$status" = 0 ] && ! cmp -s "$wanted" "$printed"; then
+            echo "$*, allocation $nth refused: status 0, and something isn't printed"
+            exit 1
+        fi
+        if [ "$status" = 0 ]; then served=$((served + 1)); else served=0; refused=$((refused + 1)); fi
+    done
+    echo "$1: $refused allocations refused in turn, and status 0 only with all that is printed"
+}
+
 # Subroutines that call one another.
 cat > "$work/calls.rpg" <<'SOURCE'
      FINPUT   IPE F      80            READ40
@@ -190,6 +207,40 @@ refuse run "end of job, cycles 5, steps 9 of 9" "$work/print" "$work/search.expe
 refuse list "$("$rpg2" list "$work/search.rpg")" "$work/unwritten" "" list "$work/search.rpg"
 refuse cards "$("$rpg2" cards "$work/search.short")" "$work/unwritten" "" cards "$work/search.short"
 refuse cards "$("$rpg2" cards --short "$work/search.rpg")" "$work/unwritten" "" cards --short "$work/search.rpg"
+
+# Diagnostics of commands that end well: changes, warnings, and what a job does.
+keep_told fit "$top/examples/taxes/taxes.old.rpg" "$work/new.rpg" --force --table "BRACKET=$top/examples/taxes/brackets.txt"
+keep_told check "$work/calls.rpg" "$work/loop.rpg"
+keep_told run "$work/levels.obj" "$work/levels.txt" "$work/print" --trace 9 --watch --sorted
+keep_told run "$work/levels.obj" "$work/levels.txt" "$work/print" --trace-record 2 --format json
+
+# A cycle that writes 9 MB is reported within the memory in which the job runs.
+cat > "$work/large.rpg" <<'SOURCE'
+     FIN      IPE F       3            DISK
+     FPRINT   O   F      20            PRINTER
+     FOUT     O   F    9999            DISK
+     IIN      AA  01
+     I                                        1   30N
+     C           AGAIN     TAG
+     C                     EXCPT
+     C           N         SUB  1         N
+     C           N         COMP 0                    20
+     C   20                GOTO AGAIN
+     OPRINT   D        01
+     O                         N          3
+     OOUT     E        01
+     O                                    1 'A'
+     O                                 9999 'Z'
+SOURCE
+"$rpg2" compile "$work/large.rpg" "$work/large.obj" > "$work/line"
+echo 900 > "$work/large.txt"
+status=0
+(ulimit -v 24000; "$rpg2" run "$work/large.obj" "$work/large.txt" "$work/print" --disk /dev/null --trace 1 -q) 2> "$work/told" || status=$?
+if [ "$status" != 0 ] || [ "$(wc -l < "$work/told")" != 903 ]; then
+    echo "a trace of 9 MB: status $status, $(wc -l < "$work/told") lines"
+    exit 1
+fi
+echo "a trace of 9 MB: within 24 MB"
 
 # An object program that writes a disk file and then prints.
 expected=$stock/stock.expected

@@ -4,13 +4,14 @@
 usage: bench/refuse_calls.py [COMMAND ..]        RPG2 names the program; it needs strace
 
 strace makes one system call fail (-e inject) with each error that such a call can have. Then
-    status 0        only if every output is whole: each file, or standard output
+    status 0        only if every output is whole: each file, or standard output, and every diagnostic is written
     another status  only with a line on standard output or a sentence on standard error; each file is as it was, or a first part of what is
                     expected, and as long as a message reports ('after N bytes')
     run --keep, go  each file is as it was, or whole; what this run wrote of one that is as it was is beside it, if it wrote any, and the
                     message says where
     records         each file is as it was, or whole, and nothing is beside it
-Each file that is kept until its job or its conversion has ended well is forced onto the disk.
+A new file that can't be moved to its place nor be removed is named, and so is an output that is new though the command fails. Each new file
+is forced onto the disk.
 An interrupted call that isn't refused again must change nothing. No program of the kit sees a close that fails; here it loses nothing,
 since what was written is written. It prints a line for each call where this fails, and a count; its exit status is 1 if there is one.
 """
@@ -54,6 +55,10 @@ COMMANDS = {
     "verify": ("verify o.obj", ("-",)),
     "explain": ("explain", ("-",)),
 }
+# The commands that are interrupted for ever: each kind of reader and writer of files.
+PATIENT = ("run", "keep", "records", "compile")
+# What is said of an output that is new, though the command failed.
+NEW = ("replaced by what this run wrote", "made by this run")
 # The commands whose files are as they were, or whole.
 WHOLE = ("compile", "fit", "records", "records back")
 ERRORS = {
@@ -64,6 +69,7 @@ ERRORS = {
     "rename": ("EIO", "ENOSPC"),
     "fsync": ("EIO", "ENOSPC", "EDQUOT"),
     "close": ("EIO",),
+    "statx": ("EIO",),
 }
 
 
@@ -139,6 +145,13 @@ def is_first_part(command, file, found, wanted):
     return whole.startswith(data) and not (told and role in found.diagnostics and int(told[1]) != len(data))
 
 
+def is_told_new(found, file):
+    """Whether a message says that a file is new, though the command failed."""
+    if b"standard output can't be written" in found.diagnostics:
+        return True
+    return any(f"{file} ({it}): {what}\n".encode() in found.diagnostics for it in ("PRINT", "OUT") for what in NEW)
+
+
 def what_is_wrong_beside(found, wanted, is_heard):
     """What is wrong with files that are kept until their job has ended well, and with what stands beside them."""
     for file, data in found.outputs.items():
@@ -147,6 +160,8 @@ def what_is_wrong_beside(found, wanted, is_heard):
         parts = {name: it for name, it in found.beside.items() if name.startswith(f"{file}.")}
         if data != old and (wanted.status or data != whole):
             return f"{file} is neither as it was nor whole"
+        if data != old and not is_told_new(found, file):
+            return f"{file} is new, and no message says so"
         if not all(whole.startswith(it) for it in parts.values()):
             return f"what stands beside {file} is no first part"
         if is_heard and not all(f"what this run wrote is in {it}\n".encode() in found.diagnostics for it in parts):
@@ -159,6 +174,8 @@ def what_is_wrong_beside(found, wanted, is_heard):
 def what_is_wrong(command, error, found, wanted, is_heard):
     if found.status < 0 or found.status > 5:
         return "it crashed"
+    if found.status == 0 and found.diagnostics != wanted.diagnostics:
+        return "status 0, and a diagnostic is lost"
     if found.status == 0:
         return None if found.is_whole(wanted) and found.beside == wanted.beside else "status 0, and an output isn't whole"
     if error == "EINTR":
@@ -171,19 +188,43 @@ def what_is_wrong(command, error, found, wanted, is_heard):
         return "an old file is gone"
     if command in WHOLE and found.beside:
         return f"{min(found.beside)} is left"
+    if command == "records" and found.outputs["p"] != OLD and not is_told_new(found, "p"):
+        return "p is new, and no message says so"
     lost = [it for it in found.outputs if not is_first_part(command, it, found, wanted)]
     return f"{lost[0]} is no first part, or another one than the message says" if lost else None
+
+
+def is_patient(command, calls):
+    """Whether a command gives up if a read or a write is interrupted again and again."""
+    first = {name: number for name, number, _ in reversed(calls)}
+    ends = []
+    for name in ("read", "write"):
+        if name in first and (name == "read" or COMMANDS[command][1] != ("-",)):
+            ends.append(outcome(command, ["-e", f"inject={name}:error=EINTR:when={first[name]}+"]).status)
+    return all(it in (1, 5) for it in ends)
 
 
 def tried(command):
     """Refuses each call of a command, and gives how many were tried and how many went wrong."""
     wanted = outcome(command)
     count = wrong = 0
+    calls = list(calls_made())
     forced = Path("calls").read_text(encoding="utf-8", errors="replace").count("\nfsync(")
-    if command.startswith(("keep", "records")) and forced != len(COMMANDS[command][1]):
+    if command in ("keep", "keep new", "keep halt", "keep go", *WHOLE) and forced != len(COMMANDS[command][1]):
         wrong += 1
         print(f"{command}: {forced} files are forced onto the disk", flush=True)
-    for name, number, is_diagnostic in list(calls_made()):
+    if command in WHOLE:
+        count += 1
+        found = outcome(command, ["-e", "inject=rename:error=EIO", "-e", "inject=unlink:error=EIO"])
+        if found.status != 1 or not found.beside or not all(f"{it}: it is left there".encode() in found.diagnostics for it in found.beside):
+            wrong += 1
+            print(f"{command}: a file that can't be removed isn't named: status {found.status} {found.diagnostics!r}", flush=True)
+    if command in PATIENT:
+        count += 1
+        if not is_patient(command, calls):
+            wrong += 1
+            print(f"{command}: it doesn't give up", flush=True)
+    for name, number, is_diagnostic in calls:
         for error in ERRORS[name]:
             count += 1
             found = outcome(command, ["-e", f"inject={name}:error={error}:when={number}"])

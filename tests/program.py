@@ -18,7 +18,7 @@ STATUSES = [
     (2, r"bad date|date wanted|disk file wanted|secondary file wanted|no such code"),
     (3, r"card \d+: [SFWA]\d+|new card \d+: [SF]\d+|not the object's source|line \d+: no card"),
     (4, r"refused: (B\d at \d+|V\d+ row \d+|bound \d+)"),
-    (5, r"halt [1-8], cycles \d+, steps \d+ of \d+"),
+    (5, r"halt [1-8], cycles \d+, steps \d+ of \d+|record \d+: not sorted"),
 ]
 
 

@@ -144,6 +144,14 @@ class Session:
             answer = self.program.run(list(words[1:]), self.folder, self.given, out=out)
         return answer.text + f"status {answer.status}\n".encode()
 
+    def do_mute(self, *words: str) -> bytes:
+        """Runs rpg2 with a standard error that takes nothing: what it prints on standard output, and the status."""
+        with open("/dev/full", "wb") as nothing:
+            ended = subprocess.run(
+                words, executable=self.program.path, cwd=self.folder, stdin=self.given, stdout=subprocess.PIPE, stderr=nothing, timeout=SECONDS, check=False
+            )
+        return ended.stdout + f"status {ended.returncode}\n".encode()
+
     def do_terminal(self, no_color: str, *words: str) -> bytes:
         """Runs rpg2 where standard error is a terminal, and NO_COLOR has a value; `-` for none. What comes there is shown, an escape as `\\e`."""
         ours, its = pty.openpty()
@@ -209,6 +217,12 @@ class Session:
 
     def do_fill(self, name: str, count: str, value: str) -> bytes:
         self.path(name).write_bytes(bytes([int(value)]) * int(count))
+        return b""
+
+    def do_leftovers(self, name: str, count: str) -> bytes:
+        """Makes the files that so many killed runs leave beside a file."""
+        for number in range(int(count)):
+            self.path(f"{name}.{number}.new").touch()
         return b""
 
     def do_folder(self, name: str) -> bytes:

@@ -4,7 +4,7 @@ use Rattle.rpg_engine.specs.Halts.{halt_number}
 use Rattle.rpg_engine.specs.JobEnd.{JobEnd}
 use Rattle.rpg_engine.specs.JobEnd.TheVariants as endings
 use Rattle.rpg_engine.specs.declared.report.Report.{Report}
-use Rattle.rpg_cli_answers.specs.Answers.{exit_status, line_text}
+use Rattle.rpg_cli_answers.specs.Answers.{line_text}
 use Rattle.rpg_cli_answers.specs.declared.answer.Answer.{Answer}
 use Rattle.rpg_cli_answers.specs.declared.answer.Answer.TheVariants as answers
 
@@ -53,5 +53,5 @@ abbrev pub answer_member : List ℕ → List ℕ
 answer_member answer = codes "{\"answer\":\"" ++ answer ++ codes "\""
 
 -- the line that is printed without JSON, which has no character that is escaped, the counts, and the exit status
-abbrev pub json_text : Answer → List ℕ
-json_text a = answer_member (line_text a) ++ count_members a ++ member (codes "status") (exit_status a) ++ codes "}"
+abbrev pub json_text : Answer → (status : ℕ) → List ℕ
+json_text a status = answer_member (line_text a) ++ count_members a ++ member (codes "status") status ++ codes "}"

@@ -38,6 +38,10 @@ pub enum Answer {
     },
     /// The job ended normally, or halted.
     Ended(Report),
+    /// The job ended, and a control field went down at this record, though the arguments have a sorted input.
+    Unsorted {
+        record: u64,
+    },
     /// The source is rejected.
     Source(SourceFault),
     /// The object file doesn't hold an accepted program.

@@ -175,7 +175,7 @@ fn plain<'f, 't>(
 /// with a file is only a message.
 pub(crate) fn diagnostic_of<'f, 't>(line: &'t str, known: Known<'f, '_>) -> Diagnostic<'f, 't> {
     match file_of(line, known.files) {
-        None => plain(None, Severity::Note, line),
+        None => plain(None, known.severity, line),
         Some((file, rest)) => match rest.strip_prefix(':') {
             Some(rest) => placed(file, rest, known.severity),
             None => plain(Some(file), Severity::Error, rest.trim_start()),

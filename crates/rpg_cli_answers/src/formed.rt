@@ -6,7 +6,7 @@ use rpg_cli_files::{Listener, Reason};
 use rpg_cli_words::Format;
 use std::alloc::Global;
 
-/// Passes on each diagnostic as text, or as a JSON object on a line of its own. An object is left out if memory runs out for it. One type
+/// Passes on each diagnostic as text, or as a JSON object on a line of its own. An object is lost if memory runs out for it. One type
 /// serves both forms, so that each command is compiled once.
 #[derive(Drop)]
 pub struct FormedListener<'a, L> {
@@ -32,19 +32,30 @@ impl<'a, L: Listener> FormedListener<'a, L> {
 
     /// Takes a text, and passes on the objects of all complete lines.
     fn report_objects(&mut self, text: &str, severity: Severity) {
-        if self.begun.push_str(text).is_err() || !text.ends_with('\n') {
+        if self.begun.push_str(text).is_err() {
+            self.lose();
+            return;
+        }
+        if !text.ends_with('\n') {
             return;
         }
         let known = Known {
             files: &self.files,
             severity,
         };
-        if let Ok(objects) = diagnostics(self.alloc, known, self.begun.as_str()) {
-            self.listener.report(objects.as_str());
+        match diagnostics(self.alloc, known, self.begun.as_str()) {
+            Ok(objects) => self.listener.report(objects.as_str()),
+            Err(_) => self.lose(),
         }
         self.begun.clear();
     }
 }
+
+/// What is reported once if memory runs out for a diagnostic, as text and as an object.
+const LOST: &str = "a diagnostic is lost: memory ran out for it\n";
+
+const LOST_OBJECT: &str =
+    "{\"severity\":\"error\",\"message\":\"a diagnostic is lost: memory ran out for it\"}\n";
 
 impl<L: Listener> Listener for FormedListener<'_, L> {
     fn report(&mut self, text: &str) {
@@ -59,6 +70,20 @@ impl<L: Listener> Listener for FormedListener<'_, L> {
             Format::Text => self.listener.report_error(text),
             Format::Json => self.report_objects(text, Severity::Error),
         }
+    }
+
+    fn lose(&mut self) {
+        if !self.listener.has_lost() {
+            self.listener.report(match self.format {
+                Format::Text => LOST,
+                Format::Json => LOST_OBJECT,
+            });
+        }
+        self.listener.lose();
+    }
+
+    fn has_lost(&self) -> bool {
+        self.listener.has_lost()
     }
 
     fn show(&mut self, text: &str) -> Result<(), Reason> {

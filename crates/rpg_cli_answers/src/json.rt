@@ -2,7 +2,6 @@
 
 ghost use Rattle.std.specs.Prelude.{◌≡◌, ◌+◌, ◌≤◌, ◌++◌, length};
 ghost use Rattle.arrayvec.specs.ArrayVec.{array_vec_len};
-ghost use Rattle.rpg_cli_answers.specs.Answers.{exit_status};
 ghost use Rattle.rpg_cli_answers.specs.Json as json;
 
 use crate::answer::Answer;
@@ -11,15 +10,8 @@ use arrayvec::ArrayVec;
 use itoa::Buffer;
 use rpg_engine::{JobEnd, Report};
 
-/// An object under construction.
-type Object = ArrayVec<u8, 256>;
-
-/// The JSON object that is printed for an answer, without its line feed, and the exit status.
-#[derive(Drop)]
-pub struct JsonLine {
-    pub text: ArrayVec<u8, 256>,
-    pub status: u8,
-}
+/// The JSON object that is printed for an answer, without its line feed.
+pub type Object = ArrayVec<u8, 256>;
 
 fn add(text: &mut Object, piece: &[u8])
     requires { array_vec_len text.old + length piece.now ≤ 256 }
@@ -156,18 +148,14 @@ fn begin(answer: &[u8]) -> Object
     text
 }
 
-/// Returns the JSON object that is printed for an answer, and the exit status.
-pub fn json_line(answer: &Answer) -> JsonLine
-    ensures text { result.text.items ≡ json.json_text answer.now }
-    ensures status { result.status ≡ exit_status answer.now }
+/// Returns the JSON object that is printed for an answer, with this exit status.
+pub fn json_line(answer: &Answer, status: u8) -> Object
+    ensures { result.items ≡ json.json_text answer.now status }
 {
     let plain = line(answer);
     let mut text = begin(plain.text.as_slice());
     add_counts(&mut text, answer);
-    add_short_number(&mut text, b"status", plain.status);
+    add_short_number(&mut text, b"status", status);
     add(&mut text, b"}");
-    JsonLine {
-        text,
-        status: plain.status,
-    }
+    text
 }

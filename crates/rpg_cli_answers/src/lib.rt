@@ -16,8 +16,8 @@ mod text;
 
 pub use answer::{Answer, Line, named};
 pub use formed::FormedListener;
-pub use in_place::report_in_place;
-pub use json::{JsonLine, json_line};
+pub use in_place::{report_in_place, report_placed};
+pub use json::json_line;
 pub use objects::source_object;
 pub use reading::{source_bytes, system_path};
 pub use rpg_cli_files::{Listener, report_message, report_refusal};

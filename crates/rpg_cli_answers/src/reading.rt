@@ -1,6 +1,6 @@
 //! Reads sources from their paths or from standard input.
 
-use rpg_cli_files::{FileFault, Reason, file_bytes};
+use rpg_cli_files::{FileFault, Patient, Reason, file_bytes};
 use rpg_cli_words::is_standard;
 use std::io::{Error, ErrorKind, Read};
 use std::rt::Files;
@@ -18,8 +18,7 @@ fn input_fault(error: &Error) -> FileFault {
 /// Reads all of standard input.
 fn input_bytes<R: Input + AllocGlobal>(rt: &R) -> Result<Vec<u8>, FileFault> {
     let mut bytes = Vec::new(rt.alloc());
-    match rt
-        .reader()
+    match Patient::new(rt.reader())
         .take(MOST_BYTES as u64 + 1)
         .read_to_end(&mut bytes)
     {

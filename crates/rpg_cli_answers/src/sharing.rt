@@ -1,7 +1,9 @@
 //! Files that must not be written: that two arguments name, or that an output may not replace.
 
-use rpg_cli_files::{FileIdentity, Opened, Pending, begins_with, identity, identity_at};
+use crate::answer::{Answer, named};
+use rpg_cli_files::{FileFault, FileIdentity, Opened, Pending, begins_with, identity, identity_at};
 use rpg_cli_words::{Existing, FileArgument, SameFile, Shared, Unreplaced, may_replace};
+use std::fs::OpenFile;
 use std::rt::Files;
 
 /// An argument, and the regular file that it names, if any.
@@ -9,6 +11,20 @@ use std::rt::Files;
 pub struct NamedFile {
     argument: FileArgument,
     identity: Option<FileIdentity>,
+}
+
+/// Returns the identity of an open file, or the fault of the file that an argument names.
+fn identity_of<F: OpenFile>(
+    argument: FileArgument,
+    file: &F,
+) -> Result<Option<FileIdentity>, FileFault> {
+    match identity(file) {
+        Ok(identity) => Ok(identity),
+        Err(reason) => Err(match argument {
+            FileArgument::Print | FileArgument::Disk => FileFault::Output(reason),
+            _ => FileFault::Input(reason),
+        }),
+    }
 }
 
 impl NamedFile {
@@ -35,13 +51,15 @@ impl NamedFile {
         argument: FileArgument,
         file: &Opened<R::File>,
         stream: &str,
-    ) -> NamedFile {
+    ) -> Result<NamedFile, Answer> {
         let identity = match file {
             Opened::Nothing => None,
-            Opened::File(file) | Opened::New(file) | Opened::InPlace(file, _) => identity(file),
+            Opened::File(file) | Opened::New(file) | Opened::InPlace(file, _) => {
+                named(argument, identity_of(argument, file))?
+            }
             Opened::Standard => identity_at(rt, stream),
         };
-        NamedFile { argument, identity }
+        Ok(NamedFile { argument, identity })
     }
 
     /// Returns a file that a job writes, or the place of one that is written beside it.
@@ -51,9 +69,9 @@ impl NamedFile {
         file: &Opened<R::File>,
         pending: &Option<Pending<'_>>,
         stream: &str,
-    ) -> NamedFile {
+    ) -> Result<NamedFile, Answer> {
         match pending {
-            Some(pending) => NamedFile::at(rt, argument, pending.place()),
+            Some(pending) => Ok(NamedFile::at(rt, argument, pending.place())),
             None => NamedFile::opened(rt, argument, file, stream),
         }
     }

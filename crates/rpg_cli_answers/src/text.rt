@@ -246,6 +246,7 @@ fn exit_status(answer: &Answer) -> u8
         | Answer::Records { .. }
         | Answer::Fitted { .. } => 0,
         Answer::Ended(report) => ending_status(report.ending),
+        Answer::Unsorted { .. } => 5,
         Answer::Checked { status, .. } => status,
         Answer::Source(SourceFault::At { .. })
         | Answer::NewDeck(SourceFault::At { .. })
@@ -288,6 +289,11 @@ pub fn line(answer: &Answer) -> Line
             put_number(&mut text, bound);
         }
         Answer::Ended(report) => put_report(&mut text, report),
+        Answer::Unsorted { record } => {
+            put(&mut text, b"record ");
+            put_number(&mut text, record);
+            put(&mut text, b": not sorted");
+        }
         Answer::Source(fault) => put_source_fault(&mut text, fault),
         Answer::Object(fault) => put_object_fault(&mut text, fault),
         Answer::OtherSource => put(&mut text, b"not the object's source"),

@@ -156,10 +156,11 @@ fn show_new_deck<R: Files + Print>(rt: &R, new: &[u8]) -> Result<(), Answer> {
 }
 
 /// Writes the new deck, if the arguments ask for it.
-fn write_new_deck<R: Files + Print + AllocGlobal>(
+fn write_new_deck<R: Files + Print + AllocGlobal, L: Listener>(
     rt: &R,
     request: &Request,
     new: &[u8],
+    listener: &mut L,
 ) -> Result<(), CommandStop> {
     match request.new_deck {
         None => Ok(()),
@@ -170,12 +171,12 @@ fn write_new_deck<R: Files + Print + AllocGlobal>(
         Some(path) => {
             keep_files(rt, request, path)?;
             refuse_replacing(rt, FileArgument::Fitted, Some(path), request.forces)?;
-            Ok(named(FileArgument::Fitted, write_bytes(rt, path, new))?)
+            Ok(named(FileArgument::Fitted, write_bytes(rt, path, new, listener))?)
         }
     }
 }
 
-/// Reports the changes of a deck, and the faults of the new one. If memory runs out for them, nothing is printed.
+/// Reports the changes of a deck, and the faults of the new one.
 fn report_fit<L: Listener>(
     alloc: Global,
     request: &Request,
@@ -233,7 +234,7 @@ fn conclude<R: Files + Print + AllocGlobal, L: Listener>(
     fit: &FittedDeck,
     listener: &mut L,
 ) -> Result<Answer, CommandStop> {
-    write_new_deck(rt, request, fit.fitted.new.as_slice())?;
+    write_new_deck(rt, request, fit.fitted.new.as_slice(), listener)?;
     report_fit(rt.alloc(), request, source, fit, listener);
     Ok(answer_of(fit))
 }

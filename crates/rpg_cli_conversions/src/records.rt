@@ -3,7 +3,7 @@
 use crate::refused::{deck_message, record_message};
 use rpg_cli_answers::{
     Answer, CommandStop, Listener, NamedFile, named, refuse_replacing, refuse_same_file,
-    report_in_place, report_refusal,
+    report_in_place, report_placed, report_refusal,
 };
 use rpg_cli_files::{
     FileFault, KeptFile, LineTarget, Opened, Pending, Reason, RecordSource, file_bytes, input_file,
@@ -98,15 +98,17 @@ struct NewFiles<'a> {
 
 impl<'a> NewFiles<'a> {
     /// Opens NEW for writing, if the arguments ask for it.
-    fn opened_deck<R: Files + AllocGlobal>(
+    fn opened_deck<R: Files + AllocGlobal, L: Listener>(
         &mut self,
         rt: &R,
         request: &Request<'a>,
+        listener: &mut L,
     ) -> Result<Opened<R::File>, Answer> {
         let Some(path) = request.new_deck else {
             return Ok(Opened::Nothing);
         };
-        let KeptFile { opened, pending } = named(FileArgument::NewDeck, kept_file(rt, path))?;
+        let new = kept_file(rt, path, listener);
+        let KeptFile { opened, pending } = named(FileArgument::NewDeck, new)?;
         self.deck = pending;
         Ok(opened)
     }
@@ -126,42 +128,64 @@ impl<'a> NewFiles<'a> {
         Ok(())
     }
 
-    /// Moves OUT to its place, then NEW.
-    fn put_in_place<R: Files>(&self, rt: &R) -> Result<(), Answer> {
-        if let Some(lines) = &self.lines {
-            named(FileArgument::Out, lines.put_in_place(rt))?;
-        }
-        match &self.deck {
-            Some(deck) => named(FileArgument::NewDeck, deck.put_in_place(rt)),
-            None => Ok(()),
+    /// Reports what other runs left beside the files.
+    fn report_taken<L: Listener>(&self, alloc: Global, listener: &mut L) {
+        for new in [&self.lines, &self.deck] {
+            if let Some(new) = new {
+                new.report_taken(alloc, listener);
+            }
         }
     }
 
+    /// Moves OUT to its place, then NEW. Reports OUT if NEW can't be moved.
+    fn put_in_place<R: Files + AllocGlobal, L: Listener>(
+        &self,
+        rt: &R,
+        listener: &mut L,
+    ) -> Result<(), Answer> {
+        if let Some(lines) = &self.lines {
+            named(FileArgument::Out, lines.put_in_place(rt))?;
+        }
+        let Some(deck) = &self.deck else {
+            return Ok(());
+        };
+        let moved = deck.put_in_place(rt);
+        if moved.is_err() {
+            report_placed(rt.alloc(), FileArgument::Out, &self.lines, listener);
+        }
+        named(FileArgument::NewDeck, moved)
+    }
+
     /// Moves the files to their places once both are whole, or removes them.
-    fn conclude<R: Files>(
+    fn conclude<R: Files + AllocGlobal, L: Listener>(
         &self,
         rt: &R,
         converted: Result<Counts, CommandStop>,
+        listener: &mut L,
     ) -> Result<Counts, CommandStop> {
         let concluded = match converted {
-            Ok(counts) => match self.put_in_place(rt) {
+            Ok(counts) => match self.put_in_place(rt, listener) {
                 Ok(()) => Ok(counts),
                 Err(answer) => Err(answer.into()),
             },
             Err(stop) => Err(stop),
         };
         if concluded.is_err() {
-            remove(rt, &self.lines);
-            remove(rt, &self.deck);
+            remove(rt, &self.lines, listener);
+            remove(rt, &self.deck, listener);
         }
         concluded
     }
 }
 
 /// Removes a new file, if there is one.
-fn remove<R: Files>(rt: &R, file: &Option<Pending<'_>>) {
+fn remove<R: Files + AllocGlobal, L: Listener>(
+    rt: &R,
+    file: &Option<Pending<'_>>,
+    listener: &mut L,
+) {
     if let Some(pending) = file {
-        pending.discard(rt);
+        pending.discard(rt, listener);
     }
 }
 
@@ -173,7 +197,7 @@ fn keep_files<R: Files + AllocGlobal>(
     new: &NewFiles<'_>,
 ) -> Result<(), CommandStop> {
     let deck = NamedFile::named(rt, request.deck_argument(), request.deck);
-    let input = NamedFile::opened(rt, FileArgument::In, input, "/dev/stdin");
+    let input = NamedFile::opened(rt, FileArgument::In, input, "/dev/stdin")?;
     let output = NamedFile::named(rt, FileArgument::Out, request.output);
     let new_deck = NamedFile::named(rt, FileArgument::NewDeck, request.new_deck);
     refuse_same_file(output, &[input, deck])?;
@@ -310,8 +334,9 @@ fn convert_opened<'a, R: Files + Input + Print + AllocGlobal, L: Listener>(
     new: &mut NewFiles<'a>,
     listener: &mut L,
 ) -> Result<Counts, CommandStop> {
-    let new_deck = new.opened_deck(rt, request)?;
+    let new_deck = new.opened_deck(rt, request, listener)?;
     keep_files(rt, request, &input, new)?;
+    new.report_taken(rt.alloc(), listener);
     report_in_place(rt.alloc(), request, FileArgument::Out, &output, listener);
     report_in_place(
         rt.alloc(),
@@ -336,13 +361,13 @@ fn convert_file<R: Files + Input + Print + AllocGlobal, L: Listener>(
 ) -> Result<Counts, CommandStop> {
     let input = opened_input(rt, request)?;
     let place = request.file(FileArgument::Out);
-    let KeptFile { opened, pending } = named(FileArgument::Out, kept_file(rt, place))?;
+    let KeptFile { opened, pending } = named(FileArgument::Out, kept_file(rt, place, listener))?;
     let mut new = NewFiles {
         lines: pending,
         deck: None,
     };
     let converted = convert_opened(rt, request, deck, input, opened, &mut new, listener);
-    new.conclude(rt, converted)
+    new.conclude(rt, converted, listener)
 }
 
 /// Converts the records of a file to lines, or its lines to records.

@@ -4,6 +4,7 @@ ghost use Rattle.std.specs.Prelude.{◌≡◌, ◌-◌, ◌^◌, ◌<◌, ◌≤
 ghost use Rattle.std.specs.Io.KnownBytes.{Keeps};
 ghost use Rattle.rpg_files.specs.Counting.{device_of, faults_after, faults_of};
 
+use crate::patience::Patient;
 use crate::reason::Reason;
 use rpg_files::Counted;
 use std::fs::{self, File, Metadata, OpenFile};
@@ -64,9 +65,12 @@ fn identity_in(about: &Metadata) -> Option<FileIdentity> {
     })
 }
 
-/// Returns the identity of an open file, if it is regular.
-pub fn identity<F: OpenFile>(file: &F) -> Option<FileIdentity> {
-    identity_in(&file.metadata().ok()?)
+/// Returns the identity of an open file, if it is regular. The error is why the system can't tell.
+pub fn identity<F: OpenFile>(file: &F) -> Result<Option<FileIdentity>, Reason> {
+    match file.metadata() {
+        Ok(about) => Ok(identity_in(&about)),
+        Err(error) => Err(Reason::of(error.kind())),
+    }
 }
 
 /// Returns the identity of the file at a path, if it is regular.
@@ -116,7 +120,8 @@ pub fn file_bytes<R: Files + AllocGlobal>(rt: &R, path: &str) -> Result<Vec<u8>,
     let Ok(mut bytes) = Vec::with_capacity(rt.alloc(), room) else {
         return Err(FileFault::NoMemory);
     };
-    file.take(MOST_BYTES as u64 + 1)
+    Patient::new(file)
+        .take(MOST_BYTES as u64 + 1)
         .read_to_end(&mut bytes)
         .map_err(input_fault)?;
     if bytes.len() > MOST_BYTES {
@@ -138,8 +143,9 @@ pub fn output_file<R: Files>(rt: &R, path: &str) -> Result<R::File, FileFault> {
 /// Empties a file that will be written. A file that isn't regular has no contents.
 pub(crate) fn empty_file<F: OpenFile>(file: &F) -> Result<(), FileFault> {
     match identity(file) {
-        Some(_) => file.set_len(0).map_err(output_fault),
-        None => Ok(()),
+        Ok(Some(_)) => file.set_len(0).map_err(output_fault),
+        Ok(None) => Ok(()),
+        Err(reason) => Err(FileFault::Output(reason)),
     }
 }
 

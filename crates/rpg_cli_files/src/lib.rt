@@ -4,17 +4,20 @@
 
 mod files;
 mod listener;
+mod patience;
 mod pending;
 mod reason;
 mod replacing;
 mod sending;
 mod streams;
+mod window;
 
 pub use files::{
     FileFault, FileIdentity, begins_with, file_bytes, flush_device, identity, identity_at,
     input_file, output_file,
 };
 pub use listener::{Listener, report_message, report_refusal};
+pub use patience::Patient;
 pub use pending::{KeptFile, Pending, kept_file};
 pub use reason::Reason;
 pub use replacing::{InPlace, Replaces, write_bytes};

@@ -5,26 +5,34 @@ use std::alloc::AllocError;
 
 /// Writes diagnostics to standard error and texts to standard output.
 pub trait Listener {
-    /// Prints a diagnostic. A failure to write it is ignored.
+    /// Prints a diagnostic, or loses it if it can't be written.
     fn report(&mut self, text: &str);
 
     /// Like `report`, for a diagnostic that says why the command stops.
     fn report_error(&mut self, text: &str);
 
+    /// Loses a diagnostic, since memory ran out for it.
+    fn lose(&mut self);
+
+    /// Whether a diagnostic was lost.
+    fn has_lost(&self) -> bool;
+
     /// Prints a text before the line. The error is why it couldn't be written completely.
     fn show(&mut self, text: &str) -> Result<(), Reason>;
 }
 
-/// Prints a diagnostic, unless memory ran out for it: then only the line of the answer is printed.
+/// Prints a diagnostic, unless memory ran out for it.
 pub fn report_message<L: Listener>(listener: &mut L, message: Result<String, AllocError>) {
-    if let Ok(message) = message {
-        listener.report(message.as_str());
+    match message {
+        Ok(message) => listener.report(message.as_str()),
+        Err(_) => listener.lose(),
     }
 }
 
 /// Like `report_message`, for a diagnostic that says why the command stops.
 pub fn report_refusal<L: Listener>(listener: &mut L, message: Result<String, AllocError>) {
-    if let Ok(message) = message {
-        listener.report_error(message.as_str());
+    match message {
+        Ok(message) => listener.report_error(message.as_str()),
+        Err(_) => listener.lose(),
     }
 }

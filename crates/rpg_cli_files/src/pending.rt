@@ -1,10 +1,13 @@
 //! Files of a job that are written beside their places, and moved there once they are complete.
 
 use crate::files::{FileFault, identity_at, output_fault, output_file};
+use crate::listener::Listener;
 use crate::replacing::{
-    Beside, Replaces, Target, Writing, Written, is_free, name_beside, new_file, target_of,
+    Beside, Replaces, Target, Writing, Written, is_free, name_beside, new_file, remove_new,
+    report_taken, target_of,
 };
 use crate::streams::Opened;
+use std::alloc::Global;
 use std::fs;
 use std::rt::Files;
 
@@ -33,11 +36,12 @@ pub struct KeptFile<'a, F> {
 
 /// Opens a file for writing: a new one beside its place, or the existing one if that has nothing to lose, or has another name or another
 /// owner.
-pub fn kept_file<'a, R: Files + AllocGlobal>(
+pub fn kept_file<'a, R: Files + AllocGlobal, L: Listener>(
     rt: &R,
     place: &'a str,
+    listener: &mut L,
 ) -> Result<KeptFile<'a, R::File>, FileFault> {
-    let Written { target, writing } = new_file(rt, place)?;
+    let Written { target, writing } = new_file(rt, place, listener)?;
     let beside = match writing {
         Writing::Beside(beside) => beside,
         Writing::InPlace(why) => {
@@ -54,7 +58,7 @@ pub fn kept_file<'a, R: Files + AllocGlobal>(
         replaces,
     } = beside;
     let Ok(part) = format!(in rt.alloc(); "{target}.part") else {
-        let _removed = fs::remove_file(rt, path.as_str());
+        remove_new(rt, path.as_str(), listener);
         return Err(FileFault::NoMemory);
     };
     Ok(KeptFile {
@@ -85,6 +89,11 @@ impl<'a> Pending<'a> {
         self.part.as_str()
     }
 
+    /// Reports what other runs left beside the place.
+    pub fn report_taken<L: Listener>(&self, alloc: Global, listener: &mut L) {
+        report_taken(alloc, self.target.as_str(), self.number, listener);
+    }
+
     /// Moves the file to its place, and replaces what was there, unless this fails.
     pub fn put_in_place<R: Files>(&self, rt: &R) -> Result<(), FileFault> {
         fs::rename(rt, self.new.as_str(), self.target.as_str()).map_err(output_fault)
@@ -102,9 +111,9 @@ impl<'a> Pending<'a> {
         }
     }
 
-    /// Removes the file.
-    pub fn discard<R: Files>(&self, rt: &R) {
-        let _removed = fs::remove_file(rt, self.new.as_str());
+    /// Removes the file, if it is there. Reports it by its name if it can't be removed.
+    pub fn discard<R: Files + AllocGlobal, L: Listener>(&self, rt: &R, listener: &mut L) {
+        remove_new(rt, self.new.as_str(), listener);
     }
 
     /// Whether a path leads to the file's place, where there may be no file yet: the new one is found beside it.

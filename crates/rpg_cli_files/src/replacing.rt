@@ -1,7 +1,10 @@
 //! A file that is written completely before it replaces the existing one.
 
 use crate::files::{FileFault, beside_fault, output_fault};
+use crate::listener::{Listener, report_message};
 use crate::reason::Reason;
+use crate::sending::send_bytes;
+use rpg_cli_text::TextWriter;
 use std::alloc::{AllocError, Global};
 use std::fs::{self, File, Metadata, OpenFile};
 use std::io::{ErrorKind, Write};
@@ -10,7 +13,7 @@ use std::path::Path;
 use std::rt::Files;
 
 /// How many names are tried for a file beside another.
-const NAMES: u32 = 100;
+const NAMES: u32 = 10_000;
 
 /// How many links lead to a file at most.
 const LINKS: u32 = 40;
@@ -159,6 +162,31 @@ fn numbered_beside<R: Files + AllocGlobal>(
     }
 }
 
+const LEFT: &str =
+    "{}: note: {}.0.new was left by a run that was killed, or another run writes it: remove it if none runs\n";
+
+const SEVERAL_LEFT: &str =
+    "{}: note: {}.0.new to {}.{}.new were left by runs that were killed, or other runs write them: remove them if none runs\n";
+
+/// Returns the message that files of other runs are beside a file, so many of them.
+fn taken_message(alloc: Global, path: &str, count: u32) -> Result<String, AllocError> {
+    let mut out = TextWriter::new(alloc);
+    let (path, last) = (path.as_bytes(), u64::from(count.saturating_sub(1)));
+    let sentence = if count == 1 { LEFT } else { SEVERAL_LEFT };
+    out.fill(
+        sentence,
+        &[path.into(), path.into(), path.into(), last.into()],
+    );
+    out.finish()
+}
+
+/// Reports the names beside a file that other runs have taken, so many of them.
+pub(crate) fn report_taken<L: Listener>(alloc: Global, path: &str, count: u32, listener: &mut L) {
+    if count > 0 {
+        report_message(listener, taken_message(alloc, path, count));
+    }
+}
+
 /// Creates a file beside another, under a name that isn't taken.
 fn new_beside<R: Files + AllocGlobal>(
     rt: &R,
@@ -171,6 +199,30 @@ fn new_beside<R: Files + AllocGlobal>(
         }
     }
     Err(FileFault::Beside(Reason::Taken))
+}
+
+/// Returns the message that a new file can't be removed.
+fn left_message(alloc: Global, path: &str, reason: Reason) -> Result<String, AllocError> {
+    let mut out = TextWriter::new(alloc);
+    out.fill(
+        "{}: it is left there, since it can't be removed: {}\n",
+        &[path.as_bytes().into(), reason.text().into()],
+    );
+    out.finish()
+}
+
+/// Removes a new file, if it is there. Reports one that can't be removed.
+pub(crate) fn remove_new<R: Files + AllocGlobal, L: Listener>(
+    rt: &R,
+    path: &str,
+    listener: &mut L,
+) {
+    if let Err(error) = fs::remove_file(rt, path) {
+        if error.kind() != ErrorKind::NotFound {
+            let reason = Reason::of(error.kind());
+            report_message(listener, left_message(rt.alloc(), path, reason));
+        }
+    }
 }
 
 /// Gives a new file the owner, the group and the permissions of an old one. None if it can't belong to that owner.
@@ -194,10 +246,11 @@ fn take_over<R: Files>(
 }
 
 /// Creates a file beside an old one that can be written, to replace it.
-fn new_for<R: Files + AllocGlobal>(
+fn new_for<R: Files + AllocGlobal, L: Listener>(
     rt: &R,
     path: &str,
     old: &Metadata,
+    listener: &mut L,
 ) -> Result<Writing<R::File>, FileFault> {
     File::options()
         .write(true)
@@ -211,20 +264,21 @@ fn new_for<R: Files + AllocGlobal>(
     if let Ok(Some(())) = taken {
         return Ok(Writing::Beside(beside));
     }
-    let _removed = fs::remove_file(rt, beside.path.as_str());
+    remove_new(rt, beside.path.as_str(), listener);
     taken?;
     Ok(Writing::InPlace(InPlace::OtherOwner))
 }
 
 /// Creates a file to replace the one at a path, or where a link there leads.
-pub(crate) fn new_file<R: Files + AllocGlobal>(
+pub(crate) fn new_file<R: Files + AllocGlobal, L: Listener>(
     rt: &R,
     path: &str,
+    listener: &mut L,
 ) -> Result<Written<R::File>, FileFault> {
     let Target { path, place } = target_of(rt, path)?;
     let writing = match place {
         Place::Nothing => Writing::Beside(new_beside(rt, path.as_str(), Replaces::Nothing)?),
-        Place::File(old) => new_for(rt, path.as_str(), &old)?,
+        Place::File(old) => new_for(rt, path.as_str(), &old, listener)?,
         Place::Other => Writing::InPlace(InPlace::NotAFile),
     };
     Ok(Written {
@@ -234,11 +288,13 @@ pub(crate) fn new_file<R: Files + AllocGlobal>(
 }
 
 fn write_whole<F: Write>(file: &mut F, bytes: &[u8]) -> Result<(), FileFault> {
-    file.write_all(bytes).map_err(output_fault)?;
-    file.flush().map_err(output_fault)
+    match send_bytes(file, bytes) {
+        Ok(()) => Ok(()),
+        Err(reason) => Err(FileFault::Output(reason)),
+    }
 }
 
-/// Writes a file beside another, and moves it to that one's place.
+/// Writes a file beside another, forces it onto the disk, and moves it to that one's place.
 fn move_in_place<R: Files>(
     rt: &R,
     beside: &mut Beside<R::File>,
@@ -246,19 +302,22 @@ fn move_in_place<R: Files>(
     bytes: &[u8],
 ) -> Result<(), FileFault> {
     write_whole(&mut beside.file, bytes)?;
+    beside.file.sync_all().map_err(output_fault)?;
     fs::rename(rt, beside.path.as_str(), path).map_err(output_fault)
 }
 
 /// Moves a file beside another to that one's place, or removes it.
-fn replace_by<R: Files>(
+fn replace_by<R: Files + AllocGlobal, L: Listener>(
     rt: &R,
     mut beside: Beside<R::File>,
     path: &str,
     bytes: &[u8],
+    listener: &mut L,
 ) -> Result<(), FileFault> {
+    report_taken(rt.alloc(), path, beside.number, listener);
     let moved = move_in_place(rt, &mut beside, path, bytes);
     if moved.is_err() {
-        let _removed = fs::remove_file(rt, beside.path.as_str());
+        remove_new(rt, beside.path.as_str(), listener);
     }
     moved
 }
@@ -272,19 +331,20 @@ fn overwrite<R: Files>(rt: &R, path: &str, bytes: &[u8]) -> Result<(), FileFault
 ///
 /// If nothing or a regular file is there, the bytes are written beside it and then moved there, so that the old file stays until all of
 /// them are written. If no file can be created beside it, or it has other names or another owner, it is emptied and written.
-pub fn write_bytes<R: Files + AllocGlobal>(
+pub fn write_bytes<R: Files + AllocGlobal, L: Listener>(
     rt: &R,
     path: &str,
     bytes: &[u8],
+    listener: &mut L,
 ) -> Result<(), FileFault> {
-    let written = match new_file(rt, path) {
+    let written = match new_file(rt, path, listener) {
         Ok(written) => written,
         Err(FileFault::Beside(_)) => return overwrite(rt, path, bytes),
         Err(fault) => return Err(fault),
     };
     let Written { target, writing } = written;
     match writing {
-        Writing::Beside(beside) => replace_by(rt, beside, target.as_str(), bytes),
+        Writing::Beside(beside) => replace_by(rt, beside, target.as_str(), bytes, listener),
         Writing::InPlace(_) => overwrite(rt, path, bytes),
     }
 }

@@ -52,15 +52,23 @@ fn send<W: Write>(writer: &mut W, bytes: &[u8]) -> Result<(), Unsent>
     Ok(())
 }
 
+/// Writes all bytes. The error is why they couldn't be written completely.
+pub(crate) fn send_bytes<W: Write>(writer: &mut W, bytes: &[u8]) -> Result<(), Reason>
+    ensures ok { OnOk result (Appends (W.contents writer.old) (W.contents writer.new) bytes.now) }
+    ensures err { OnErr result (AppendsPrefix (W.contents writer.old) (W.contents writer.new) bytes.now) }
+{
+    match send(writer, bytes) {
+        Ok(()) => Ok(()),
+        Err(unsent) => Err(unsent.reason),
+    }
+}
+
 /// Writes a text. The error is why it couldn't be written completely.
 pub fn send_text<W: Write>(writer: &mut W, text: &str) -> Result<(), Reason>
     ensures ok { OnOk result (Appends (W.contents writer.old) (W.contents writer.new) text.now) }
     ensures err { OnErr result (AppendsPrefix (W.contents writer.old) (W.contents writer.new) text.now) }
 {
-    match send(writer, text.as_bytes()) {
-        Ok(()) => Ok(()),
-        Err(unsent) => Err(unsent.reason),
-    }
+    send_bytes(writer, text.as_bytes())
 }
 
 /// Writes a line and its line feed. The error is why they couldn't be written completely.

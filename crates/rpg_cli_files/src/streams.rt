@@ -3,12 +3,18 @@
 ghost use Rattle.std.specs.Prelude.{◌≡◌, ◌≤◌, min, IfSome, None};
 
 use crate::files::{FileFault, empty_file};
+use crate::patience::Patience;
 use crate::reason::Reason;
 use crate::replacing::InPlace;
+use crate::window::Window;
+use std::alloc::Global;
 use std::cell::Cell;
 use std::fs::OpenFile;
 use std::io::{self, Error, ErrorKind, Printer, Read, Write};
 use std::rt::Files;
+
+/// The most columns of a record in any file.
+const MOST_COLUMNS: usize = 9999;
 
 /// A file of a job, after it was opened.
 #[derive(Drop)]
@@ -49,6 +55,8 @@ impl<F> Opened<F> {
 pub struct RecordSource<F, S> {
     from: Source<F, S>,
     fault: Option<Reason>,
+    patience: Patience,
+    window: Window,
 }
 
 /// What records are read from. Without a file there are no records.
@@ -66,6 +74,7 @@ enum Source<F, S> {
 pub struct LineTarget<'r, F, P> {
     to: Target<F, P>,
     fault: Option<Reason>,
+    patience: Patience,
     /// How many bytes may still be written, to this target and those that share the number; None without a limit.
     room: Option<&'r Cell<u64>>,
 }
@@ -80,7 +89,7 @@ enum Target<F, P> {
 }
 
 /// Returns the records of an open file.
-pub fn records<R: Files + Input>(
+pub fn records<R: Files + Input + AllocGlobal>(
     rt: &R,
     opened: Opened<R::File>,
 ) -> RecordSource<R::File, R::Reader> {
@@ -89,7 +98,12 @@ pub fn records<R: Files + Input>(
         Opened::File(file) | Opened::New(file) | Opened::InPlace(file, _) => Source::File(file),
         Opened::Standard => Source::StandardInput(rt.reader()),
     };
-    RecordSource { from, fault: None }
+    RecordSource {
+        from,
+        fault: None,
+        patience: Patience::NEW,
+        window: Window::closed(rt.alloc()),
+    }
 }
 
 /// Returns the writer of an open file.
@@ -107,6 +121,7 @@ pub fn lines<'r, R: Files + Print>(
     LineTarget {
         to,
         fault: None,
+        patience: Patience::NEW,
         room,
     }
 }
@@ -120,9 +135,57 @@ fn fault_of<T>(answer: &io::Result<T>) -> Option<Reason> {
 }
 
 impl<F, S> RecordSource<F, S> {
+    /// Returns the same source, which keeps the bytes that it reads last: at least all of the last line. Without memory it keeps none.
+    pub fn keeping(self, alloc: Global) -> RecordSource<F, S> {
+        let RecordSource {
+            from,
+            fault,
+            patience,
+            ..
+        } = self;
+        let window = if matches!(from, Source::Nothing) {
+            Window::closed(alloc)
+        } else {
+            Window::open(alloc)
+        };
+        RecordSource {
+            from,
+            fault,
+            patience,
+            window,
+        }
+    }
+
     /// Returns why the last read failed, if it did.
     pub fn fault(&self) -> Option<Reason> {
         self.fault
+    }
+}
+
+impl<F: Drop, S: Drop> RecordSource<F, S> {
+    /// Returns the bytes that were read last.
+    pub fn into_last_bytes(self) -> Vec<u8> {
+        let RecordSource { window, .. } = self;
+        window.into_bytes()
+    }
+}
+
+impl<F: Read, S: Read> RecordSource<F, S> {
+    /// Reads on to the end of the last line, of which this many bytes were read, or to more bytes than a record has. Returns how many
+    /// were read.
+    pub fn read_line_end(&mut self, left: usize) -> usize {
+        let mut piece = [0u8; 256];
+        let mut left = left;
+        for _ in 0..MOST_COLUMNS {
+            if left == 0 || left > MOST_COLUMNS || self.window.has_line_feed(left) {
+                break;
+            }
+            match self.read(&mut piece) {
+                Ok(count) if count > 0 => left = left.saturating_add(count),
+                _ => break,
+            }
+        }
+        left
     }
 }
 
@@ -133,7 +196,11 @@ impl<F: Read, S: Read> Read for RecordSource<F, S> {
             Source::File(file) => file.read(buf),
             Source::StandardInput(reader) => reader.read(buf),
         };
+        let answer = self.patience.of(answer);
         self.fault = fault_of(&answer);
+        if let Ok(count) = answer {
+            self.window.add(&buf[..count]);
+        }
         answer
     }
 }
@@ -178,6 +245,7 @@ impl<F: Write + OpenFile, P: Write> Write for LineTarget<'_, F, P> {
             Target::File(file) | Target::New(file) => file.write(buf),
             Target::StandardOutput(printer) => printer.write(buf),
         };
+        let answer = self.patience.of(answer);
         self.note(&answer);
         answer
     }

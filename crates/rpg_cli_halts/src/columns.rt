@@ -1,6 +1,6 @@
 //! The columns of a record that should be a number but aren't.
 
-use crate::again::HaltedRecord;
+use crate::held::HaltedRecord;
 use rpg_decimal::read_zoned;
 use rpg_program::form::Kind;
 use rpg_program::forms::{form_at, kind_of};
@@ -36,7 +36,7 @@ fn bad_column(rows: &Rows, text: &[u8], input: InputField<u16>) -> Option<usize>
 }
 
 /// Returns the first columns of a record that should be a number but aren't, in the order of its type's input fields.
-pub(crate) fn bad_columns(rows: &Rows, record: &HaltedRecord) -> Option<BadInput> {
+pub(crate) fn bad_columns(rows: &Rows, record: &HaltedRecord<'_>) -> Option<BadInput> {
     let row = record.row?;
     for (number, input) in rows.types.get(row)?.inputs.iter().enumerate() {
         if let Some(column) = bad_column(rows, record.filled(), *input) {

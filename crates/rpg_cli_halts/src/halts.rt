@@ -1,7 +1,7 @@
 //! Halts.
 
-use crate::again::{HaltedRecord, Lower};
 use crate::columns::{BadInput, bad_columns, columns_of};
+use crate::held::{HaltedRecord, Lower};
 use crate::lines::write_indexed_fields;
 use crate::record::{bad_byte, write_too_long};
 use crate::source::{HaltedSource, write_source};
@@ -50,12 +50,11 @@ impl HaltedCycle {
             )
     }
 
-    /// Returns how many cycles' records have to be read again to report the halt in full; for one file, only if its text is needed.
-    pub fn cycles_again(self, program: &Verified) -> Option<u64> {
-        if has_two_files(program) || self.is_of_text() {
-            self.cycles_of_records()
-        } else {
-            None
+    /// Whether it takes the record to report the halt in full; for one file, only if the record's text is needed.
+    pub fn needs_record(self, program: &Verified) -> bool {
+        match self.cycles_of_records() {
+            None | Some(0) => false,
+            Some(_) => has_two_files(program) || self.is_of_text(),
         }
     }
 }
@@ -109,11 +108,15 @@ enum RecordProblem<'a> {
 }
 
 impl<'a> RecordProblem<'a> {
-    fn of(program: &'a Verified, halted: HaltedCycle, record: &'a HaltedRecord) -> Option<Self> {
+    fn of(
+        program: &'a Verified,
+        halted: HaltedCycle,
+        record: &'a HaltedRecord<'_>,
+    ) -> Option<Self> {
         let rows = program.program().rows();
         match (halted.place, halted.halt) {
             (None, Halt::BadRecord) => {
-                let text = record.text();
+                let text = record.text;
                 let length = usize::from(rows.input_length(record.file));
                 match bad_byte(text) {
                     Some(place) => Some(RecordProblem::Byte(place, text)),
@@ -158,11 +161,20 @@ fn write_columns(out: &mut TextWriter, bad: BadInput, text: &[u8]) {
     );
 }
 
-const LOWER: &str = "match value \"{}\" is lower than \"{}\" of record {}";
+const LOWER: &str = "match value \"{}\" is lower than \"{}\" of ";
 
 /// What a cycle does besides processing a record.
 const BETWEEN: &str =
     "it was cycle {}, which writes the detail lines of record {} and then reads record {}, or reaches the end of the input";
+
+/// Writes which match value is lower than that of an earlier record.
+fn write_lower(out: &mut TextWriter, lower: Lower<'_>) {
+    out.fill(LOWER, &[lower.value.into(), lower.before.into()]);
+    match lower.follows {
+        Some(number) => out.fill("record {}", &[number.into()]),
+        None => out.write_str("an earlier record"),
+    }
+}
 
 impl HaltContext<'_> {
     /// Writes the name of the record's file, or of all input files if it isn't known.
@@ -192,14 +204,7 @@ impl HaltContext<'_> {
         match self.found {
             RecordProblem::Byte(place, text) => write_byte_cause(out, text, place),
             RecordProblem::TooLong(length, text) => write_too_long(out, text, length),
-            RecordProblem::Lower(lower) => out.fill(
-                LOWER,
-                &[
-                    lower.value.into(),
-                    lower.before.into(),
-                    lower.follows.into(),
-                ],
-            ),
+            RecordProblem::Lower(lower) => write_lower(out, lower),
             RecordProblem::Input(_, _) | RecordProblem::Nothing => {
                 out.write_str(Topic::Halt(usize::from(halt.number())).sentence());
             }
@@ -245,7 +250,7 @@ impl HaltContext<'_> {
 fn place_of(
     program: &Verified,
     halted: HaltedCycle,
-    record: Option<&HaltedRecord>,
+    record: Option<&HaltedRecord<'_>>,
 ) -> Option<(InputFile, u64)> {
     match record {
         Some(record) => Some((record.file, record.number)),
@@ -261,7 +266,7 @@ pub fn halt_message(
     names: InputNames<'_>,
     program: &Verified,
     halted: HaltedCycle,
-    record: Option<&HaltedRecord>,
+    record: Option<&HaltedRecord<'_>>,
     source: Option<HaltedSource<'_>>,
 ) -> Result<String, AllocError> {
     let found = match record {

@@ -27,11 +27,12 @@ pub struct RunFiles<F> {
 }
 
 /// Opens the inputs, then the outputs. Those that are written beside their places go into `kept`.
-pub fn open_files<'a, R: Files + AllocGlobal>(
+pub fn open_files<'a, R: Files + AllocGlobal, L: Listener>(
     rt: &R,
     request: &Request<'a>,
     wanted: WantedFiles<'a>,
     kept: &mut Kept<'a>,
+    listener: &mut L,
 ) -> Result<RunFiles<R::File>, Answer> {
     let input = read_file(rt, FileArgument::Input, request.input)?;
     let secondary = read_file(rt, FileArgument::Secondary, wanted.secondary)?;
@@ -41,8 +42,16 @@ pub fn open_files<'a, R: Files + AllocGlobal>(
         FileArgument::Print,
         request.print,
         &mut kept.print,
+        listener,
     )?;
-    let disk = written_file(rt, request, FileArgument::Disk, wanted.disk, &mut kept.disk)?;
+    let disk = written_file(
+        rt,
+        request,
+        FileArgument::Disk,
+        wanted.disk,
+        &mut kept.disk,
+        listener,
+    )?;
     Ok(RunFiles {
         input,
         secondary,
@@ -65,18 +74,19 @@ fn read_file<R: Files>(
 }
 
 /// Opens a file for writing, if there is one, or creates a new one beside it, which goes into `new`.
-fn written_file<'a, R: Files + AllocGlobal>(
+fn written_file<'a, R: Files + AllocGlobal, L: Listener>(
     rt: &R,
     request: &Request,
     argument: FileArgument,
     path: Option<&'a str>,
     new: &mut Option<Pending<'a>>,
+    listener: &mut L,
 ) -> Result<Opened<R::File>, Answer> {
     match path {
         None => Ok(Opened::Nothing),
         Some(path) if is_standard(path) => Ok(Opened::Standard),
         Some(path) if request.keeps => {
-            let KeptFile { opened, pending } = named(argument, kept_file(rt, path))?;
+            let KeptFile { opened, pending } = named(argument, kept_file(rt, path, listener))?;
             *new = pending;
             Ok(opened)
         }
@@ -85,14 +95,18 @@ fn written_file<'a, R: Files + AllocGlobal>(
 }
 
 /// Returns the files that a run reads: the object, its source and both inputs.
-fn read_files<R: Files>(rt: &R, request: &Request, files: &RunFiles<R::File>) -> [NamedFile; 4] {
+fn read_files<R: Files>(
+    rt: &R,
+    request: &Request,
+    files: &RunFiles<R::File>,
+) -> Result<[NamedFile; 4], Answer> {
     let (stream, program) = ("/dev/stdin", request.program());
-    [
+    Ok([
         NamedFile::at(rt, program, system_path(request.file(program))),
         NamedFile::named(rt, FileArgument::OwnSource, request.own_source),
-        NamedFile::opened(rt, FileArgument::Input, &files.input, stream),
-        NamedFile::opened(rt, FileArgument::Secondary, &files.secondary, stream),
-    ]
+        NamedFile::opened(rt, FileArgument::Input, &files.input, stream)?,
+        NamedFile::opened(rt, FileArgument::Secondary, &files.secondary, stream)?,
+    ])
 }
 
 /// Refuses to empty or replace a file that another argument names too, or a program.
@@ -103,9 +117,9 @@ fn refuse_shared<R: Files + AllocGlobal>(
     kept: &Kept<'_>,
 ) -> Result<(), CommandStop> {
     let stream = "/dev/stdout";
-    let [object, source, primary, secondary] = read_files(rt, request, files);
-    let print = NamedFile::written(rt, FileArgument::Print, &files.print, &kept.print, stream);
-    let disk = NamedFile::written(rt, FileArgument::Disk, &files.disk, &kept.disk, stream);
+    let [object, source, primary, secondary] = read_files(rt, request, files)?;
+    let print = NamedFile::written(rt, FileArgument::Print, &files.print, &kept.print, stream)?;
+    let disk = NamedFile::written(rt, FileArgument::Disk, &files.disk, &kept.disk, stream)?;
     let all = [object, source, primary, secondary, print, disk];
     refuse_same_file(print, &all[..4])?;
     refuse_same_file(disk, &all[..5])?;
@@ -127,14 +141,18 @@ fn refuse_program<R: Files>(
     }
 }
 
-/// Empties an output file. Reports one that is written in place, though it was to be kept.
+/// Empties an output file. Reports one that is written in place, though it was to be kept, and what other runs left beside it.
 fn empty_file<F: OpenFile, L: Listener>(
     alloc: Global,
     request: &Request,
     argument: FileArgument,
     file: &Opened<F>,
+    new: &Option<Pending<'_>>,
     listener: &mut L,
 ) -> Result<(), Answer> {
+    if let Some(new) = new {
+        new.report_taken(alloc, listener);
+    }
     report_in_place(alloc, request, argument, file, listener);
     named(argument, file.empty())
 }
@@ -149,8 +167,22 @@ pub fn empty_files<R: Files + AllocGlobal, L: Listener>(
 ) -> Result<(), CommandStop> {
     refuse_shared(rt, request, files, kept)?;
     let alloc = rt.alloc();
-    empty_file(alloc, request, FileArgument::Print, &files.print, listener)?;
-    Ok(empty_file(alloc, request, FileArgument::Disk, &files.disk, listener)?)
+    empty_file(
+        alloc,
+        request,
+        FileArgument::Print,
+        &files.print,
+        &kept.print,
+        listener,
+    )?;
+    Ok(empty_file(
+        alloc,
+        request,
+        FileArgument::Disk,
+        &files.disk,
+        &kept.disk,
+        listener,
+    )?)
 }
 
 /// What a run reads and writes.
@@ -163,14 +195,15 @@ pub struct Devices<'r, F: Drop, S: Drop, P: Drop> {
 }
 
 /// Returns the readers and writers of a run's files. All that is written may have as many bytes as there is room for.
-pub fn devices_of<'r, R: Files + Input + Print>(
+pub fn devices_of<'r, R: Files + Input + Print + AllocGlobal>(
     rt: &'r R,
     files: RunFiles<R::File>,
     room: Option<&'r Cell<u64>>,
 ) -> Devices<'r, R::File, R::Reader, Printer<'r, R>> {
+    let alloc = rt.alloc();
     Devices {
-        input: records(rt, files.input),
-        secondary: records(rt, files.secondary),
+        input: records(rt, files.input).keeping(alloc),
+        secondary: records(rt, files.secondary).keeping(alloc),
         print: lines(rt, files.print, room),
         disk: lines(rt, files.disk, room),
     }

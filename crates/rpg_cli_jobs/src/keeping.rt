@@ -5,6 +5,7 @@ ghost use Rattle.rpg_cli_jobs.specs.Keeping.{IsOfFile, KeepsAnswer, disposition_
 
 use rpg_cli_answers::{
     Answer, CommandStop, Listener, NamedFile, named, refuse_same_file, report_message,
+    report_placed,
 };
 use rpg_cli_files::{FileFault, Pending, Replaces};
 use rpg_cli_text::TextWriter;
@@ -61,31 +62,20 @@ fn left_text(file: &Pending<'_>) -> &'static str {
     }
 }
 
-/// Returns what became of a file, if the new one was moved to its place.
-fn placed_text(file: &Pending<'_>) -> &'static str {
-    match file.replaces() {
-        Replaces::Nothing => "made by this run",
-        Replaces::File => "replaced by what this run wrote",
-    }
-}
-
-/// Returns the message about a file: what became of it, and where its part is, if there is one.
-fn kept_message(
+/// Returns the message about a file that stays as it was: what became of it, and where its part is.
+fn left_message(
     alloc: Global,
     argument: FileArgument,
     file: &Pending<'_>,
-    part: Option<&str>,
+    part: &str,
 ) -> Result<String, AllocError> {
     let mut out = TextWriter::new(alloc);
     let place = file.place().as_bytes();
     out.fill("{} ({}): ", &[place.into(), argument.name().into()]);
-    match part {
-        Some(part) => out.fill(
-            "{}; what this run wrote is in {}\n",
-            &[left_text(file).into(), part.as_bytes().into()],
-        ),
-        None => out.fill("{}\n", &[placed_text(file).into()]),
-    }
+    out.fill(
+        "{}; what this run wrote is in {}\n",
+        &[left_text(file).into(), part.as_bytes().into()],
+    );
     out.finish()
 }
 
@@ -98,15 +88,19 @@ fn leave_part<R: Files + AllocGlobal, L: Listener>(
 ) {
     if let Some(pending) = file {
         let part = pending.leave_part(rt);
-        let message = kept_message(rt.alloc(), argument, pending, Some(part));
+        let message = left_message(rt.alloc(), argument, pending, part);
         report_message(listener, message);
     }
 }
 
 /// Removes a new file, if there is one.
-fn remove<R: Files>(rt: &R, file: &Option<Pending<'_>>) {
+fn remove<R: Files + AllocGlobal, L: Listener>(
+    rt: &R,
+    file: &Option<Pending<'_>>,
+    listener: &mut L,
+) {
     if let Some(pending) = file {
-        pending.discard(rt);
+        pending.discard(rt, listener);
     }
 }
 
@@ -192,10 +186,7 @@ impl<'a> Kept<'a> {
             });
         }
         if let Err(fault) = put_in_place(rt, &self.disk) {
-            if let Some(print) = &self.print {
-                let message = kept_message(rt.alloc(), FileArgument::Print, print, None);
-                report_message(listener, message);
-            }
+            report_placed(rt.alloc(), FileArgument::Print, &self.print, listener);
             leave_part(rt, FileArgument::Disk, &self.disk, listener);
             return Err(Answer::File {
                 argument: FileArgument::Disk,
@@ -230,8 +221,8 @@ impl<'a> Kept<'a> {
             }
             Disposition::Left => self.leave_all(rt, listener),
             Disposition::Removed => {
-                remove(rt, &self.print);
-                remove(rt, &self.disk);
+                remove(rt, &self.print, listener);
+                remove(rt, &self.disk, listener);
             }
         }
         ran

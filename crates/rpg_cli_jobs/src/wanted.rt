@@ -1,5 +1,4 @@
-//! The files and the date that a program needs, and the diagnostics if the arguments don't name them. If memory runs out for one, only the
-//! line is printed.
+//! The files and the date that a program needs, and the diagnostics if the arguments don't name them.
 
 use crate::dating::has_date;
 use rpg_cli_answers::{Answer, Listener, report_message, report_refusal};

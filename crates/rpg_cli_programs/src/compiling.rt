@@ -27,7 +27,10 @@ fn write_object<R: Files + AllocGlobal, L: Listener>(
     let written = NamedFile::at(rt, FileArgument::Object, place);
     refuse_same_file(written, &[source])?;
     refuse_replacing(rt, FileArgument::Object, request.object, false)?;
-    named(FileArgument::Object, write_bytes(rt, place, &bytes))?;
+    named(
+        FileArgument::Object,
+        write_bytes(rt, place, &bytes, listener),
+    )?;
     Ok(Answer::Compiled)
 }
 

@@ -8,22 +8,27 @@ pub struct Outlet {
     pub name: &'static str,
     /// Whether its reader may close it early, as `head` does.
     pub may_close: bool,
+    /// Whether diagnostics go there too.
+    pub is_error: bool,
 }
 
 impl Outlet {
     pub const STANDARD_OUTPUT: Outlet = Outlet {
         name: "standard output",
         may_close: false,
+        is_error: false,
     };
 
     pub const PAGES: Outlet = Outlet {
         name: "standard output",
         may_close: true,
+        is_error: false,
     };
 
     const STANDARD_ERROR: Outlet = Outlet {
         name: "standard error",
         may_close: false,
+        is_error: true,
     };
 
     pub fn of(request: &Request) -> Outlet {

@@ -1,7 +1,7 @@
-//! Diagnostics about failed files and bad dates. If memory runs out for one, only the line is printed.
+//! Diagnostics about failed files and bad dates.
 
 use crate::outlet::Outlet;
-use rpg_cli_answers::{Answer, Listener, Reasons, report_message};
+use rpg_cli_answers::{Answer, Listener, Reasons, report_message, report_refusal};
 use rpg_cli_files::{FileFault, Reason};
 use rpg_cli_text::TextWriter;
 use rpg_cli_words::{DateArgument, FileArgument, Request};
@@ -185,7 +185,7 @@ pub fn report_answer<L: Listener>(
     listener: &mut L,
 ) {
     let message = answer_message(alloc, request, answer, reasons);
-    report_message(listener, message);
+    report_refusal(listener, message);
 }
 
 /// Reports that a text couldn't be written completely, unless its reader closed the pipe on purpose.

@@ -1,7 +1,7 @@
 //! Prints the line of an answer, with its diagnostic, or explains why the arguments are rejected.
 
-ghost use Rattle.std.specs.Prelude.{◌≤◌};
-ghost use Rattle.rpg_cli_reports.specs.Saying.{PrintsALine, Says, SaysOrIsQuiet, WritesLine};
+ghost use Rattle.std.specs.Prelude.{◌≡◌, ◌≤◌};
+ghost use Rattle.rpg_cli_reports.specs.Saying.{PrintsALine, Says, SaysOrIsQuiet, SaysWith, WritesLine, status_with};
 
 use crate::outlet::Outlet;
 use crate::reporting::{report_answer, report_unwritten};
@@ -30,6 +30,39 @@ fn send<W: Write, L: Listener>(
     }
 }
 
+/// Returns the exit status of an answer: 1 in place of 0 if a diagnostic was lost.
+fn status_of(answer: &Answer, has_lost: bool) -> u8
+    ensures { result ≡ status_with answer.now has_lost }
+{
+    match line(answer).status {
+        0 => u8::from(has_lost),
+        status => status,
+    }
+}
+
+/// Prints the line or the object of an answer, with this exit status, and returns the status. Reports it if that can't be written.
+fn say_with<W: Write, L: Listener>(
+    out: &mut W,
+    outlet: Outlet,
+    format: Format,
+    answer: &Answer,
+    status: u8,
+    listener: &mut L,
+) -> u8
+    ensures { SaysWith format (W.contents out.old) (W.contents out.new) status result answer.now }
+{
+    match format {
+        Format::Text => {
+            let said = line(answer);
+            send(out, outlet, said.text.as_slice(), status, listener)
+        }
+        Format::Json => {
+            let said = json_line(answer, status);
+            send(out, outlet, said.as_slice(), status, listener)
+        }
+    }
+}
+
 /// Prints the line or the object of an answer, and returns the exit status. Reports it if that can't be written.
 pub fn say<W: Write, L: Listener>(
     out: &mut W,
@@ -40,16 +73,9 @@ pub fn say<W: Write, L: Listener>(
 ) -> u8
     ensures { Says format (W.contents out.old) (W.contents out.new) result answer.now }
 {
-    match format {
-        Format::Text => {
-            let said = line(answer);
-            send(out, outlet, said.text.as_slice(), said.status, listener)
-        }
-        Format::Json => {
-            let said = json_line(answer);
-            send(out, outlet, said.text.as_slice(), said.status, listener)
-        }
-    }
+    let has_lost = listener.has_lost();
+    let status = status_of(answer, has_lost);
+    say_with(out, outlet, format, answer, status, listener)
 }
 
 /// Prints the line of an answer, except that of a success if the command is quiet, and returns the exit status.
@@ -63,7 +89,7 @@ fn say_if_wanted<W: Write, L: Listener>(
 ) -> u8
     ensures { SaysOrIsQuiet is_quiet format (W.contents out.old) (W.contents out.new) result answer.now }
 {
-    if is_quiet && line(answer).status == 0 {
+    if is_quiet && !listener.has_lost() && line(answer).status == 0 {
         0
     } else {
         say(out, outlet, format, answer, listener)
@@ -109,7 +135,8 @@ pub fn refuse<R: Print + Eprint + AllocGlobal, W: Write, L: Listener>(
     }
 }
 
-/// Prints the line of an answer, unless the command is quiet, adds the diagnostic, and returns the exit status.
+/// Prints the line of an answer, unless the command is quiet, with the diagnostic, and returns the exit status. The line is the last one
+/// on standard error, if it goes there.
 pub fn conclude<W: Write, L: Listener>(
     alloc: Global,
     request: &Request,
@@ -122,6 +149,10 @@ pub fn conclude<W: Write, L: Listener>(
 {
     let outlet = Outlet::of(request);
     let AnswerArguments { is_quiet, format } = request.answer;
+    if outlet.is_error {
+        report_answer(alloc, request, answer, reasons, listener);
+        return say_if_wanted(out, outlet, is_quiet, format, answer, listener);
+    }
     let status = say_if_wanted(out, outlet, is_quiet, format, answer, listener);
     report_answer(alloc, request, answer, reasons, listener);
     status

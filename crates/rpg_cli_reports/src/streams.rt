@@ -12,11 +12,25 @@ pub struct StandardStreams<'a, R> {
     rt: &'a R,
     /// Whether marks on standard error are coloured.
     has_colours: bool,
+    /// Whether a diagnostic was lost.
+    has_lost: bool,
 }
 
 impl<'a, R: Print + Eprint> StandardStreams<'a, R> {
     pub fn new(rt: &'a R, has_colours: bool) -> Self {
-        StandardStreams { rt, has_colours }
+        StandardStreams {
+            rt,
+            has_colours,
+            has_lost: false,
+        }
+    }
+}
+
+impl<R: Print + Eprint> StandardStreams<'_, R> {
+    fn print(&mut self, text: &str) {
+        if !text.is_empty() && self.rt.eprint(text).is_err() {
+            self.has_lost = true;
+        }
     }
 }
 
@@ -24,15 +38,23 @@ impl<R: Print + Eprint + AllocGlobal> Listener for StandardStreams<'_, R> {
     fn report(&mut self, text: &str) {
         if self.has_colours && has_marks(text) {
             if let Ok(text) = coloured(self.rt.alloc(), text) {
-                let _reported = self.rt.eprint(text.as_str());
+                self.print(text.as_str());
                 return;
             }
         }
-        let _reported = self.rt.eprint(text);
+        self.print(text);
     }
 
     fn report_error(&mut self, text: &str) {
         self.report(text);
+    }
+
+    fn lose(&mut self) {
+        self.has_lost = true;
+    }
+
+    fn has_lost(&self) -> bool {
+        self.has_lost
     }
 
     fn show(&mut self, text: &str) -> Result<(), Reason> {

@@ -1,57 +1,66 @@
 //! The diagnostic for a job that halted.
 
+use crate::jobs::Runnable;
 use rpg_cli_answers::{Listener, report_message};
-use rpg_cli_files::{identity_at, input_file};
-use rpg_cli_halts::{
-    HaltedCycle, HaltedRecord, HaltedSource, InputNames, halt_message, record_again,
-};
-use rpg_cli_words::{FileArgument, Request, is_standard};
-use rpg_engine::{JobEnd, Report, Verified};
-use std::alloc::AllocError;
-use std::io::BufReader;
-use std::rt::Files;
+use rpg_cli_halts::{HaltedCycle, HaltedRecord, InputNames, LastRead, halt_message};
+use rpg_cli_trace::HaltedFile;
+use rpg_cli_words::{FileArgument, Request};
+use rpg_engine::{Halt, InputFile, JobEnd, Report};
+use std::alloc::{AllocError, Global};
 
-/// Opens a regular file. Standard input can't be read again.
-fn regular_file<R: Files>(rt: &R, path: &str) -> Option<R::File> {
-    if is_standard(path) {
-        return None;
+/// What was read last from an input.
+#[derive(Drop)]
+pub(crate) struct LastInput {
+    pub bytes: Vec<u8>,
+    /// How many of the bytes begin with the last line; none at the end of the input.
+    pub left: usize,
+    /// How many records were read.
+    pub number: u32,
+}
+
+/// What was read last from both inputs.
+#[derive(Drop)]
+pub(crate) struct LastInputs {
+    pub primary: LastInput,
+    pub secondary: LastInput,
+}
+
+impl LastInputs {
+    /// Returns what was read last from the file whose record a job had. A record that no program accepts isn't counted.
+    fn of<'a>(&'a self, file: &'a HaltedFile, halt: Halt) -> LastRead<'a> {
+        let input = match file.file {
+            InputFile::Primary => &self.primary,
+            InputFile::Secondary => &self.secondary,
+        };
+        let is_bad = matches!(halt, Halt::BadRecord);
+        LastRead {
+            file: file.file,
+            bytes: &input.bytes,
+            left: input.left,
+            number: u64::from(input.number) + u64::from(is_bad),
+            value: &file.value,
+        }
     }
-    identity_at(rt, path)?;
-    input_file(rt, path).ok()
 }
 
-/// Opens a regular file to read it again.
-fn opened_again<R: Files + AllocGlobal>(rt: &R, path: Option<&str>) -> Option<BufReader<R::File>> {
-    let file = regular_file(rt, path?)?;
-    BufReader::new(rt.alloc(), file).ok()
-}
-
-/// Returns the record that a halt is about, if it is needed and can be read again.
-fn halted_record<R: Files + AllocGlobal>(
-    rt: &R,
+fn halted_message(
+    alloc: Global,
     request: &Request,
-    program: &Verified,
+    runnable: Runnable<'_>,
     halted: HaltedCycle,
-) -> Option<HaltedRecord> {
-    let cycles = halted.cycles_again(program)?;
-    let primary = opened_again(rt, request.input);
-    let secondary = opened_again(rt, request.secondary);
-    record_again(rt.alloc(), program, cycles, primary, secondary)
-}
-
-fn halted_message<R: Files + AllocGlobal>(
-    rt: &R,
-    request: &Request,
-    program: &Verified,
-    halted: HaltedCycle,
-    source: Option<HaltedSource<'_>>,
+    inputs: &LastInputs,
+    file: &HaltedFile,
 ) -> Result<String, AllocError> {
     let names = InputNames {
         primary: request.file(FileArgument::Input),
         secondary: request.secondary,
     };
-    let record = halted_record(rt, request, program, halted);
-    halt_message(rt.alloc(), names, program, halted, record.as_ref(), source)
+    let (program, source) = (runnable.program(), runnable.halted());
+    if !halted.needs_record(program) {
+        return halt_message(alloc, names, program, halted, None, source);
+    }
+    let record = HaltedRecord::of(alloc, program, inputs.of(file, halted.halt))?;
+    halt_message(alloc, names, program, halted, Some(&record), source)
 }
 
 /// Returns the halt of a report, if its job halted.
@@ -66,18 +75,18 @@ fn halt_of(report: Report) -> Option<HaltedCycle> {
     }
 }
 
-/// Reports where a job halted, if it did, reading again the records that the arguments name.
-pub(crate) fn report_halt<R: Files + AllocGlobal, L: Listener>(
-    rt: &R,
+/// Reports where a job halted, if it did, with the record that it had.
+pub(crate) fn report_halt<L: Listener>(
+    alloc: Global,
     request: &Request,
-    program: &Verified,
+    runnable: Runnable<'_>,
     report: Report,
-    source: Option<HaltedSource<'_>>,
+    inputs: &LastInputs,
+    file: &Option<HaltedFile>,
     listener: &mut L,
 ) {
-    let Some(halted) = halt_of(report) else {
-        return;
-    };
-    let message = halted_message(rt, request, program, halted, source);
-    report_message(listener, message);
+    if let (Some(halted), Some(file)) = (halt_of(report), file) {
+        let message = halted_message(alloc, request, runnable, halted, inputs, file);
+        report_message(listener, message);
+    }
 }

@@ -2,7 +2,7 @@
 
 ghost use Rattle.rpg_engine.specs.Devices.{CanCountFaults};
 
-use crate::halting::report_halt;
+use crate::halting::{LastInput, LastInputs};
 use crate::looking::run_as_asked;
 use rpg_cli_answers::{Answer, CommandStop, Listener, Reasons, named};
 use rpg_cli_files::{LineTarget, RecordSource, file_bytes};
@@ -14,7 +14,10 @@ use rpg_cli_jobs::{
 use rpg_cli_programs::{OwnSource, own_source, report_object};
 use rpg_cli_show_fields::SourceRows;
 use rpg_cli_words::{FileArgument, Request};
-use rpg_engine::{ObjectFault, Readers, Report, Verified, Watcher, Writers, decode_object};
+use rpg_engine::{
+    Halt, JobEnd, ObjectFault, Readers, Report, Verified, Watcher, Writers, decode_object,
+};
+use rpg_files::{Counted, LastLine};
 use std::alloc::Global;
 use std::cell::Cell;
 use std::fs::OpenFile;
@@ -47,7 +50,7 @@ impl<'a> Runnable<'a> {
     }
 
     /// Returns the source, for the diagnostic of a halt.
-    fn halted(self) -> Option<HaltedSource<'a>> {
+    pub fn halted(self) -> Option<HaltedSource<'a>> {
         match self {
             Runnable::Object(_) => None,
             Runnable::Source(source) => Some(HaltedSource {
@@ -78,6 +81,40 @@ fn run_counted<I: Read, S: Read, P: Write, D: Write, W: Watcher>(
     }
 }
 
+/// How a run ended, and what it read last.
+#[derive(Drop)]
+pub(crate) struct Ran {
+    pub outcome: Result<Report, CommandStop>,
+    pub inputs: LastInputs,
+}
+
+/// Returns what was read last from an input. A line that halted the job before its end was read is read to its end.
+fn last_input<F: Read + Drop, S: Read + Drop>(
+    reader: Counted<RecordSource<F, S>>,
+    is_bad: bool,
+) -> LastInput {
+    let LastLine { number, left } = reader.last();
+    let mut source = reader.into_device();
+    let left = if is_bad {
+        source.read_line_end(left)
+    } else {
+        left
+    };
+    LastInput {
+        bytes: source.into_last_bytes(),
+        left,
+        number,
+    }
+}
+
+/// Whether a job halted at a record that no program accepts.
+fn is_bad_record(ran: &Result<Report, Answer>) -> bool {
+    match ran {
+        Ok(report) => matches!(report.ending, JobEnd::Halt(Halt::BadRecord)),
+        Err(_) => false,
+    }
+}
+
 /// Runs a program or a source over its devices. If one of them fails, the reason comes with the answer.
 pub(crate) fn run_devices<
     F: Read + Write + OpenFile + Drop,
@@ -93,19 +130,26 @@ pub(crate) fn run_devices<
     print: LineTarget<'_, F, P>,
     disk: LineTarget<'_, F, P>,
     watcher: &mut W,
-) -> Result<Report, CommandStop> {
+) -> Ran {
     let mut readers = Readers::new(input, secondary);
     let mut writers = Writers::new(print, disk);
     let ran = run_counted(alloc, runnable, date, &mut readers, &mut writers, watcher);
     let reasons = Reasons {
-        input: readers.primary.into_device().fault(),
-        secondary: readers.secondary.into_device().fault(),
+        input: readers.primary.device().fault(),
+        secondary: readers.secondary.device().fault(),
         print: writers.printer.into_device().fault(),
         disk: writers.disk.into_device().fault(),
     };
-    match ran {
-        Ok(report) => Ok(report),
-        Err(answer) => Err(CommandStop::Job { answer, reasons }),
+    let is_bad = is_bad_record(&ran);
+    Ran {
+        outcome: match ran {
+            Ok(report) => Ok(report),
+            Err(answer) => Err(CommandStop::Job { answer, reasons }),
+        },
+        inputs: LastInputs {
+            primary: last_input(readers.primary, is_bad),
+            secondary: last_input(readers.secondary, is_bad),
+        },
     }
 }
 
@@ -118,7 +162,7 @@ fn run_opened<'a, R: Files + Input + Print + AllocGlobal, L: Listener>(
     kept: &mut Kept<'a>,
     listener: &mut L,
 ) -> Result<Report, CommandStop> {
-    let files = open_files(rt, request, wanted, kept)?;
+    let files = open_files(rt, request, wanted, kept, listener)?;
     empty_files(rt, request, &files, kept, listener)?;
     let runnable = match accepted {
         Ok(runnable) => runnable,
@@ -136,7 +180,7 @@ fn run_opened<'a, R: Files + Input + Print + AllocGlobal, L: Listener>(
     )
 }
 
-/// Runs an accepted program over its files, and reports where its job halted.
+/// Runs an accepted program over its files, and finishes those that are written beside their places.
 fn run_accepted<'a, R: Files + Input + Print + AllocGlobal, L: Listener>(
     rt: &R,
     request: &Request<'a>,
@@ -146,10 +190,6 @@ fn run_accepted<'a, R: Files + Input + Print + AllocGlobal, L: Listener>(
 ) -> Result<Report, CommandStop> {
     let mut kept = Kept::new();
     let ran = run_opened(rt, request, accepted, wanted, &mut kept, listener);
-    if let (Ok(report), Ok(runnable)) = (ran, accepted) {
-        let program = runnable.program();
-        report_halt(rt, request, program, report, runnable.halted(), listener);
-    }
     kept.finish(rt, ran, listener)
 }
 

@@ -1,16 +1,32 @@
 //! Runs a job, and watches its cycles if the arguments ask for it.
 
-use crate::jobs::{Runnable, run_devices};
-use rpg_cli_answers::{CommandStop, Listener};
+use crate::halting::report_halt;
+use crate::jobs::{Ran, Runnable, run_devices};
+use rpg_cli_answers::{Answer, CommandStop, Listener, Reasons};
 use rpg_cli_files::{LineTarget, RecordSource};
 use rpg_cli_trace::{JobNames, Looking};
 use rpg_cli_words::{FileArgument, Request};
-use rpg_engine::Report;
+use rpg_engine::{JobEnd, Report};
 use std::alloc::Global;
 use std::fs::OpenFile;
 use std::io::{Read, Write};
 
-/// Runs a program or a source over its devices. What the arguments ask about its cycles is reported during the run and after it.
+/// Returns the end of a job at one of whose records a control field went down.
+fn unsorted(ran: Result<Report, CommandStop>, record: u64) -> Result<Report, CommandStop> {
+    match ran? {
+        Report {
+            ending: JobEnd::EndOfJob,
+            ..
+        } => Err(CommandStop::Job {
+            answer: Answer::Unsorted { record },
+            reasons: Reasons::NONE,
+        }),
+        halted => Ok(halted),
+    }
+}
+
+/// Runs a program or a source over its devices. What the arguments ask about its cycles is reported during the run and after it, and
+/// where it halted.
 pub(crate) fn run_as_asked<
     F: Read + Write + OpenFile + Drop,
     S: Read + Drop,
@@ -34,7 +50,7 @@ pub(crate) fn run_as_asked<
         source: runnable.rows(),
     };
     let mut looking = Looking::new(alloc, request.looks, names, listener);
-    let ran = run_devices(
+    let Ran { outcome, inputs } = run_devices(
         alloc,
         runnable,
         date,
@@ -44,6 +60,13 @@ pub(crate) fn run_as_asked<
         disk,
         &mut looking,
     );
-    looking.finish();
-    ran
+    let fallen = looking.finish();
+    let file = looking.into_halted();
+    if let Ok(report) = outcome {
+        report_halt(alloc, request, runnable, report, &inputs, &file, listener);
+    }
+    match fallen {
+        Some(record) if request.looks.is_sorted => unsorted(outcome, record),
+        _ => outcome,
+    }
 }

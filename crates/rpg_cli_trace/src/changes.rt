@@ -1,7 +1,9 @@
 //! The fields that a cycle changed.
 
 use crate::names::JobNames;
+use crate::told::Told;
 use crate::values::{number_at, text_at, values_of};
+use rpg_cli_files::Listener;
 use rpg_cli_show_fields::{write_quoted, write_value};
 use rpg_cli_text::TextWriter;
 use rpg_memory::memory::Memory;
@@ -39,68 +41,79 @@ fn write_entry(out: &mut TextWriter, names: &JobNames<'_, '_, '_>, at: EntryAt) 
     out.write_str(" was ");
 }
 
-/// Writes a number that changed.
-fn write_numbers(
-    out: &mut TextWriter,
+/// Reports a number that changed.
+fn report_numbers<L: Listener>(
+    told: &mut Told<'_, L>,
     names: &JobNames<'_, '_, '_>,
     at: EntryAt,
     old: i64,
     new: i64,
 ) {
+    let out = &mut told.out;
     write_entry(out, names, at);
     write_value(out, &Value::Number(old), at.form.decimals);
     out.write_str(", is ");
     write_value(out, &Value::Number(new), at.form.decimals);
-    out.write_char('\n');
+    told.end_line();
 }
 
-/// Writes a text that changed.
-fn write_texts(
-    out: &mut TextWriter,
+/// Reports a text that changed.
+fn report_texts<L: Listener>(
+    told: &mut Told<'_, L>,
     names: &JobNames<'_, '_, '_>,
     at: EntryAt,
     old: &[u8],
     new: &[u8],
 ) {
+    let out = &mut told.out;
     write_entry(out, names, at);
     write_quoted(out, old);
     out.write_str(", is ");
     write_quoted(out, new);
-    out.write_char('\n');
+    told.end_line();
 }
 
-/// Writes a line for an entry if its value changed, and keeps the new one.
-fn write_change<S: Store + Drop>(
-    out: &mut TextWriter,
+/// Keeps the value of an entry.
+fn keep<S: Store + Drop>(memory: &Memory<'_, S>, field: u16, position: u16, value: &mut Value) {
+    match value {
+        Value::Number(old) => *old = number_at(memory, field, position).unwrap_or(*old),
+        Value::Text(old) => {
+            old.clear();
+            let new = text_at(memory, field, position).unwrap_or(&[]);
+            let _ = old.extend_from_slice(new);
+        }
+    }
+}
+
+/// Reports an entry if its value changed.
+fn report_change<S: Store + Drop, L: Listener>(
+    told: &mut Told<'_, L>,
     names: &JobNames<'_, '_, '_>,
     memory: &Memory<'_, S>,
     at: EntryAt,
-    value: &mut Value,
+    value: &Value,
 ) {
     match value {
         Value::Number(old) => {
             let new = number_at(memory, at.field, at.position).unwrap_or(*old);
             if new != *old {
-                write_numbers(out, names, at, *old, new);
-                *old = new;
+                report_numbers(told, names, at, *old, new);
             }
         }
         Value::Text(old) => {
             let new = text_at(memory, at.field, at.position).unwrap_or(&[]);
             if new != old.as_slice() {
-                write_texts(out, names, at, old, new);
-                old.clear();
-                let _ = old.extend_from_slice(new);
+                report_texts(told, names, at, old, new);
             }
         }
     }
 }
 
 impl FieldValues {
-    /// Writes a line for each entry that changed, and keeps the new values.
-    fn write_changes<S: Store + Drop>(
-        &mut self,
-        out: &mut TextWriter,
+    /// Reports each entry that changed.
+    fn report_changes<S: Store + Drop, L: Listener>(
+        &self,
+        told: &mut Told<'_, L>,
         names: &JobNames<'_, '_, '_>,
         memory: &Memory<'_, S>,
         cycle: u64,
@@ -108,7 +121,7 @@ impl FieldValues {
     ) {
         let form = self.form;
         let mut position = 0u16;
-        for value in self.entries.iter_mut() {
+        for value in &self.entries {
             position = position.saturating_add(1);
             let at = EntryAt {
                 cycle,
@@ -116,7 +129,16 @@ impl FieldValues {
                 form,
                 position,
             };
-            write_change(out, names, memory, at, value);
+            report_change(told, names, memory, at, value);
+        }
+    }
+
+    /// Keeps the values of all entries.
+    fn keep<S: Store + Drop>(&mut self, memory: &Memory<'_, S>, field: u16) {
+        let mut position = 0u16;
+        for value in self.entries.iter_mut() {
+            position = position.saturating_add(1);
+            keep(memory, field, position, value);
         }
     }
 }
@@ -139,18 +161,27 @@ impl Values {
         Ok(Values { fields })
     }
 
-    /// Writes a line for each entry that changed, and keeps the new values.
-    pub fn write_changes<S: Store + Drop>(
-        &mut self,
-        out: &mut TextWriter,
+    /// Reports each entry that changed.
+    pub fn report_changes<S: Store + Drop, L: Listener>(
+        &self,
+        told: &mut Told<'_, L>,
         names: &JobNames<'_, '_, '_>,
         memory: &Memory<'_, S>,
         cycle: u64,
     ) {
         let mut field = 0u16;
+        for values in &self.fields {
+            field = field.saturating_add(1);
+            values.report_changes(told, names, memory, cycle, field);
+        }
+    }
+
+    /// Keeps the values of all fields.
+    pub fn keep<S: Store + Drop>(&mut self, memory: &Memory<'_, S>) {
+        let mut field = 0u16;
         for values in self.fields.iter_mut() {
             field = field.saturating_add(1);
-            values.write_changes(out, names, memory, cycle, field);
+            values.keep(memory, field);
         }
     }
 }

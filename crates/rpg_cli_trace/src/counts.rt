@@ -4,6 +4,7 @@ use crate::due::Due;
 use crate::levels::Levels;
 use crate::lines::{lines_in, records_in};
 use crate::names::JobNames;
+use crate::records::Selected;
 use crate::tracing::Cycle;
 use rpg_cli_text::TextWriter;
 use rpg_engine::{Job, JobEnd};
@@ -98,10 +99,21 @@ impl Counts {
         }
     }
 
-    /// Returns the text about all cycles.
-    pub fn text(&self, alloc: Global, names: &JobNames<'_, '_, '_>) -> Result<String, AllocError> {
+    /// Returns the first record at which a control field went down.
+    pub fn fallen(&self) -> Option<Selected> {
+        self.levels.fallen()
+    }
+
+    /// Returns the text about control fields that went down.
+    pub fn falls(&self, alloc: Global, names: &JobNames<'_, '_, '_>) -> Result<String, AllocError> {
         let mut out = TextWriter::new(alloc);
         self.levels.write(&mut out, names);
+        out.finish()
+    }
+
+    /// Returns the text about the counts.
+    pub fn text(&self, alloc: Global, names: &JobNames<'_, '_, '_>) -> Result<String, AllocError> {
+        let mut out = TextWriter::new(alloc);
         self.write_types(&mut out, names);
         self.write_lines(&mut out, names.program.program().rows());
         out.finish()

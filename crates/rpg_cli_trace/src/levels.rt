@@ -50,10 +50,10 @@ impl Level {
         self.last.is_known != now.is_known || self.last.bytes.as_slice() != now.bytes.as_slice()
     }
 
-    /// Counts a record at which the level goes down.
-    fn compare(&mut self, now: &LastBytes, record: Selected) {
+    /// Counts a record at which the level goes down. Returns whether it does.
+    fn compare(&mut self, now: &LastBytes, record: Selected) -> bool {
         if !self.last.is_known || self.last.bytes.as_slice() <= now.bytes.as_slice() {
-            return;
+            return false;
         }
         if self.falls == 0 {
             self.first.record = Some(record);
@@ -61,6 +61,7 @@ impl Level {
             keep(&mut self.first.after, &now.bytes);
         }
         self.falls = self.falls.saturating_add(1);
+        true
     }
 
     fn renew(&mut self, now: &LastBytes) {
@@ -93,6 +94,8 @@ impl Level {
 #[derive(Drop)]
 pub(crate) struct Levels {
     levels: Vec<Level>,
+    /// The first record at which a level went down.
+    fallen: Option<Selected>,
 }
 
 impl Levels {
@@ -101,7 +104,15 @@ impl Levels {
         for _ in 0..9u8 {
             levels.push(Level::new(alloc)?)?;
         }
-        Ok(Levels { levels })
+        Ok(Levels {
+            levels,
+            fallen: None,
+        })
+    }
+
+    /// Returns the first record at which a level went down.
+    pub fn fallen(&self) -> Option<Selected> {
+        self.fallen
     }
 
     /// Returns the place of the highest level that a cycle changed.
@@ -135,7 +146,9 @@ impl Levels {
         };
         if let Some(last) = now.get(place) {
             if let Some(level) = self.levels.get_mut(place) {
-                level.compare(last, record);
+                if level.compare(last, record) && self.fallen.is_none() {
+                    self.fallen = Some(record);
+                }
             }
         }
         self.renew(now);

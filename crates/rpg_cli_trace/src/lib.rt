@@ -10,8 +10,9 @@ mod lines;
 mod looking;
 mod names;
 mod records;
+mod told;
 mod tracing;
 mod values;
 
-pub use looking::Looking;
+pub use looking::{HaltedFile, Looking};
 pub use names::JobNames;

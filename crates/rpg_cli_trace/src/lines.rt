@@ -1,6 +1,7 @@
 //! Lines of the printer, and records of the disk file, in the bytes of the output.
 
-use rpg_cli_text::TextWriter;
+use crate::told::Told;
+use rpg_cli_files::Listener;
 use rpg_text::shown;
 
 const FORM_FEED: u8 = 12;
@@ -35,22 +36,27 @@ pub(crate) fn records_in(bytes: &[u8]) -> u64 {
     count
 }
 
-/// Writes each line that has text on a line of its own, in quotes, after the given words.
-pub(crate) fn write_lines(out: &mut TextWriter, begin: &str, cycle: u64, bytes: &[u8]) {
+/// Reports each line that has text on a line of its own, in quotes, after the given words.
+pub(crate) fn report_lines<L: Listener>(
+    told: &mut Told<'_, L>,
+    begin: &str,
+    cycle: u64,
+    bytes: &[u8],
+) {
     let mut is_in_line = false;
     for byte in bytes {
         let is_text = !is_movement(*byte);
         if is_text && !is_in_line {
-            out.fill(begin, &[cycle.into()]);
+            told.out.fill(begin, &[cycle.into()]);
         }
         if is_text {
-            out.write_char(shown(*byte) as char);
+            told.out.write_char(shown(*byte) as char);
         } else if is_in_line {
-            out.write_str("\"\n");
+            told.end_quoted();
         }
         is_in_line = is_text;
     }
     if is_in_line {
-        out.write_str("\"\n");
+        told.end_quoted();
     }
 }

@@ -3,15 +3,17 @@
 use crate::counts::Counts;
 use crate::names::JobNames;
 use crate::records::Records;
+use crate::told::Told;
 use crate::tracing::{Cycle, Reported};
-use rpg_cli_files::Listener;
+use rpg_cli_files::{Listener, report_message, report_refusal};
 use rpg_cli_words::LookArguments;
+use rpg_cycle_records::Kept;
 use rpg_engine::{Job, JobEnd, Watcher};
+use rpg_program::input::InputFile;
 use rpg_store::Store;
-use std::alloc::Global;
+use std::alloc::{AllocError, Global};
 
-/// Reports the first cycles of a job one by one, and at its end the counts over all of them, as the arguments ask. If memory runs out
-/// for one of the two, it is left out.
+/// Reports cycles of a job one by one, and at its end the counts over all of them, as the arguments ask. What memory runs out for is lost.
 #[derive(Drop)]
 pub struct Looking<'p, 'f, 's, 'l, L> {
     alloc: Global,
@@ -20,8 +22,35 @@ pub struct Looking<'p, 'f, 's, 'l, L> {
     listener: &'l mut L,
     cycles: u64,
     records: Records,
+    /// Whether the cycle of the record that the arguments name was reported.
+    is_found: bool,
     reported: Option<Reported>,
     counts: Option<Counts>,
+    halted: Option<HaltedFile>,
+}
+
+/// The file whose record a job had when it halted.
+#[derive(Drop)]
+pub struct HaltedFile {
+    pub file: InputFile,
+    /// The match value of the record that was last selected from it.
+    pub value: Vec<u8>,
+}
+
+impl HaltedFile {
+    /// Returns the file, by what is kept of both: it has a record, and none that waits.
+    fn of(alloc: Global, kept: &Kept) -> HaltedFile {
+        let is_primary = kept.primary.waiting.is_none() && !kept.primary.is_over;
+        let (file, last) = if is_primary {
+            (InputFile::Primary, &kept.values.primary)
+        } else {
+            (InputFile::Secondary, &kept.values.secondary)
+        };
+        HaltedFile {
+            file,
+            value: Vec::from_slice(alloc, &last.bytes).unwrap_or(Vec::new(alloc)),
+        }
+    }
 }
 
 impl<'p, 'f, 's, 'l, L: Listener> Looking<'p, 'f, 's, 'l, L> {
@@ -38,31 +67,79 @@ impl<'p, 'f, 's, 'l, L: Listener> Looking<'p, 'f, 's, 'l, L> {
             listener,
             cycles: 0,
             records: Records::UNREAD,
+            is_found: false,
             reported: None,
             counts: None,
+            halted: None,
         }
     }
 
-    /// Reports a cycle, if it is one of the first.
-    fn report<S: Store + Drop>(&mut self, job: &Job<'_, S>, cycle: Cycle) {
-        if cycle.number > self.words.traced {
-            return;
+    /// Whether the arguments ask for the cycle with this number.
+    fn asks_for(&self, number: u64) -> bool {
+        match self.words.traced {
+            Some(cycles) => cycles.first <= number && number <= cycles.last,
+            None => false,
         }
+    }
+
+    /// Whether a cycle had the record that the arguments ask for. One that halts may have had it.
+    fn has_asked_record(&self, cycle: Cycle) -> bool {
+        match (self.words.record, cycle.record, cycle.ended) {
+            (Some(number), Some(record), _) => record.number == number,
+            (Some(_), None, Some(JobEnd::Halt(_))) => !self.is_found,
+            _ => false,
+        }
+    }
+
+    /// Reports a cycle, if the arguments ask for it, and keeps the job if they may ask for the next one.
+    fn report<S: Store + Drop>(&mut self, job: &Job<'_, S>, cycle: Cycle) {
+        let is_found = self.has_asked_record(cycle);
+        let is_asked = is_found || self.asks_for(cycle.number);
+        let is_next = self.words.record.is_some() || self.asks_for(cycle.number.saturating_add(1));
+        self.is_found = self.is_found || is_found;
         let Some(reported) = &mut self.reported else {
             return;
         };
-        if let Ok(text) = reported.text_of(self.alloc, &self.names, job, cycle) {
-            self.listener.report(text.as_str());
+        if is_asked {
+            let mut told = Told::new(self.alloc, self.listener);
+            reported.report(&mut told, &self.names, job, cycle);
+        }
+        if is_next {
+            reported.keep(job);
         }
     }
 
-    /// Reports the counts after the job.
-    pub fn finish(&mut self) {
+    /// Reports the counts after the job, and the control fields that went down. Returns the number of the first record at which one did.
+    pub fn finish(&mut self) -> Option<u64> {
         let Some(counts) = &self.counts else {
-            return;
+            return None;
         };
-        if let Ok(text) = counts.text(self.alloc, &self.names) {
-            self.listener.report(text.as_str());
+        let falls = counts.falls(self.alloc, &self.names);
+        if self.words.is_sorted {
+            report_refusal(self.listener, falls);
+        } else {
+            report_message(self.listener, falls);
+        }
+        if self.words.watches {
+            report_message(self.listener, counts.text(self.alloc, &self.names));
+        }
+        Some(counts.fallen()?.number)
+    }
+
+    /// Returns the file whose record the job had when it halted, if it did.
+    pub fn into_halted(self) -> Option<HaltedFile> {
+        let Looking { halted, .. } = self;
+        halted
+    }
+}
+
+/// Returns what was made, or loses it if memory ran out.
+fn made<T: Drop, L: Listener>(listener: &mut L, made: Result<T, AllocError>) -> Option<T> {
+    match made {
+        Ok(value) => Some(value),
+        Err(_) => {
+            listener.lose();
+            None
         }
     }
 }
@@ -75,15 +152,18 @@ impl<L: Listener> Watcher for Looking<'_, '_, '_, '_, L> {
     }
 
     fn begin<S: Store + Drop>(&mut self, job: &Job<'_, S>) {
-        if self.words.traced > 0 {
-            self.reported = Reported::begin(self.alloc, job).ok();
+        if self.words.traces() {
+            self.reported = made(self.listener, Reported::begin(self.alloc, job));
         }
-        if self.words.watches {
-            self.counts = Counts::begin(self.alloc, job).ok();
+        if self.words.compares() {
+            self.counts = made(self.listener, Counts::begin(self.alloc, job));
         }
     }
 
     fn look<S: Store + Drop>(&mut self, job: &Job<'_, S>, ended: Option<JobEnd>) {
+        if let Some(JobEnd::Halt(_)) = ended {
+            self.halted = Some(HaltedFile::of(self.alloc, job.kept()));
+        }
         if !self.words.looks() {
             return;
         }

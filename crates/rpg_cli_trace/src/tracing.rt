@@ -2,9 +2,11 @@
 
 use crate::changes::Values;
 use crate::lights::Lights;
-use crate::lines::write_lines;
+use crate::lines::report_lines;
 use crate::names::JobNames;
 use crate::records::Selected;
+use crate::told::Told;
+use rpg_cli_files::Listener;
 use rpg_cli_text::TextWriter;
 use rpg_engine::{Job, JobEnd};
 use rpg_memory::indicators::Indicators;
@@ -39,7 +41,7 @@ impl Cycle {
     }
 }
 
-/// The job after the last cycle that was reported.
+/// The job before the cycle that is reported next.
 #[derive(Drop)]
 pub(crate) struct Reported {
     lights: Lights,
@@ -72,24 +74,29 @@ impl Reported {
         }
     }
 
-    /// Returns the text about the last cycle of the job.
-    pub fn text_of<S: Store + Drop>(
-        &mut self,
-        alloc: Global,
+    /// Reports what the last cycle of the job did.
+    pub fn report<S: Store + Drop, L: Listener>(
+        &self,
+        told: &mut Told<'_, L>,
         names: &JobNames<'_, '_, '_>,
         job: &Job<'_, S>,
         cycle: Cycle,
-    ) -> Result<String, AllocError> {
+    ) {
         let (memory, output) = (job.memory(), job.output());
         let number = cycle.number;
-        let mut out = TextWriter::new(alloc);
-        cycle.write_head(&mut out, names);
-        self.write_turned(&mut out, "cycle {}: on", number, memory.on(), true);
-        self.write_turned(&mut out, "cycle {}: off", number, memory.on(), false);
-        write_lines(&mut out, "cycle {}: prints \"", number, &output.print);
-        write_lines(&mut out, "cycle {}: writes \"", number, &output.disk);
-        self.values.write_changes(&mut out, names, memory, number);
+        cycle.write_head(&mut told.out, names);
+        self.write_turned(&mut told.out, "cycle {}: on", number, memory.on(), true);
+        self.write_turned(&mut told.out, "cycle {}: off", number, memory.on(), false);
+        report_lines(told, "cycle {}: prints \"", number, &output.print);
+        report_lines(told, "cycle {}: writes \"", number, &output.disk);
+        self.values.report_changes(told, names, memory, number);
+        told.pass_on();
+    }
+
+    /// Keeps the job as it is after a cycle.
+    pub fn keep<S: Store + Drop>(&mut self, job: &Job<'_, S>) {
+        let memory = job.memory();
         self.lights.keep(memory.on());
-        out.finish()
+        self.values.keep(memory);
     }
 }

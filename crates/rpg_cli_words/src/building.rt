@@ -86,7 +86,7 @@ fn lines_of(arguments: &[String]) -> &'static str {
 
 /// What each exit status means, printed below the commands.
 const STATUSES: &str =
-    "Exit statuses:\n  0  success\n  1  a file or a device failed, or memory ran out\n  2  the command line or the date is wrong, or a disk file or a secondary file is missing\n  3  the source, or a record, is rejected\n  4  the object program is rejected\n  5  the job halted";
+    "Exit statuses:\n  0  success\n  1  a file or a device failed, or memory ran out\n  2  the command line or the date is wrong, or a disk file or a secondary file is missing\n  3  the source, or a record, is rejected\n  4  the object program is rejected\n  5  the job halted, or its input isn't sorted";
 
 /// The version, as in CHANGELOG.md; the formats of object programs; and the logic in which the program is proved. Several kits have the
 /// same logic.

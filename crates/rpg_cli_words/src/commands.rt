@@ -15,8 +15,8 @@ fit: SRC.old NEW force table switches forms printer format: Rewrites the old dec
 verify: OBJ format quiet: Verifies the object program OBJ, and prints the most steps that a cycle can take
 explain: CODE list: Explains codes, such as F16, S5, V21, B5 or halt 4, or all of them
 show: OBJ source rows format: Shows what the object program OBJ reads, writes and needs, or its rows
-run: OBJ INPUT PRINT date secondary disk most most-bytes keep source trace watch format quiet: Runs the object program OBJ over the records of INPUT, and prints to PRINT
-go: SRC INPUT PRINT.go date secondary disk most most-bytes keep.go trace watch allowance faults deny allow format quiet: Compiles the source SRC and runs it over the records of INPUT";
+run: OBJ INPUT PRINT date secondary disk most most-bytes keep source trace trace-record watch sorted format quiet: Runs the object program OBJ over the records of INPUT, and prints to PRINT
+go: SRC INPUT PRINT.go date secondary disk most most-bytes keep.go trace trace-record watch sorted allowance faults deny allow format quiet: Compiles the source SRC and runs it over the records of INPUT";
 
 /// The arguments: the key, what the argument takes, and its help text. The key is the argument's name; if arguments of two commands share a
 /// name, a dot and another name follow.
@@ -89,8 +89,10 @@ most B=N Rejects a program if a cycle may take more than N steps
 most-bytes B=N Ends a job that would write more than N bytes to PRINT and the disk file together
 keep F Keeps the old PRINT and disk file until the job has ended well
 keep.go F Is the default: keeps the old PRINT and disk file until the job has ended well
-trace B=N Reports the first N cycles one by one: records, indicators, lines and fields
-watch F Reports control fields that go down, and counts records and lines";
+trace V=N Reports the first N cycles one by one, or those from N to M with N-M: records, indicators, lines and fields
+trace-record B=N Reports the cycle of record N
+watch F Reports control fields that go down, and counts records and lines
+sorted F Ends with status 5 if a control field goes down, as in an input that isn't sorted";
 
 /// The forms of diagnostics, as arguments.
 const FORMATS: &[&str] = &["text", "json"];

@@ -2,7 +2,7 @@
 
 use crate::commands::cut;
 use crate::files::may_be_standard;
-use crate::options::TableArgument;
+use crate::options::{Cycles, TableArgument};
 use clap::ArgMatches;
 use rpg_cli_values::{are_switches, byte_of};
 
@@ -52,12 +52,23 @@ fn bad_table(texts: &[&str]) -> Option<&'static str> {
     None
 }
 
+/// Whether an argument for the cycles that are reported is neither a number nor a range.
+fn is_bad_trace(given: &ArgMatches<'_>) -> bool {
+    match given.get_str("trace") {
+        Some(text) => Cycles::of(text).is_none(),
+        None => false,
+    }
+}
+
 /// Returns what is wrong with the values of a command that clap accepts.
 pub(crate) fn bad_value(matches: &ArgMatches<'_>) -> Option<&'static str> {
     let (command, given) = matches.subcommand()?;
     let file = bad_file(command, given);
     match (given.get_str("drop"), given.get_str("switches")) {
         _ if file.is_some() => file,
+        _ if is_bad_trace(given) => {
+            Some("'--trace <N>' needs a number of cycles, or a range such as 100-120")
+        }
         (Some(text), _) if byte_of(text).is_none() => {
             Some("'--drop <XX>' needs two hexadecimal digits, such as FF")
         }

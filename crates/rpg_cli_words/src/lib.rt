@@ -12,8 +12,8 @@ mod request;
 
 pub use files::{FileArgument, SameFile, Shared, is_standard};
 pub use options::{
-    AnswerArguments, CardsWanted, Format, LookArguments, RecordFraming, RecordsWay, TableArgument,
-    WarningArguments,
+    AnswerArguments, CardsWanted, Cycles, Format, LookArguments, RecordFraming, RecordsWay,
+    TableArgument, WarningArguments,
 };
 pub use outputs::{Existing, Unreplaced, may_replace};
 pub use refusal::{Refusal, refuse_bytes, refuse_same_file, refuse_unreplaced};

@@ -54,25 +54,59 @@ impl WarningArguments {
     }
 }
 
+/// Cycles that follow one another, counted from 1.
+#[derive(Clone, Copy)]
+pub struct Cycles {
+    pub first: u64,
+    pub last: u64,
+}
+
+impl Cycles {
+    /// Reads `20`, which stands for the first twenty cycles, or `100-120`.
+    pub(crate) fn of(text: &str) -> Option<Cycles> {
+        let (first, last) = text.split_once('-').unwrap_or(("1", text));
+        Some(Cycles {
+            first: first.parse().ok()?,
+            last: last.parse().ok()?,
+        })
+    }
+}
+
 /// What is reported about a job while it runs.
 #[derive(Clone, Copy)]
 pub struct LookArguments {
-    /// How many of the job's first cycles are reported one by one.
-    pub traced: u64,
+    /// The cycles that are reported one by one.
+    pub traced: Option<Cycles>,
+    /// The number of the record whose cycle is reported.
+    pub record: Option<u64>,
     /// Whether control fields, records and lines are counted.
     pub watches: bool,
+    /// Whether a control field that goes down is a fault.
+    pub is_sorted: bool,
 }
 
 impl LookArguments {
+    /// Whether cycles are reported one by one.
+    pub fn traces(self) -> bool {
+        self.traced.is_some() || self.record.is_some()
+    }
+
+    /// Whether control fields are compared.
+    pub fn compares(self) -> bool {
+        self.watches || self.is_sorted
+    }
+
     /// Whether the job is watched.
     pub fn looks(self) -> bool {
-        self.traced > 0 || self.watches
+        self.traces() || self.compares()
     }
 
     pub(crate) fn of(given: &ArgMatches<'_>) -> LookArguments {
         LookArguments {
-            traced: given.get_one::<u64>("trace").unwrap_or(0),
+            traced: given.get_str("trace").and_then(Cycles::of),
+            record: given.get_one::<u64>("trace-record"),
             watches: given.get_flag("watch"),
+            is_sorted: given.get_flag("sorted"),
         }
     }
 }

@@ -2,7 +2,7 @@
 
 ghost use Rattle.std.specs.Prelude.{◌≡◌, ◌+◌, ◌-◌, ◌^◌, ◌<◌, ◌≤◌, length, IfOk};
 ghost use Rattle.std.specs.Io.KnownBytes.{Keeps, ReadConsumes, WriteAppends};
-ghost use Rattle.rpg_files.specs.Counting.{faults_after, device_of, faults_of, max_tries};
+ghost use Rattle.rpg_files.specs.Counting.{faults_after, device_of, faults_of, last_of, max_tries};
 
 use std::io;
 use std::io::{ErrorKind, Read, Write};
@@ -18,11 +18,22 @@ pub fn most_tries() -> u32
 #[derive(Clone, Copy)]
 pub struct DeviceFault;
 
-/// A reader or a writer, with the number of its failed calls.
+/// Where the last line that was read from a device is, for diagnostics.
+#[derive(Clone, Copy)]
+pub struct LastLine {
+    /// How many records were read.
+    pub number: u32,
+    /// How many bytes were read from the beginning of the last line on, a record or one that no program accepts; none at the end of the
+    /// input.
+    pub left: usize,
+}
+
+/// A reader or a writer, with the number of its failed calls. A reader of records notes where the last line is.
 #[derive(Drop)]
 pub struct Counted<T> {
     device: T,
     faults: u64,
+    last: LastLine,
 }
 
 impl<T> Counted<T> {
@@ -30,7 +41,25 @@ impl<T> Counted<T> {
         ensures device { device_of result ≡ device }
         ensures faults { faults_of result ≡ 0 }
     {
-        Counted { device, faults: 0 }
+        Counted {
+            device,
+            faults: 0,
+            last: LastLine { number: 0, left: 0 },
+        }
+    }
+
+    /// Returns where the last line is.
+    pub fn last(&self) -> LastLine
+        ensures { result ≡ last_of self.now }
+    {
+        self.last
+    }
+
+    /// Notes where the last line is.
+    pub(crate) fn note(&mut self, last: LastLine)
+        ensures { self.new ≡ record self.old { last = last } }
+    {
+        self.last = last;
     }
 
     /// Returns how many calls failed.
@@ -38,6 +67,13 @@ impl<T> Counted<T> {
         ensures { result ≡ faults_of self.now }
     {
         self.faults
+    }
+
+    /// Returns the reader or the writer, to be looked at.
+    pub fn device(&self) -> &T
+        ensures { result.now ≡ device_of self.now }
+    {
+        &self.device
     }
 
     /// Returns the reader or the writer itself.

@@ -5,7 +5,7 @@ ghost use Rattle.rpg_files.specs.Buffers.{capacity_of, left_in};
 ghost use Rattle.rpg_files.specs.Records.{max_records};
 
 use crate::buffer::Buffer;
-use crate::counting::{Counted, DeviceFault};
+use crate::counting::{Counted, DeviceFault, LastLine};
 use crate::input::{NextLine, has_more, read_line};
 use std::alloc::{AllocError, Global};
 use std::io::Read;
@@ -153,6 +153,11 @@ impl<'a, R: Read> RecordReader<'a, R> {
     {
         if let Ok(Next::Record) = self.answer {
             self.answer = self.read_next();
+            let last = LastLine {
+                number: self.count,
+                left: self.buffer.len(),
+            };
+            self.reader.note(last);
         }
         self.answer
     }
