@@ -29,7 +29,7 @@ pub(crate) const HALTS: &str = "\
     @halt 7%the record is too long, or a byte of it isn't a character%\
     %- a record that is longer than the record length on the F card\n- a byte outside blank to ~, such as a tab or a letter with an accent\
     %- a shorter record: it is padded with blanks\n- a line feed, or carriage return and line feed, after each record\
-    %the message names the column, the byte and the command that mends it, but not over\nstandard input, which isn't read again. docs/OLD_PROGRAMS.md shows how to convert EBCDIC\
+    %the message names the column, the byte and the command that mends it.\ndocs/OLD_PROGRAMS.md shows how to convert EBCDIC\
     @halt 8%the record's match value is lower than the last one of its file%\
     %- a record with match fields whose value is lower than that of the record before it in its\n  file, as B1 and then A1 by a match field of columns 1 to 2\
     %- both files sorted by their match fields, equal values side by side\
