@@ -16,13 +16,17 @@ from pathlib import Path
 TOP = Path(__file__).resolve().parent.parent
 
 PLACED = re.compile(r"  (?P<name>[<\[][A-Z]+[>\]](?:\.\.\.)?) +(?P<help>\S.*)")
-OPTION = re.compile(r"  (?:-(?P<short>\w), |    )--(?P<name>[\w-]+)(?: <(?P<value>[\w=]+)>)?(?:\.\.\.)? +(?P<help>\S.*)")
+OPTION = re.compile(r"  (?:-(?P<short>\w), |    )--(?P<name>[\w-]+)(?: <(?P<value>[\w=]+)>|\[=<(?P<maybe>[\w=]+)>\])?(?:\.\.\.)? +(?P<help>\S.*)")
 COMMAND = re.compile(r"  (?P<name>[a-z]+) +\S.*")
 CHOICES = re.compile(r"\[possible values: ([^\]]+)\]")
 CODE = re.compile(r"^## ([A-Z]\d+):", re.MULTILINE)
 
 # What the values of options and arguments that aren't here are: names of files.
 NOT_FILES = {"N", "XX", "CODE", "DATE", "FORMAT", "NAME", "NAME=FILE", "00000000"}
+# Options that may be given several times.
+MANY = {"allow", "deny", "table"}
+# The words of --date that aren't digits.
+DATES = "today today-dmy today-ymd"
 
 
 @dataclass(frozen=True)
@@ -31,6 +35,8 @@ class Option:
     short: str | None
     value: str | None
     help: str
+    # Whether its value may be missing: it then follows `=`.
+    may_be_bare: bool = False
 
     def takes_file(self) -> bool:
         return self.value is not None and self.value not in NOT_FILES
@@ -71,7 +77,7 @@ def printed_by(program: Path, *words: str) -> str:
 
 def option_of(line: str) -> Option | None:
     found = OPTION.fullmatch(line)
-    return Option(found["name"], found["short"], found["value"], found["help"]) if found else None
+    return Option(found["name"], found["short"], found["value"] or found["maybe"], found["help"], bool(found["maybe"])) if found else None
 
 
 def command_of(program: Path, name: str) -> Command:
@@ -139,7 +145,8 @@ def placed_name(name: str) -> str:
 
 
 def option_head(option: Option) -> str:
-    return ", ".join(option.written()) + (f" {option.value}" if option.value else "")
+    value = f"[={option.value}]" if option.may_be_bare else f" {option.value}" if option.value else ""
+    return ", ".join(option.written()) + value
 
 
 def command_part(command: Command) -> str:
@@ -160,7 +167,8 @@ def manual(shown: Help) -> str:
 BASH = """\
 # Completion of rpg2 for bash: install it as bash-completion/completions/rpg2.
 _rpg2() {{
-    local cur=${{COMP_WORDS[COMP_CWORD]}} prev=${{COMP_WORDS[COMP_CWORD-1]}} command= i
+    local cur=${{COMP_WORDS[COMP_CWORD]}} prev=${{COMP_WORDS[COMP_CWORD-1]}} command="" i IFS=$' \\t\\n'
+    if [ "$cur" = = ]; then cur=""; elif [ "$prev" = = ]; then prev=${{COMP_WORDS[COMP_CWORD-2]}}; fi
     for ((i = 1; i < COMP_CWORD; i++)); do
         case ${{COMP_WORDS[i]}} in {commands}|help) command=${{COMP_WORDS[i]}}; break;; esac
     done
@@ -169,16 +177,22 @@ _rpg2() {{
     fi
     case $prev in
 {choices}
+        --date) COMPREPLY=($(compgen -W '{dates}' -- "$cur")); return;;
         {plain}) return;;
-        {files}) COMPREPLY=($(compgen -f -- "$cur")); return;;
+        {files}) IFS=$'\\n'; COMPREPLY=($(compgen -f -- "$cur")); return;;
     esac
-    local options=
+    local options=""
     case $command in
 {options}
-        explain) COMPREPLY=($(compgen -W '{codes} halt' -- "${{cur^^}}")); return;;
+        explain)
+            if [ "$prev" = halt ]; then COMPREPLY=($(compgen -W '1 2 3 4 5 6 7 8' -- "$cur")); return; fi
+            case $cur in
+                -*) options='{explains}';;
+                *) COMPREPLY=($(compgen -W '{codes}' -- "${{cur^^}}") $(compgen -W halt -- "$cur")); return;;
+            esac;;
         help) COMPREPLY=($(compgen -W '{words}' -- "$cur")); return;;
     esac
-    case $cur in -*) COMPREPLY=($(compgen -W "$options" -- "$cur"));; *) COMPREPLY=($(compgen -f -- "$cur"));; esac
+    case $cur in -*) COMPREPLY=($(compgen -W "$options" -- "$cur"));; *) IFS=$'\\n'; COMPREPLY=($(compgen -f -- "$cur"));; esac
 }}
 complete -o filenames -F _rpg2 rpg2
 """
@@ -192,20 +206,29 @@ def all_options(shown: Help) -> list[Option]:
     return [option for command in shown.commands for option in command.options]
 
 
+def bash_choices(option: Option) -> str:
+    """The values of an option. Where it may have none, a word that begins no value is the next argument."""
+    found = f"COMPREPLY=($(compgen -W '{' '.join(option.choices())}' -- \"$cur\"))"
+    end = '[ -n "$cur" ] && [ ${#COMPREPLY[@]} -gt 0 ] && return' if option.may_be_bare else "return"
+    return f"        --{option.name}) {found}; {end};;"
+
+
 def bash(shown: Help) -> str:
     names = [it.name for it in shown.commands]
-    chosen = {f"--{it.name}": it.choices() for it in all_options(shown) if it.choices()}
+    chosen = {it.name: it for it in all_options(shown) if it.choices()}
     plain = sorted({f"--{it.name}" for it in all_options(shown) if it.value and not it.takes_file() and not it.choices()})
     files = sorted({f"--{it.name}" for it in all_options(shown) if it.takes_file()})
     rows = [f"        {it.name}) options='{written(it.options)}';;" for it in shown.commands if it.name != "explain"]
     return BASH.format(
         commands="|".join(names),
         words=" ".join(names),
-        choices="\n".join(f"        {name}) COMPREPLY=($(compgen -W '{' '.join(values)}' -- \"$cur\")); return;;" for name, values in sorted(chosen.items())),
+        choices="\n".join(bash_choices(option) for _, option in sorted(chosen.items())),
         plain="|".join(plain),
         files="|".join(files),
         options="\n".join(rows),
         codes=" ".join(shown.codes),
+        dates=DATES,
+        explains=written(next(it.options for it in shown.commands if it.name == "explain")),
     )
 
 
@@ -219,8 +242,13 @@ def zsh_text(text: str) -> str:
 
 def zsh_option(option: Option) -> str:
     values = "_files" if option.takes_file() else f"({' '.join(option.choices())})" if option.choices() else ""
+    values = f"({DATES})" if option.name == "date" else values
     value = "" if option.value is None else f":{option.value}:{values}"
-    return " ".join(f"'{it}[{zsh_text(option.help)}]{value}'" for it in option.written())
+    if option.may_be_bare:
+        return f"'*--{option.name}=-[{zsh_text(option.help)}]:{value}'"
+    many = "*" if option.name in MANY else ""
+    joined = {it: "=" if value and it.startswith("--") else "" for it in option.written()}
+    return " ".join(f"'{many}{it}{joined[it]}[{zsh_text(option.help)}]{value}'" for it in option.written())
 
 
 def zsh_placed(command: Command, name: str, text: str, codes: list[str]) -> str:
@@ -249,8 +277,8 @@ def zsh(shown: Help) -> str:
 
 def fish_option(command: str, option: Option) -> str:
     short = f" -s {option.short}" if option.short else ""
-    values = f" -a '{' '.join(option.choices())}'" if option.choices() else ""
-    takes = "" if option.value is None else " -r -F" if option.takes_file() else f" -x{values}"
+    values = f" -a '{DATES if option.name == 'date' else ' '.join(option.choices())}'" if option.choices() or option.name == "date" else ""
+    takes = "" if option.value is None else values if option.may_be_bare else " -r -F" if option.takes_file() else f" -x{values}"
     return f"complete -c rpg2 -n '__fish_seen_subcommand_from {command}'{short} -l {option.name}{takes} -d '{quoted(option.help)}'"
 
 
@@ -259,6 +287,7 @@ def fish(shown: Help) -> str:
     lines += [f"complete -c rpg2 -n __fish_use_subcommand -f -a {it.name} -d '{quoted(it.about)}'" for it in shown.commands]
     lines += [fish_option(it.name, option) for it in shown.commands for option in it.options]
     lines.append(f"complete -c rpg2 -n '__fish_seen_subcommand_from explain' -f -a '{' '.join(shown.codes)} halt'")
+    lines.append("complete -c rpg2 -n '__fish_seen_subcommand_from explain; and __fish_prev_arg_in halt' -f -a '1 2 3 4 5 6 7 8'")
     return "\n".join(lines) + "\n"
 
 

@@ -24,6 +24,7 @@ sys.path += [str(TOP / "build"), str(TOP / "bench")]
 
 import calls
 import case_runs
+import editors
 import evaluated
 import fits
 import installed
@@ -111,6 +112,8 @@ def jobs_of(program: Program, word: str) -> Iterable[Job]:
         yield from evaluated.jobs_of(program, HERE / "evaluated")
     if word in "fit":
         yield from fits.jobs_of(program, HERE / "fit")
+    if word in "editors":
+        yield from editors.jobs_of(program)
     if word in "installed":
         yield partial(installed_files, program)
     if word in "rows":

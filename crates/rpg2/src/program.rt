@@ -11,7 +11,8 @@ use rpg_cli_reports::{
 };
 use rpg_cli_run::{go_files, run_files};
 use rpg_cli_words::{
-    CommandName, Format, Request, refuse_bytes, refuse_same_file, refuse_unreplaced, request_of,
+    CommandName, Format, Request, join_codes, refuse_bytes, refuse_same_file, refuse_unreplaced,
+    request_of,
 };
 use std::io::{Error, ErrorKind, Write};
 use std::process::ExitCode;
@@ -97,8 +98,8 @@ fn obey_as_asked<
 }
 
 fn arguments<R: Env + AllocGlobal>(rt: &R) -> io::Result<Vec<String>> {
-    let arguments = env::args(rt)?.collect(rt.alloc())?;
-    Ok(arguments)
+    let words = env::args(rt)?.collect(rt.alloc())?;
+    Ok(join_codes(rt.alloc(), words)?)
 }
 
 /// Runs a command over the standard streams, and returns the exit status.

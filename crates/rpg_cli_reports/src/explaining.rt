@@ -113,7 +113,7 @@ pub fn explain<L: Listener>(
         }
         Ok(None) => {
             listener.report(
-                "codes are S1 to S6, F1 to F18, W1 to W7, V1 to V26, B1 to B7, A1 to A24, A27 to A30, and halt 1 to halt 8\n",
+                "codes are S1 to S6, F1 to F18, W1 to W13, V1 to V26, B1 to B7, A1 to A24, A27 to A30, and halt 1 to halt 8\n",
             );
             Ok(Answer::NoSuchCode)
         }

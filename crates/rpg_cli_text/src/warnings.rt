@@ -1,4 +1,4 @@
-//! The pages of W1 to W7.
+//! The pages of W1 to W13.
 
 /// The pages, in the order of their codes, each as [`crate::page::Page`] reads it.
 pub(crate) const WARNINGS: &str = "\
@@ -29,4 +29,28 @@ pub(crate) const WARNINGS: &str = "\
     @W7%SETON turns on a halt indicator, which ends the job%cards\
     %- a halt to call the operator:\n\n     C   30                SETON                     H1\
     %- other indicators, and halt indicators that a record type or a result turns on:\n\n     IINPUT   AA  H1\n     C           AMT       COMP 100                  H2\
-    %if the job is to continue, print a line of type E in its place, or test another\nindicator. It ends with halt 6 after the lines of that record, and what was printed is kept";
+    %if the job is to continue, print a line of type E in its place, or test another\nindicator. It ends with halt 6 after the lines of that record, and what was printed is kept\
+    @W8%a heading or detail line is written before the first record too%cards\
+    %- a detail line without a condition:\n\n     OPRINT   D  1\n     O                         AMT       10\
+    %- a line under the indicator of a record type, and a heading on 1P:\n\n     OPRINT   D  1     01\n     OPRINT   H  1     1P\n\n- an exception line, which EXCPT writes:\n\n     OPRINT   E  1\
+    %give the line the indicator of the record type that it prints, or 1P if it heads the\nfirst page. Heading and detail lines are also written before the first record is read, when only L0\nand 1P are on; so a condition such as N50 doesn't keep a line back\
+    @W9%a total line is written at each total time%cards\
+    %- a total line without a condition:\n\n     OPRINT   T  1\n     O                         TOT       10\
+    %- a line at a control level or at the end, and one with a condition that has N:\n\n     OPRINT   T  1     L1\n     OPRINT   T  1     LR\n     OPRINT   T  1    NMR\
+    %give the line the level whose totals it prints, or LR. Total time comes with each\nrecord after the first, and at the end, so the line is written that often\
+    @W10%a total is printed at a control level, and never set back%cards\
+    %- TOT is added to for each record, and printed where L1 breaks:\n\n     C   01      TOT       ADD  AMT       TOT\n     OPRINT   T  1     L1\n     O                         TOT       10\
+    %- the same with B in column 39:\n\n     O                         TOT    B  10\n\n- a running total, which is printed at LR too; a field that a calculation, a record or a table sets\
+    %put B into column 39 of the last card that prints it at that level: it is then set to zero\nafter it is printed. Otherwise the next group's total includes this one's. If it is meant to run on,\nprint it at LR, or allow W10\
+    @W11%a result is set, and nothing reads it%cards\
+    %- SUM is on no other card:\n\n     C           TOT       ADD  AMT       SUM    60\
+    %- a result that is printed, a factor or an index; one with indicators in 54-59; the result of MVR;\n  an input field, a table or an array:\n\n     C           TOT       SUB  AMT       SUM    60    20\
+    %take the calculation away, or print or use its result. Look for a name that is spelled in\ntwo ways: ADD and SUB of a field to itself don't count as use\
+    @W12%the printer has no overflow indicator, and the first page alone has a heading%cards\
+    %- 33-34 of the F card are blank, and the heading is on 1P:\n\n     FPRINT   O   F      60            PRINTER\n     OPRINT   H  2     1P\n     OPRINT   D  1     01\
+    %- an overflow indicator, which the heading has as well:\n\n     FPRINT   O   F      60     OF     PRINTER\n     OPRINT   H  201   1P\n     O       OR        OF\n\n- a list without a heading; forms whose own lines skip (19-20)\
+    %write OF into 33-34 of the F card, and OR OF after the heading, which skips (19-20). OF turns\non when the paper reaches line 60 or below. Without it the lines go on over the fold, and the second\npage has no heading\
+    @W13%a device looks like the printer, and is the disk file%cards\
+    %- PRINTR2 in 40-46:\n\n     FPRINT   O   F      60            PRINTR2\
+    %- PRINTER, and DISK for the disk file:\n\n     FPRINT   O   F      60            PRINTER\n     FOUT     O   F      60            DISK\
+    %write PRINTER. Each other device is the disk file, whose lines have no spaces or skips;\na program has one printer and one disk file";

@@ -1,7 +1,7 @@
 -- The texts of codes; which codes a set has, and the set with one more.
-use Rattle.std.specs.Prelude.{ℕ, List, Bool, true, codes}
+use Rattle.std.specs.Prelude.{ℕ, List, Bool, true, false, codes, slice_index_or, slice_set}
 use Rattle.rpg_cli_values.specs.declared.code.WarningCode.{WarningCode}
-use Rattle.rpg_cli_values.specs.declared.code.WarningCode.TheVariants.{W1, W2, W3, W4, W5, W6, W7}
+use Rattle.rpg_cli_values.specs.declared.code.WarningCode.TheVariants.{W1, W2, W3, W4, W5, W6, W7, W8, W9, W10, W11, W12, W13}
 use Rattle.rpg_cli_values.specs.declared.codes.WarningCodes.{WarningCodes}
 
 -- a code as it is printed
@@ -13,23 +13,33 @@ warning_code_text W4 = codes "W4"
 warning_code_text W5 = codes "W5"
 warning_code_text W6 = codes "W6"
 warning_code_text W7 = codes "W7"
+warning_code_text W8 = codes "W8"
+warning_code_text W9 = codes "W9"
+warning_code_text W10 = codes "W10"
+warning_code_text W11 = codes "W11"
+warning_code_text W12 = codes "W12"
+warning_code_text W13 = codes "W13"
+
+-- the number of a code, counted from 0
+abbrev pub code_number : WarningCode → ℕ
+code_number W1 = 0
+code_number W2 = 1
+code_number W3 = 2
+code_number W4 = 3
+code_number W5 = 4
+code_number W6 = 5
+code_number W7 = 6
+code_number W8 = 7
+code_number W9 = 8
+code_number W10 = 9
+code_number W11 = 10
+code_number W12 = 11
+code_number W13 = 12
 
 -- the code is in the set
 abbrev pub has : WarningCodes → WarningCode → Bool
-has set W1 = set.w1
-has set W2 = set.w2
-has set W3 = set.w3
-has set W4 = set.w4
-has set W5 = set.w5
-has set W6 = set.w6
-has set W7 = set.w7
+has s code = slice_index_or s.marks (code_number code) false
 
 -- the set with one more code
 abbrev pub with : WarningCodes → WarningCode → WarningCodes
-with set W1 = record set { w1 = true }
-with set W2 = record set { w2 = true }
-with set W3 = record set { w3 = true }
-with set W4 = record set { w4 = true }
-with set W5 = record set { w5 = true }
-with set W6 = record set { w6 = true }
-with set W7 = record set { w7 = true }
+with s code = record { marks = slice_set s.marks (code_number code) true }

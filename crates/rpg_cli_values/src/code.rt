@@ -1,7 +1,7 @@
 //! The codes of warnings.
 
-ghost use Rattle.std.specs.Prelude.{◌≡◌};
-ghost use Rattle.rpg_cli_values.specs.Codes.{warning_code_text};
+ghost use Rattle.std.specs.Prelude.{◌≡◌, ◌<◌};
+ghost use Rattle.rpg_cli_values.specs.Codes.{code_number, warning_code_text};
 
 /// What a warning is about.
 #[derive(Clone, Copy, PartialEq, Eq)]
@@ -13,9 +13,37 @@ pub enum WarningCode {
     W5,
     W6,
     W7,
+    W8,
+    W9,
+    W10,
+    W11,
+    W12,
+    W13,
 }
 
 impl WarningCode {
+    /// Returns its number, counted from 0.
+    pub const fn number(self) -> usize
+        ensures value { result ≡ code_number self }
+        ensures within { result < 13 }
+    {
+        match self {
+            WarningCode::W1 => 0,
+            WarningCode::W2 => 1,
+            WarningCode::W3 => 2,
+            WarningCode::W4 => 3,
+            WarningCode::W5 => 4,
+            WarningCode::W6 => 5,
+            WarningCode::W7 => 6,
+            WarningCode::W8 => 7,
+            WarningCode::W9 => 8,
+            WarningCode::W10 => 9,
+            WarningCode::W11 => 10,
+            WarningCode::W12 => 11,
+            WarningCode::W13 => 12,
+        }
+    }
+
     pub const fn text(self) -> &'static str
         ensures { result.now ≡ warning_code_text self }
     {
@@ -27,6 +55,12 @@ impl WarningCode {
             WarningCode::W5 => "W5",
             WarningCode::W6 => "W6",
             WarningCode::W7 => "W7",
+            WarningCode::W8 => "W8",
+            WarningCode::W9 => "W9",
+            WarningCode::W10 => "W10",
+            WarningCode::W11 => "W11",
+            WarningCode::W12 => "W12",
+            WarningCode::W13 => "W13",
         }
     }
 
@@ -40,6 +74,12 @@ impl WarningCode {
             "W5" => Some(WarningCode::W5),
             "W6" => Some(WarningCode::W6),
             "W7" => Some(WarningCode::W7),
+            "W8" => Some(WarningCode::W8),
+            "W9" => Some(WarningCode::W9),
+            "W10" => Some(WarningCode::W10),
+            "W11" => Some(WarningCode::W11),
+            "W12" => Some(WarningCode::W12),
+            "W13" => Some(WarningCode::W13),
             _ => None,
         }
     }

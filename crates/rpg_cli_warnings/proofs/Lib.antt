@@ -1,4 +1,3 @@
-pub mod Allowed
 pub mod FirstForms
 pub mod Marking
 pub mod Unnamed

@@ -6,7 +6,7 @@ use Rattle.std.specs.Prelude.{find, is_some, nat_le}
 use Rattle.rpg_cards.specs.declared.spec_card.SpecCard.{SpecCard}
 use Rattle.rpg_cli_warnings.proofs.Marking.{none_found, one_found}
 use Rattle.rpg_cli_warnings.specs.Indicators.{tests_indicator, card_has_level, indicator_warnings, is_level, is_of_cards, listed, never_tested, never_tested_at, never_on, never_on_at, no_level, no_level_at, shows, turns_on}
-use Rattle.rpg_cli_warnings.specs.declared.warning.Warning.{Warning}
+use Rattle.rpg_warnings_lines.specs.declared.warning.Warning.{Warning}
 
 nothing : (b : Bool) (f : SpecCard → Warning) (found : Option SpecCard) → found ≡ None → cond b (option_map f found) None ≡ None
 nothing true f found is = ap (option_map f) is

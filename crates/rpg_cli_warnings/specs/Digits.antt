@@ -16,9 +16,9 @@ use Rattle.rpg_sheet_specs.specs.declared.calculation.Operation.TheVariants as o
 use Rattle.rpg_sheet_specs.specs.declared.column.ColumnFault.{ColumnFault}
 use Rattle.rpg_sheet_specs.specs.declared.entry.Entry.{Entry}
 use Rattle.rpg_sheet_specs.specs.declared.literal.Factor.{Factor}
-use Rattle.rpg_cli_warnings.specs.declared.warning.Warning.{Warning}
-use Rattle.rpg_cli_warnings.specs.declared.warning.WarningKind.{WarningKind}
-use Rattle.rpg_cli_warnings.specs.declared.warning.WarningKind.TheVariants as kind
+use Rattle.rpg_warnings_lines.specs.declared.warning.Warning.{Warning}
+use Rattle.rpg_warnings_lines.specs.declared.warning.WarningKind.{WarningKind}
+use Rattle.rpg_warnings_lines.specs.declared.warning.WarningKind.TheVariants as kind
 
 -- the digits before the decimal point of a number; a text has none
 abbrev pub digits_by : Kind → FieldForm → Option ℕ

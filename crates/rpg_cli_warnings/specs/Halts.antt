@@ -8,8 +8,8 @@ use Rattle.rpg_sheet_specs.specs.declared.calculation.Operation.{Operation}
 use Rattle.rpg_sheet_specs.specs.declared.calculation.Operation.TheVariants as operation
 use Rattle.rpg_sheet_specs.specs.declared.column.ColumnFault.{ColumnFault}
 use Rattle.rpg_sheet_specs.specs.declared.indicator.Three.{Three}
-use Rattle.rpg_cli_warnings.specs.declared.warning.Warning.{Warning}
-use Rattle.rpg_cli_warnings.specs.declared.warning.WarningKind.TheVariants as kind
+use Rattle.rpg_warnings_lines.specs.declared.warning.Warning.{Warning}
+use Rattle.rpg_warnings_lines.specs.declared.warning.WarningKind.TheVariants as kind
 
 -- the operation is SETON
 abbrev pub is_set_on : Option Operation → Bool

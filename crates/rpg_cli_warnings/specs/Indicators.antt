@@ -16,8 +16,8 @@ use Rattle.rpg_sheet_specs.specs.declared.input.InputSpec.{InputSpec}
 use Rattle.rpg_sheet_specs.specs.declared.input.InputSpec.TheVariants as input
 use Rattle.rpg_sheet_specs.specs.declared.spec.Spec.{Spec}
 use Rattle.rpg_sheet_specs.specs.declared.spec.Spec.TheVariants as spec
-use Rattle.rpg_cli_warnings.specs.declared.warning.Warning.{Warning}
-use Rattle.rpg_cli_warnings.specs.declared.warning.WarningKind.TheVariants as kind
+use Rattle.rpg_warnings_lines.specs.declared.warning.Warning.{Warning}
+use Rattle.rpg_warnings_lines.specs.declared.warning.WarningKind.TheVariants as kind
 
 -- ---- asking
 

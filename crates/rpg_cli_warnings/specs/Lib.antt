@@ -3,7 +3,5 @@ pub mod Digits
 pub mod Halts
 pub mod Indicators
 pub mod Marks
-pub mod Overlaps
-pub mod Pages
 pub mod Warned
 pub mod Warnings

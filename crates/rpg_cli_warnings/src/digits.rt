@@ -7,11 +7,11 @@ ghost use Rattle.rpg_card_index.specs.Index.{StandAt};
 ghost use Rattle.rpg_cards.specs.Names.{defined_as, definition_by, definitions, definitions_on, sized_form};
 ghost use Rattle.rpg_cli_warnings.specs.Digits as digits;
 
-use crate::warning::{Warning, WarningKind};
 use rpg_card_index::IndexedCards;
 use rpg_cards::{Defined, SpecCard, sized_form};
 use rpg_program::form::{FieldForm, Kind};
 use rpg_sheet_specs::{CalculationSpec, ColumnFault, Factor, Literal, Operation};
+use rpg_warnings_lines::{Warning, WarningKind};
 use std::alloc::AllocError;
 
 /// The columns of a result field.

@@ -4,9 +4,9 @@ ghost use Rattle.std.specs.Prelude.{◌≡◌, ◌++◌, OnOk};
 ghost use Rattle.std.specs.List.{filter_map};
 ghost use Rattle.rpg_cli_warnings.specs.Halts as halts;
 
-use crate::warning::{Warning, WarningKind};
 use rpg_cards::SpecCard;
 use rpg_sheet_specs::{ColumnFault, Indicator, Operation};
+use rpg_warnings_lines::{Warning, WarningKind};
 use std::alloc::AllocError;
 
 /// The columns of the three resulting indicators.

@@ -8,8 +8,8 @@ use crate::levels::any_has_level;
 use crate::marks::{shown_by, tested_by};
 use crate::testing::{first_testing, tested_columns};
 use crate::turning::{any_turns_on, first_showing, shown_columns};
-use crate::warning::{Warning, WarningKind};
 use rpg_cards::SpecCard;
+use rpg_warnings_lines::{Warning, WarningKind};
 use std::alloc::AllocError;
 
 /// Whether only cards turn an indicator on: 01 to 99, OA to OG, OV, and H1 to H9.

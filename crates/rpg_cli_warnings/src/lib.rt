@@ -1,5 +1,5 @@
-//! The warnings of a source without faults: indicators that are tested but never turned on, or turned on but never tested, overlapping
-//! fields of a line, results that are shorter than their operands, page numbers with conditions, and halts.
+//! The warnings of a source without faults: those of rpg_warnings_lines, and indicators that are tested but never turned on, or turned on
+//! but never tested, results that are shorter than their operands, and halts.
 #![tactic(auto)]
 
 mod digits;
@@ -8,15 +8,12 @@ mod indicators;
 mod levels;
 mod marks;
 mod messages;
-mod overlaps;
-mod pages;
 mod testing;
 mod turning;
 mod warned;
-mod warning;
 mod warnings;
 
 pub use messages::warning_messages;
+pub use rpg_warnings_lines::{Warning, WarningKind};
 pub use warned::{deny_warnings, judge_warnings};
-pub use warning::{Warning, WarningKind};
 pub use warnings::{source_warnings, wanted_warnings};

@@ -1,9 +1,9 @@
 //! The diagnostics for the warnings of a source.
 
-use crate::warning::{Warning, WarningKind};
 use rpg_cli_messages::{CardLines, write_picture, write_place, write_reported};
 use rpg_cli_show_fields::Indicator;
 use rpg_cli_text::TextWriter;
+use rpg_warnings_lines::{Warning, WarningKind};
 use std::alloc::{AllocError, Global};
 
 const PAGE_CONDITIONS: &str =
@@ -13,7 +13,20 @@ const SETS_HALT: &str =
     "SETON turns on {}: a halt indicator ends the job, and no operator can answer it (docs/OLD_PROGRAMS.md)";
 
 const SHORTER: &str =
-    "the result has {} digit{} before its point, and a factor has {}: those on the left can be lost";
+    "the result has {} digit{} before its point, and a factor has {}: high-order digits can be lost";
+
+const BEFORE_RECORDS: &str =
+    "this line is written before the first record too: no condition keeps it back";
+
+const EACH_TOTAL: &str = "this total line is written at each total time: it has no condition";
+
+const NOT_RESET: &str =
+    "{} is added to and never set back: the next total includes this one (B in 39)";
+
+const NOT_PRINTER: &str = "{} isn't PRINTER: this file is the disk file";
+
+const NO_OVERFLOW: &str =
+    "the printer has no overflow indicator: the second page has no heading, and lines go on over the fold";
 
 /// Writes the places that a field shares with another card's.
 fn write_overlap(out: &mut TextWriter, first: usize, last: usize, card: u16) {
@@ -26,7 +39,36 @@ fn write_overlap(out: &mut TextWriter, first: usize, last: usize, card: u16) {
     out.fill(" of the line, and overlaps that of card {}", &[card.into()]);
 }
 
-fn write_sentence(out: &mut TextWriter, kind: WarningKind) {
+/// What a sentence without a name is filled with.
+const NO_NAME: &[u8] = &[];
+
+/// Returns the name in columns of a card, without its index: at most `most` characters from a column on.
+fn name_at(line: &[u8], column: usize, most: usize) -> &[u8] {
+    let rest = line.get(column.saturating_sub(1)..).unwrap_or(&[]);
+    let columns = rest.get(..most).unwrap_or(rest);
+    for (end, character) in columns.iter().enumerate() {
+        if *character == b' ' || *character == b',' {
+            return &columns[..end];
+        }
+    }
+    columns
+}
+
+/// Writes what a warning without numbers says of a card.
+fn write_of_card(out: &mut TextWriter, kind: WarningKind, line: &[u8]) {
+    let (sentence, name) = match kind {
+        WarningKind::PageConditions => (PAGE_CONDITIONS, NO_NAME),
+        WarningKind::BeforeRecords => (BEFORE_RECORDS, NO_NAME),
+        WarningKind::EachTotal => (EACH_TOTAL, NO_NAME),
+        WarningKind::NotReset => (NOT_RESET, name_at(line, 32, 6)),
+        WarningKind::Unused => ("{} is set, and nothing reads it", name_at(line, 43, 6)),
+        WarningKind::NoOverflow => (NO_OVERFLOW, NO_NAME),
+        _ => (NOT_PRINTER, name_at(line, 40, 7)),
+    };
+    out.fill(sentence, &[name.into()]);
+}
+
+fn write_sentence(out: &mut TextWriter, kind: WarningKind, line: &[u8]) {
     let (sentence, indicator) = match kind {
         WarningKind::NeverOn { indicator } => (
             "indicator {} is tested, and nothing turns it on",
@@ -41,7 +83,6 @@ fn write_sentence(out: &mut TextWriter, kind: WarningKind) {
             indicator,
         ),
         WarningKind::SetsHalt { indicator } => (SETS_HALT, indicator),
-        WarningKind::PageConditions => (PAGE_CONDITIONS, 0),
         WarningKind::Overlap { first, last, card } => {
             write_overlap(out, first, last, card);
             return;
@@ -49,6 +90,10 @@ fn write_sentence(out: &mut TextWriter, kind: WarningKind) {
         WarningKind::Shorter { result, factor } => {
             let of_digits = if result == 1 { "" } else { "s" };
             out.fill(SHORTER, &[result.into(), of_digits.into(), factor.into()]);
+            return;
+        }
+        _ => {
+            write_of_card(out, kind, line);
             return;
         }
     };
@@ -63,7 +108,7 @@ fn write_warning(out: &mut TextWriter, path: &str, line: &[u8], warning: Warning
         kind,
     } = warning;
     write_place(out, path, card, Some(columns), kind.code().text());
-    write_sentence(out, kind);
+    write_sentence(out, kind, line);
     out.write_char('\n');
     write_picture(out, card, line, Some(columns));
 }

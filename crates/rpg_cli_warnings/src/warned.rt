@@ -1,33 +1,48 @@
 //! The warnings of a source, and whether they reject it.
 
-ghost use Rattle.std.specs.Prelude.{IfErr, OnOk};
-ghost use Rattle.rpg_cli_warnings.specs.Warned.{IsDenied, PassesWarnings};
+ghost use Rattle.std.specs.Prelude.{◌≡◌, IfErr, OnOk, find};
+ghost use Rattle.rpg_cli_warnings.specs.Warned.{IsDenied, PassesWarnings, is_denied};
 
 use crate::messages::warning_messages;
-use crate::warning::Warning;
 use crate::warnings::wanted_warnings;
 use rpg_cli_answers::{Answer, Listener, report_message};
+use rpg_cli_values::WarningCodes;
 use rpg_cli_words::WarningArguments;
 use rpg_faults::{FaultlessCards, SourceFault, faultless_cards};
+use rpg_warnings_lines::Warning;
 use std::alloc::Global;
 
-/// Rejects a source for the first of these warnings, if the arguments deny them.
-fn judged(arguments: WarningArguments, warnings: &[Warning]) -> Result<(), Answer>
-    ensures ok { OnOk result (PassesWarnings arguments.denies warnings.now) }
-    ensures err { IfErr result (λ answer. IsDenied answer warnings.now) }
+/// Whether the code of a warning is denied.
+#[tactic(auto, unfolding(crate::specs::Warned::is_denied))]
+fn has_denied(denied: WarningCodes, warning: &Warning) -> bool
+    ensures { result ≡ is_denied denied warning.now }
 {
-    match warnings.first() {
-        None => Ok(()),
-        Some(warning) => {
-            if arguments.denies {
-                Err(Answer::Denied {
-                    card: warning.card,
-                    code: warning.kind.code(),
-                })
-            } else {
-                Ok(())
-            }
+    denied.has(warning.kind.code())
+}
+
+/// Returns the first warning whose code is denied.
+fn first_denied(denied: WarningCodes, warnings: &[Warning]) -> Option<Warning>
+    ensures { result ≡ find (is_denied denied) warnings.now }
+{
+    for warning in warnings {
+        if has_denied(denied, warning) {
+            return Some(*warning);
         }
+    }
+    None
+}
+
+/// Rejects a source for the first of these warnings that the arguments deny.
+fn judged(arguments: WarningArguments, warnings: &[Warning]) -> Result<(), Answer>
+    ensures ok { OnOk result (PassesWarnings arguments.denied warnings.now) }
+    ensures err { IfErr result (λ answer. IsDenied answer arguments.denied warnings.now) }
+{
+    match first_denied(arguments.denied, warnings) {
+        None => Ok(()),
+        Some(warning) => Err(Answer::Denied {
+            card: warning.card,
+            code: warning.kind.code(),
+        }),
     }
 }
 
@@ -43,13 +58,13 @@ pub fn judge_warnings<L: Listener>(
     listener: &mut L,
 ) -> Result<(), Answer> {
     let (cards, index) = source.into_parts();
-    match wanted_warnings(alloc, &index.over(&cards), arguments.allowed) {
+    match wanted_warnings(alloc, text, &index.over(&cards), arguments.allowed) {
         Ok(warnings) => {
             let messages = warning_messages(alloc, path, text, &warnings, arguments.most);
             report_message(listener, messages);
             judged(arguments, &warnings)
         }
-        Err(_) if arguments.denies => Err(Answer::NoMemory),
+        Err(_) if !arguments.denied.is_empty() => Err(Answer::NoMemory),
         Err(_) => Ok(()),
     }
 }
@@ -63,7 +78,7 @@ pub fn deny_warnings<L: Listener>(
     arguments: WarningArguments,
     listener: &mut L,
 ) -> Result<(), Answer> {
-    if !arguments.denies {
+    if arguments.denied.is_empty() {
         return Ok(());
     }
     match faultless_cards(alloc, source) {

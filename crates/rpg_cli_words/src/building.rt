@@ -38,9 +38,16 @@ fn valued<'a>(alloc: Global, argument: Argument) -> Arg<'a> {
         .default_values(argument.defaults())
 }
 
+/// Adds whether its value follows `=`, and what a use without a value stands for.
+fn equalled<'a>(alloc: Global, argument: Argument) -> Arg<'a> {
+    valued(alloc, argument)
+        .require_equals(argument.takes_equals())
+        .default_missing_values(argument.without_value())
+}
+
 /// Builds an argument for clap, with the one that conflicts with it, and the one that can replace it.
 fn arg<'a>(alloc: Global, argument: Argument) -> Result<Arg<'a>, AllocError> {
-    valued(alloc, argument)
+    equalled(alloc, argument)
         .conflicts_with_all(argument.other.as_slice())?
         .required_unless_present_any(argument.unless().as_slice())
 }

@@ -40,6 +40,7 @@ go: SRC INPUT PRINT.go date secondary disk most most-bytes keep.go trace trace-r
 /// | `L` | the length of a record: 1 to 9,999 |
 /// | `D` | a form of diagnostics, `text` by default |
 /// | `C` | the code of a warning, several times |
+/// | `K` | the same, after `=`; or nothing, for all codes |
 ///
 /// `=VALUE` after the letter is what help calls the value, and `!OTHER` names an argument that conflicts with this one.
 const ARGUMENTS: &str = "SRC R The source, one card per line; - is standard input
@@ -59,7 +60,7 @@ force F Replaces NEW if it exists
 CODE M The codes, such as F16 or halt 4; all if none is given
 allowance A=N How many backward branches and calls a cycle may take
 faults N=N The most faults or warnings to list
-deny F Rejects a source that has a warning
+deny K=CODE Rejects a source that has a warning; with a code, one of that code
 allow C=CODE Leaves out the warnings of a code
 format D=FORMAT The form of diagnostics and of the answer
 quiet Q Prints no line if the exit status is 0
@@ -98,7 +99,14 @@ sorted F Ends with status 5 if a control field goes down, as in an input that is
 const FORMATS: &[&str] = &["text", "json"];
 
 /// The codes of warnings that may be allowed.
-const WARNING_CODES: &[&str] = &["W1", "W2", "W3", "W4", "W5", "W6", "W7"];
+const WARNING_CODES: &[&str] = &[
+    "W1", "W2", "W3", "W4", "W5", "W6", "W7", "W8", "W9", "W10", "W11", "W12", "W13",
+];
+
+/// The codes of warnings that may be denied.
+const DENIED_CODES: &[&str] = &[
+    "all", "W1", "W2", "W3", "W4", "W5", "W6", "W7", "W8", "W9", "W10", "W11", "W12", "W13",
+];
 
 /// Splits a text at a mark. Without the mark the second part is empty.
 pub(crate) fn cut(text: &'static str, mark: &str) -> (&'static str, &'static str) {
@@ -200,7 +208,7 @@ impl Argument {
     pub fn action(self) -> ArgAction {
         match self.letter {
             b'F' | b'Q' => ArgAction::SetTrue,
-            b'S' | b'M' | b'W' | b'C' => ArgAction::Append,
+            b'S' | b'M' | b'W' | b'C' | b'K' => ArgAction::Append,
             _ => ArgAction::Set,
         }
     }
@@ -210,6 +218,7 @@ impl Argument {
         match self.letter {
             b'F' | b'Q' => 0..=0,
             b'S' | b'M' => 1..=usize::MAX,
+            b'K' => 0..=1,
             _ => 1..=1,
         }
     }
@@ -223,6 +232,7 @@ impl Argument {
             b'B' => ValueParser::Unsigned(0, u64::MAX),
             b'D' => ValueParser::Names(FORMATS),
             b'C' => ValueParser::Names(WARNING_CODES),
+            b'K' => ValueParser::Names(DENIED_CODES),
             b'F' | b'Q' => ValueParser::Bool,
             _ => ValueParser::String,
         }
@@ -234,6 +244,19 @@ impl Argument {
             b'A' => &["1000"],
             b'N' => &["20"],
             b'D' => &["text"],
+            _ => &[],
+        }
+    }
+
+    /// Whether a value follows `=`.
+    pub fn takes_equals(self) -> bool {
+        self.letter == b'K'
+    }
+
+    /// Returns what a use without a value stands for.
+    pub fn without_value(self) -> &'static [&'static str] {
+        match self.letter {
+            b'K' => &["all"],
             _ => &[],
         }
     }

@@ -5,12 +5,14 @@ mod building;
 mod commands;
 mod faults;
 mod files;
+mod joined;
 mod options;
 mod outputs;
 mod refusal;
 mod request;
 
 pub use files::{FileArgument, SameFile, Shared, is_standard};
+pub use joined::join_codes;
 pub use options::{
     AnswerArguments, CardsWanted, Cycles, Format, LookArguments, RecordFraming, RecordsWay,
     TableArgument, WarningArguments,

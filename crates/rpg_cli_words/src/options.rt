@@ -36,8 +36,8 @@ impl AnswerArguments {
 /// How the warnings of a source are treated.
 #[derive(Clone, Copy)]
 pub struct WarningArguments {
-    /// Whether a warning rejects the source.
-    pub denies: bool,
+    /// The codes of the warnings that reject the source.
+    pub denied: WarningCodes,
     /// The codes of the warnings that are left out.
     pub allowed: WarningCodes,
     /// The most faults or warnings to list.
@@ -47,7 +47,7 @@ pub struct WarningArguments {
 impl WarningArguments {
     pub(crate) fn of(given: &ArgMatches<'_>) -> WarningArguments {
         WarningArguments {
-            denies: given.get_flag("deny"),
+            denied: WarningCodes::named(given.get_strs("deny").unwrap_or(&[])),
             allowed: WarningCodes::named(given.get_strs("allow").unwrap_or(&[])),
             most: given.get_one::<u16>("faults").unwrap_or(20),
         }

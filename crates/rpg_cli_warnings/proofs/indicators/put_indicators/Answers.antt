@@ -1,6 +1,6 @@
 use Rattle.std.proofs.Common.{◌∙◌, ◌+◌, List, ◌++◌, ap, sym, append-nil, append_assoc, arith}
 use Rattle.rpg_cli_warnings.specs.Indicators.{indicator_warnings, warnings_up_to}
-use Rattle.rpg_cli_warnings.specs.declared.warning.Warning.{Warning}
+use Rattle.rpg_warnings_lines.specs.declared.warning.Warning.{Warning}
 use Rattle.rpg_cli_warnings.proofs.UpTo.{up_to_next, up_to_none}
 use Rattle.rpg_cli_warnings.proofs.indicators.put_indicators.Goals as goal
 

@@ -1,7 +1,7 @@
 use Rattle.std.proofs.Common.{◌∙◌, ◌++◌, Option, ap, sym}
 use Rattle.rpg_cli_warnings.proofs.Unnamed.{if_tested, if_neither, if_shown}
 use Rattle.rpg_cli_warnings.specs.Indicators.{listed}
-use Rattle.rpg_cli_warnings.specs.declared.warning.Warning.{Warning}
+use Rattle.rpg_warnings_lines.specs.declared.warning.Warning.{Warning}
 use Rattle.rpg_cli_warnings.proofs.indicators.put_of.Goals as goal
 
 pub returns-in_ok-put-2 : goal.returns-in_ok-put-2

@@ -1,8 +1,0 @@
-use Rattle.std.proofs.Common.{◌≡◌, ◌++◌, drop}
-use Rattle.rpg_cli_warnings.specs.Overlaps.{overlaps_from}
-use Rattle.rpg_cli_warnings.proofs.overlaps.put_overlaps.Given as goal
-
-abbrev pub invariant-loop-card : goal.invariant-loop-card
-invariant-loop-card l =
-    l.warnings.items ++ overlaps_from l.source l.placed.items (drop l.card-index l.card-items)
-    ≡ l.initial.warnings.items ++ overlaps_from l.source l.initial.placed.items l.source

@@ -1,0 +1,19 @@
+//! Warnings about printed lines, their files, and the results that they print or don't.
+#![tactic(auto)]
+
+mod alternatives;
+mod devices;
+mod lines;
+mod marks;
+mod overlaps;
+mod pages;
+mod printer;
+mod sums;
+mod totals;
+mod unheld;
+mod unused;
+mod uses;
+mod warning;
+
+pub use lines::put_line_warnings;
+pub use warning::{Warning, WarningKind};

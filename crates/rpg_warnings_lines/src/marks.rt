@@ -1,0 +1,88 @@
+//! The least value that is noted for each name.
+
+ghost use Rattle.std.specs.Prelude.{◌≡◌, ◌++◌, ◌<◌, ℕ, length, IfOk, OnOk};
+ghost use Rattle.rpg_warnings_lines.specs.Marks as marks;
+
+use std::alloc::{AllocError, Global};
+
+/// What a name without a value has: more than each card and level.
+pub(crate) const NONE: u16 = u16::MAX;
+
+/// A value of a name, which is given by its place among the different names of a source.
+#[derive(Clone, Copy)]
+pub struct Mark {
+    pub place: u64,
+    pub value: u16,
+}
+
+/// Notes a value for a name, if there is one.
+pub(crate) fn put_mark(
+    noted: &mut Vec<Mark>,
+    place: Option<u64>,
+    value: u16,
+) -> Result<(), AllocError>
+    ensures { OnOk result (noted.new.items ≡ noted.old.items ++ marks.mark_of value place) }
+{
+    if let Some(place) = place {
+        noted.push(Mark { place, value })?;
+    }
+    Ok(())
+}
+
+/// Notes a value for each of these names.
+pub(crate) fn put_marks(
+    noted: &mut Vec<Mark>,
+    places: &[Option<u64>],
+    value: u16,
+) -> Result<(), AllocError>
+    ensures { OnOk result (noted.new.items ≡ noted.old.items ++ marks.marks_of value places.now) }
+{
+    for place in places {
+        put_mark(noted, *place, value)?;
+    }
+    Ok(())
+}
+
+/// Makes room for a place.
+fn grow(least: &mut Vec<u16>, place: usize) -> Result<(), AllocError>
+    ensures within { OnOk result (place < length least.new.items) }
+    ensures same { OnOk result ((i : ℕ) → marks.least_at i least.new.items ≡ marks.least_at i least.old.items) }
+{
+    while least.len() <= place {
+        least.push(NONE)?;
+    }
+    Ok(())
+}
+
+/// Notes a value, if it is the least so far.
+fn lower(least: &mut Vec<u16>, mark: Mark) -> Result<(), AllocError>
+    ensures { OnOk result ((i : ℕ) → marks.least_at i least.new.items ≡ marks.lowered i (marks.least_at i least.old.items) mark) }
+{
+    let place = mark.place as usize;
+    grow(least, place)?;
+    if mark.value < least[place] {
+        least[place] = mark.value;
+    }
+    Ok(())
+}
+
+/// Returns the least value of each name, by its place.
+pub(crate) fn least_of(alloc: Global, noted: &[Mark]) -> Result<Vec<u16>, AllocError>
+    ensures { IfOk result (λ least. marks.AreLeast least.items noted.now) }
+{
+    let mut least = Vec::new(alloc);
+    for mark in noted {
+        lower(&mut least, *mark)?;
+    }
+    Ok(least)
+}
+
+/// Returns the least value of a name.
+pub(crate) fn least_at(least: &[u16], place: u64) -> u16
+    ensures { result ≡ marks.least_at place least.now }
+{
+    match least.get(place as usize) {
+        None => NONE,
+        Some(value) => *value,
+    }
+}

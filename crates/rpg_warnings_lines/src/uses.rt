@@ -1,0 +1,240 @@
+//! Which names cards use, by their places among the different names of the source.
+
+ghost use Rattle.std.specs.Prelude.{◌≡◌};
+ghost use Rattle.rpg_warnings_lines.specs.Uses as uses;
+
+use rpg_card_index::IndexedCards;
+use rpg_cards::SpecCard;
+use rpg_sheet_specs::{
+    CalculationSpec, Entry, EntryIndex, ExtensionSpec, Factor, InputSpec, Operation, OutputSpec,
+    Spec, TableSpec,
+};
+
+/// Returns the place of a field, or of an entry's array.
+pub(crate) fn entry_place(source: &IndexedCards, entry: &Option<Entry>) -> Option<u64>
+    ensures { result ≡ uses.entry_place source.now entry.now }
+{
+    match entry {
+        None => None,
+        Some(entry) => source.name_place(&entry.name),
+    }
+}
+
+/// Returns the place of the field that has an entry's index.
+fn named_index(source: &IndexedCards, entry: &Entry) -> Option<u64>
+    ensures { result ≡ uses.named_index source.now entry.now }
+{
+    match &entry.index {
+        Some(EntryIndex::Name(name)) => source.name_place(name),
+        Some(EntryIndex::Literal(_)) | None => None,
+    }
+}
+
+fn index_place(source: &IndexedCards, entry: &Option<Entry>) -> Option<u64>
+    ensures { result ≡ uses.index_place source.now entry.now }
+{
+    match entry {
+        None => None,
+        Some(entry) => named_index(source, entry),
+    }
+}
+
+fn factor_place(source: &IndexedCards, factor: &Option<Factor>) -> Option<u64>
+    ensures { result ≡ uses.factor_place source.now factor.now }
+{
+    match factor {
+        Some(Factor::Entry(entry)) => source.name_place(&entry.name),
+        Some(Factor::Literal(_)) | None => None,
+    }
+}
+
+fn factor_index(source: &IndexedCards, factor: &Option<Factor>) -> Option<u64>
+    ensures { result ≡ uses.factor_index source.now factor.now }
+{
+    match factor {
+        Some(Factor::Entry(entry)) => named_index(source, entry),
+        Some(Factor::Literal(_)) | None => None,
+    }
+}
+
+fn is_sum(operation: Option<Operation>) -> bool
+    ensures { result ≡ uses.is_sum operation }
+{
+    match operation {
+        Some(Operation::Add | Operation::Subtract) => true,
+        _ => false,
+    }
+}
+
+/// Whether a factor is a result field, or an entry of the same array.
+fn is_result(factor: &Option<Factor>, own: &Option<Entry>) -> bool
+    ensures { result ≡ uses.is_result factor.now own.now }
+{
+    match (factor, own) {
+        (Some(Factor::Entry(factor)), Some(own)) => factor.name == own.name,
+        _ => false,
+    }
+}
+
+/// Returns the place of a factor, unless it is the result of ADD or SUB.
+fn factor_read(
+    source: &IndexedCards,
+    calculation: &CalculationSpec,
+    factor: &Option<Factor>,
+) -> Option<u64>
+    ensures { result ≡ uses.factor_read source.now calculation.now factor.now }
+{
+    if is_sum(calculation.operation) && is_result(factor, &calculation.result_field) {
+        None
+    } else {
+        factor_place(source, factor)
+    }
+}
+
+/// Whether a result counts as read: searches and XFOOT name it, MVR has to be somewhere, and indicators may be what the card is for.
+fn counts_as_read(calculation: &CalculationSpec) -> bool
+    ensures { result ≡ uses.counts_as_read calculation.now }
+{
+    let indicators = calculation.resulting_indicators;
+    match calculation.operation {
+        Some(Operation::CrossFoot | Operation::LookUp | Operation::MoveRemainder) => true,
+        _ => {
+            indicators.first.is_some() || indicators.second.is_some() || indicators.third.is_some()
+        }
+    }
+}
+
+/// Returns the place of a result that counts as read.
+fn result_read(source: &IndexedCards, calculation: &CalculationSpec) -> Option<u64>
+    ensures { result ≡ uses.result_read source.now calculation.now }
+{
+    if counts_as_read(calculation) {
+        entry_place(source, &calculation.result_field)
+    } else {
+        None
+    }
+}
+
+fn read_by(source: &IndexedCards, calculation: &CalculationSpec) -> [Option<u64>; 6]
+    ensures { result ≡ uses.read_by source.now calculation.now }
+{
+    [
+        factor_index(source, &calculation.factor_1),
+        factor_index(source, &calculation.factor_2),
+        index_place(source, &calculation.result_field),
+        factor_read(source, calculation, &calculation.factor_1),
+        factor_read(source, calculation, &calculation.factor_2),
+        result_read(source, calculation),
+    ]
+}
+
+fn table_place(source: &IndexedCards, table: &Option<TableSpec>) -> Option<u64>
+    ensures { result ≡ uses.table_place source.now table.now }
+{
+    match table {
+        None => None,
+        Some(table) => source.name_place(&table.name),
+    }
+}
+
+fn own_table(source: &IndexedCards, extension: &ExtensionSpec) -> Option<u64>
+    ensures { result ≡ uses.own_table source.now extension.now }
+{
+    source.name_place(&extension.table.name)
+}
+
+/// Returns the names that a card reads; with them those of tables and of input fields, which describe records.
+pub(crate) fn read_on(source: &IndexedCards, card: &SpecCard) -> [Option<u64>; 6]
+    ensures { result ≡ uses.read_on source.now card.now.spec }
+{
+    match &card.spec {
+        Spec::Extension(extension) => {
+            let alternating = table_place(source, &extension.alternating);
+            [
+                own_table(source, extension),
+                alternating,
+                None,
+                None,
+                None,
+                None,
+            ]
+        }
+        Spec::Input(InputSpec::Field(field)) => {
+            [source.name_place(&field.name), None, None, None, None, None]
+        }
+        Spec::Calculation(calculation) => read_by(source, calculation),
+        Spec::Output(OutputSpec::Field(field)) => {
+            let index = index_place(source, &field.operand);
+            [
+                entry_place(source, &field.operand),
+                index,
+                None,
+                None,
+                None,
+                None,
+            ]
+        }
+        _ => [None, None, None, None, None, None],
+    }
+}
+
+/// Returns the place of the result field of a card.
+pub(crate) fn result_on(source: &IndexedCards, card: &SpecCard) -> Option<u64>
+    ensures { result ≡ uses.result_on source.now card.now.spec }
+{
+    match &card.spec {
+        Spec::Calculation(calculation) => entry_place(source, &calculation.result_field),
+        _ => None,
+    }
+}
+
+/// Whether a calculation adds to its result field, or subtracts from it. A blank factor 1 stands for the result field.
+fn is_own_sum(calculation: &CalculationSpec) -> bool
+    ensures { result ≡ uses.is_own_sum calculation.now }
+{
+    is_sum(calculation.operation)
+        && (calculation.factor_1.is_none()
+            || is_result(&calculation.factor_1, &calculation.result_field)
+            || is_result(&calculation.factor_2, &calculation.result_field))
+}
+
+/// Returns the place of the result field that a card adds to.
+pub(crate) fn sum_on(source: &IndexedCards, card: &SpecCard) -> Option<u64>
+    ensures { result ≡ uses.sum_on source.now card.now.spec }
+{
+    match &card.spec {
+        Spec::Calculation(calculation) if is_own_sum(calculation) => {
+            entry_place(source, &calculation.result_field)
+        }
+        _ => None,
+    }
+}
+
+/// Returns the place of the result field that a card sets, other than by adding to it.
+fn set_by(source: &IndexedCards, calculation: &CalculationSpec) -> Option<u64>
+    ensures { result ≡ uses.set_by source.now calculation.now }
+{
+    if is_own_sum(calculation) {
+        None
+    } else {
+        entry_place(source, &calculation.result_field)
+    }
+}
+
+/// Returns the names that a card sets: by blank after, with a record, with data, or by a calculation that doesn't add to them.
+pub(crate) fn set_on(source: &IndexedCards, card: &SpecCard) -> [Option<u64>; 2]
+    ensures { result ≡ uses.set_on source.now card.now.spec }
+{
+    match &card.spec {
+        Spec::Extension(extension) if extension.entries_per_card.is_some() => {
+            let alternating = table_place(source, &extension.alternating);
+            [own_table(source, extension), alternating]
+        }
+        Spec::Input(InputSpec::Field(field)) => [source.name_place(&field.name), None],
+        Spec::Calculation(calculation) => [set_by(source, calculation), None],
+        Spec::Output(OutputSpec::Field(field)) if field.blank_after => {
+            [entry_place(source, &field.operand), None]
+        }
+        _ => [None, None],
+    }
+}

@@ -1,0 +1,85 @@
+//! Warnings and their kinds.
+
+ghost use Rattle.std.specs.Prelude.{◌≡◌};
+ghost use Rattle.rpg_warnings_lines.specs.Kinds as kinds;
+
+use rpg_cli_values::WarningCode;
+use rpg_sheet_specs::ColumnFault;
+
+/// Why a card has a warning.
+#[derive(Clone, Copy)]
+pub enum WarningKind {
+    /// It tests an indicator that nothing turns on.
+    NeverOn {
+        indicator: u8,
+    },
+    /// It turns on an indicator that no card tests.
+    NeverTested {
+        indicator: u8,
+    },
+    /// Its field has these places of the line, some of which another card's field has
+    /// too.
+    Overlap {
+        first: usize,
+        last: usize,
+        card: u16,
+    },
+    /// Its result has this many digits before the decimal point, and a factor has
+    /// more.
+    Shorter {
+        result: u16,
+        factor: u16,
+    },
+    /// It tests a control level that no field has.
+    NoLevel {
+        indicator: u8,
+    },
+    /// It writes PAGE under conditions.
+    PageConditions,
+    /// It turns on a halt indicator with SETON.
+    SetsHalt {
+        indicator: u8,
+    },
+    /// Its line is written before the first record too.
+    BeforeRecords,
+    /// Its line is written at each total time.
+    EachTotal,
+    /// A total line prints its field, which is added to and never set back.
+    NotReset,
+    /// Nothing reads its result field.
+    Unused,
+    /// Its printer has no overflow indicator.
+    NoOverflow,
+    /// Its device looks like the printer, and is the disk file.
+    NotPrinter,
+}
+
+impl WarningKind {
+    pub const fn code(self) -> WarningCode
+        ensures { result ≡ kinds.code self }
+    {
+        match self {
+            WarningKind::NeverOn { .. } => WarningCode::W1,
+            WarningKind::NeverTested { .. } => WarningCode::W2,
+            WarningKind::Overlap { .. } => WarningCode::W3,
+            WarningKind::Shorter { .. } => WarningCode::W4,
+            WarningKind::NoLevel { .. } => WarningCode::W5,
+            WarningKind::PageConditions => WarningCode::W6,
+            WarningKind::SetsHalt { .. } => WarningCode::W7,
+            WarningKind::BeforeRecords => WarningCode::W8,
+            WarningKind::EachTotal => WarningCode::W9,
+            WarningKind::NotReset => WarningCode::W10,
+            WarningKind::Unused => WarningCode::W11,
+            WarningKind::NoOverflow => WarningCode::W12,
+            WarningKind::NotPrinter => WarningCode::W13,
+        }
+    }
+}
+
+/// A warning at columns of a card.
+#[derive(Clone, Copy)]
+pub struct Warning {
+    pub card: u16,
+    pub columns: ColumnFault,
+    pub kind: WarningKind,
+}
