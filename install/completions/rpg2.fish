@@ -88,5 +88,5 @@ complete -c rpg2 -n '__fish_seen_subcommand_from go' -l allow -x -a 'W1 W2 W3 W4
 complete -c rpg2 -n '__fish_seen_subcommand_from go' -l format -x -a 'text json' -d 'The form of diagnostics and of the answer [default: text] [possible values: text, json]'
 complete -c rpg2 -n '__fish_seen_subcommand_from go' -s q -l quiet -d 'Prints no line if the exit status is 0'
 complete -c rpg2 -n '__fish_seen_subcommand_from go' -s h -l help -d 'Print help'
-complete -c rpg2 -n '__fish_seen_subcommand_from explain' -f -a 'S1 S2 S3 S4 S5 S6 F1 F2 F3 F4 F5 F6 F7 F8 F9 F10 F11 F12 F13 F14 F15 F16 F17 F18 W1 W2 W3 W4 W5 W6 W7 W8 W9 W10 W11 W12 W13 V1 V2 V3 V4 V5 V6 V7 V8 V9 V10 V11 V12 V13 V14 V15 V16 V17 V18 V19 V20 V21 V22 V23 V24 V25 V26 B1 B2 B3 B4 B5 B6 B7 A1 A2 A3 A4 A5 A6 A7 A8 A9 A10 A11 A12 A13 A14 A15 A16 A17 A18 A19 A20 A21 halt'
+complete -c rpg2 -n '__fish_seen_subcommand_from explain' -f -a 'S1 S2 S3 S4 S5 S6 F1 F2 F3 F4 F5 F6 F7 F8 F9 F10 F11 F12 F13 F14 F15 F16 F17 F18 W1 W2 W3 W4 W5 W6 W7 W8 W9 W10 W11 W12 W13 V1 V2 V3 V4 V5 V6 V7 V8 V9 V10 V11 V12 V13 V14 V15 V16 V17 V18 V19 V20 V21 V22 V23 V24 V25 V26 B1 B2 B3 B4 B5 B6 B7 A1 A2 A3 A4 A5 A6 A7 A8 A9 A10 A11 A12 A13 A14 A15 A16 A17 A18 A19 A20 A21 A22 A23 A24 A27 A28 A29 A30 halt'
 complete -c rpg2 -n '__fish_seen_subcommand_from explain; and __fish_prev_arg_in halt' -f -a '1 2 3 4 5 6 7 8'
