@@ -4,8 +4,8 @@
 usage: bench/records.py [RECORDS]        100,000 where it isn't given; RPG2 names the program
 
 It makes decks and records by chance: texts, zoned, packed and binary numbers of all sizes, two record types, the three framings, code page 037
-and ASCII. A converter of its own, over Python's cp037, says which lines and which new deck are wanted, and which records lines go back to. All
-256 bytes are held against the code page. Records of text are compared with `dd conv=ascii` and with `iconv`. Last, `rpg2 records` and
+and ASCII. A converter of its own, over Python's cp037, says which lines and which new deck are wanted, and which records lines go back to. Lines
+with something that has no place must be refused, each for its reason. All 256 bytes are held against the code page. Records of text are compared with `dd conv=ascii` and with `iconv`. Last, `rpg2 records` and
 `iconv | fold` are timed side by side. It prints a line for each comparison; the status is 1 where one differs.
 """
 
@@ -189,6 +189,51 @@ def compare_layout(done, folder, count, page, framing):
     done.same(f"{name}: back", Path(folder, "BACK").read_bytes(), b"".join(word(it[2]) + it[2] for it in made))
 
 
+def damage_by_chance(layout, line):
+    """A line with one thing that has no place, and what is said of it."""
+    numbers = [it for it in layout.types[line[0]] if it.kind in ("packed", "binary")]
+    end, places = layout.length, {}
+    for it in numbers:
+        places[it.name] = end
+        end += it.digits
+    line = list(line.ljust(end + 1))
+    if not numbers:
+        line[end] = "X"
+        return "".join(line), f'column {end + 1}: "X" stands where no digits go'
+    field = RANDOM.choice(numbers)
+    at = places[field.name]
+    told = f"columns {at + 1} to {at + field.digits} (card "
+    kind = RANDOM.choice(["blank", "letter", "character", "short", "after"])
+    if kind == "after":
+        line[end] = "X"
+        return "".join(line), f'column {end + 1}: "X" stands where no digits go'
+    if kind == "character":
+        line[RANDOM.randrange(field.start, field.end)] = "7"
+        return "".join(line), f"columns {field.start + 1} to {field.end} (card "
+    if kind == "letter":
+        line[RANDOM.randrange(at, at + field.digits)] = "?"
+    else:
+        line[at : at + field.digits if kind == "blank" else len(line)] = " " * (field.digits if kind == "blank" else len(line) - at)
+    return "".join(line), told
+
+
+def compare_damaged(done, folder, count):
+    """Lines with one thing that has no place: each is refused, and said where."""
+    wrong = []
+    for _ in range(count):
+        layout = layout_by_chance()
+        lines = [record_by_chance(layout, "ebcdic")[1] for _ in range(3)]
+        damaged, told = damage_by_chance(layout, lines[1].rstrip("\n"))
+        longest = max(layout.width(code) for code in layout.types)
+        told = f"it has more than {longest} bytes" if len(damaged.rstrip(" ")) > longest else told
+        Path(folder, "deck").write_text(layout.deck(), encoding="ascii")
+        Path(folder, "LINES").write_text(lines[0] + damaged.rstrip(" ") + "\n" + lines[2], encoding="ascii")
+        ran = rpg2(folder, "LINES", "REFUSED", "--to", "deck")
+        if ran.stdout != "record 2: refused\n" or not ran.stderr.startswith(f"LINES: line 2: {told}") or Path(folder, "REFUSED").exists():
+            wrong.append(f"{ran.stdout}{ran.stderr} wanted {told}")
+    done.same(f"{count} damaged lines", wrong, [])
+
+
 TEXT_DECK = card(c6="F", c7="MASTER", c15="IP", c19="F", c24="  80", c40="DISK") + card(c6="I", c7="MASTER", c15="AA", c19="01") + card(c6="I", c44="   1  80", c53="TEXT")
 
 
@@ -251,6 +296,7 @@ def main(words):
         for page in ("ebcdic", "ascii"):
             for framing in ([], ["--rdw"]):
                 compare_layout(done, folder, max(1, count // 10), page, framing)
+        compare_damaged(done, folder, 500)
         compare_tools(done, folder, count)
         compare_times(folder, 10 * count)
     sys.exit(1 if done.failed else 0)

@@ -4,7 +4,7 @@ use Rattle.std.proofs.Math.Path.{fun_ext}
 use Rattle.std.specs.List.{list_all}
 use Rattle.std.specs.Option.{option_map}
 use Rattle.std.specs.Prelude.{slice_range}
-use Rattle.rpg_text.specs.Texts.{trimmed}
+use Rattle.rpg_text.specs.Texts.{all_blank, trimmed}
 use Rattle.rpg_records.specs.declared.digits.NumberFault.{NumberFault}
 use Rattle.rpg_records.specs.declared.translation.Page.{Page}
 use Rattle.rpg_records.specs.declared.translation.Page.TheVariants as pages
@@ -16,7 +16,7 @@ use Rattle.rpg_records.specs.declared.layout.RecordType.{RecordType}
 use Rattle.rpg_record_decks.proofs.SeenLemmas.{columns_are_seen}
 use Rattle.rpg_record_lines.specs.Conversions.{Made, ConversionSettings, conversion}
 use Rattle.rpg_record_lines.specs.Lines.{record_characters, line_after, line_of_record, type_and_then, other_line, whole_line_of}
-use Rattle.rpg_record_lines.specs.Numbers.{bytes_of_field, digits_at, digits_in, digits_of_fields, field_bytes, field_outcome, field_text, filled, bytes_of_digits, with_bytes, with_number, with_numbers}
+use Rattle.rpg_record_lines.specs.Numbers.{after_digits, bytes_of_field, bytes_unless_blank, covered_by, digits_at, digits_in, digits_of_fields, field_bytes, field_outcome, field_text, filled, with_bytes, with_number, with_numbers}
 use Rattle.rpg_record_lines.specs.Outcomes.{TextOrFault, text_and_then, joined_texts}
 use Rattle.rpg_record_lines.specs.Records.{bytes_of_characters, checked_record, other_record, record_of_line, typed_record, widened}
 use Rattle.rpg_record_lines.specs.Types.{code_fits_record, first_type, is_card, fits_type}
@@ -133,24 +133,33 @@ line_is_seen page low ts r =
 
 -- ---- bytes of digits
 
-abbrev seen_bytes : NumberSeen → ℕ → List ℕ → Option (List ℕ) → TextOrFault
-seen_bytes s place r (Some bytes) = Ok ((take (s.first - 1) r ++ bytes) ++ drop s.last r)
-seen_bytes s place r None = Err (faults.BadDigits s.card (counted (place + 1)) (counted (place + digits_seen s)))
+abbrev seen_bytes : NumberSeen → ℕ → List ℕ → List ℕ → Option (List ℕ) → TextOrFault
+seen_bytes s place digits r (Some bytes) = Ok ((take (s.first - 1) r ++ bytes) ++ drop s.last r)
+seen_bytes s place digits r None = Err (faults.BadDigits s.card (counted (place + 1)) (counted (place + digits_seen s)) (field_bytes digits))
 
-bytes_are_seen : (f : NumberField) (place : ℕ) (r : List ℕ) (o : Option (List ℕ)) → with_bytes f place r o ≡ seen_bytes (number_seen f) place r o
-bytes_are_seen f place r (Some bytes) = refl
-bytes_are_seen f place r None = refl
+bytes_are_seen : (f : NumberField) (place : ℕ) (digits r : List ℕ) (o : Option (List ℕ)) → with_bytes f place digits r o ≡ seen_bytes (number_seen f) place digits r o
+bytes_are_seen f place digits r (Some bytes) = refl
+bytes_are_seen f place digits r None = refl
+
+abbrev seen_covered : List ℕ → NumberSeen → List ℕ
+seen_covered line s = filled (s.last - s.first + 1) (drop (s.first - 1) line)
+
+abbrev seen_with_digits : NumberSeen → ℕ → List ℕ → List ℕ → TextOrFault
+seen_with_digits s place r digits = seen_bytes s place digits r (bytes_unless_blank s.form (s.last - s.first + 1) digits)
 
 abbrev seen_number : List ℕ → ℕ → List ℕ → NumberSeen → TextOrFault
 seen_number line place r s =
-    if nat_le s.last (length r) then seen_bytes s place r (bytes_of_digits s.form (s.last - s.first + 1) (filled (digits_seen s) (drop place line))) else Err faults.NoType
+    if nat_lt (length r) s.last then Err faults.NoType
+    else if all_blank (seen_covered line s) then seen_with_digits s place r (filled (digits_seen s) (drop place line))
+    else Err (faults.Taken s.card s.first s.last (field_bytes (seen_covered line s)))
 
 number_is_seen : (line : List ℕ) (place : ℕ) (r : List ℕ) (f : NumberField) → with_number line place r f ≡ seen_number line place r (number_seen f)
 number_is_seen line place r f =
-    ap (λ (o : TextOrFault). if nat_le f.last (length r) then o else Err faults.NoType) (bytes_are_seen f place r (bytes_of_digits f.form (field_size f) (digits_at line place f)))
+    ap (λ (o : TextOrFault). if nat_lt (length r) f.last then Err faults.NoType else if all_blank (covered_by line f) then o else Err (faults.Taken f.card f.first f.last (field_bytes (covered_by line f))))
+    (bytes_are_seen f place (digits_at line place f) r (bytes_unless_blank f.form (field_size f) (digits_at line place f)))
 
 abbrev seen_numbers : List ℕ → List NumberSeen → ℕ → List ℕ → TextOrFault
-seen_numbers line [] place r = if nat_lt place (length line) then Err (faults.TooLong (length line)) else Ok r
+seen_numbers line [] place r = after_digits line place r
 seen_numbers line (s ∷ ss) place r = text_and_then (seen_number line place r s) (seen_numbers line ss (counted (place + digits_seen s)))
 
 numbers_are_seen : (line : List ℕ) (fs : List NumberField) (place : ℕ) (r : List ℕ) → with_numbers line fs place r ≡ seen_numbers line (map number_seen fs) place r

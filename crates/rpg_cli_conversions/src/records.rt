@@ -1,6 +1,6 @@
 //! The command that converts records to lines, and such lines to records.
 
-use crate::refused::{deck_message, record_message};
+use crate::refused::{RefusedRecord, deck_message, record_message};
 use rpg_cli_answers::{
     Answer, CommandStop, Listener, NamedFile, named, refuse_replacing, refuse_same_file,
     report_in_place, report_placed, report_refusal,
@@ -227,8 +227,13 @@ fn early_answer<L: Listener>(
             offset,
             fault,
         } => {
-            let path = request.file(FileArgument::In);
-            let message = record_message(alloc, path, number, offset, fault);
+            let refused = RefusedRecord {
+                way: request.way,
+                number,
+                offset,
+                fault,
+            };
+            let message = record_message(alloc, request.file(FileArgument::In), refused);
             report_refusal(listener, message);
             Answer::RecordRefused { number }
         }

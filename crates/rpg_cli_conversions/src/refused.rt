@@ -1,8 +1,10 @@
 //! The diagnostics for a deck or a record that is rejected.
 
 use rpg_cli_text::TextWriter;
+use rpg_cli_words::RecordsWay;
 use rpg_record_decks::{CardFault, DeckFault};
 use rpg_record_lines::{NumberFault, RecordFault};
+use rpg_text::is_blank;
 use std::alloc::{AllocError, Global};
 
 /// The hexadecimal digits.
@@ -100,6 +102,23 @@ fn write_columns(out: &mut TextWriter, first: usize, last: usize, card: u16) {
     );
 }
 
+/// Writes characters of a line in quotation marks.
+fn write_quoted(out: &mut TextWriter, characters: &[u8]) {
+    out.write_char('"');
+    out.write_shown(characters);
+    out.write_char('"');
+}
+
+/// Writes why digits aren't a number.
+fn write_no_number(out: &mut TextWriter, digits: &[u8]) {
+    if is_blank(digits) {
+        out.write_str("blank");
+    } else {
+        write_quoted(out, digits);
+    }
+    out.write_str(": no number");
+}
+
 fn write_no_character(out: &mut TextWriter, column: usize, byte: u8) {
     write_count(out, "column {}: ", column);
     write_bytes(out, &[byte]);
@@ -141,26 +160,57 @@ fn write_record_fault(out: &mut TextWriter, fault: RecordFault) {
         }
         RecordFault::OtherLine { card, other } => write_types(out, "bytes", card, "line", other),
         RecordFault::OtherRecord { card, other } => write_types(out, "line", card, "bytes", other),
-        RecordFault::BadDigits { card, first, last } => {
+        RecordFault::BadDigits {
+            card,
+            first,
+            last,
+            digits,
+        } => {
             write_columns(out, first, last, card);
-            out.write_str("no number");
+            write_no_number(out, digits.as_slice());
+        }
+        RecordFault::Taken {
+            card,
+            first,
+            last,
+            characters,
+        } => {
+            write_columns(out, usize::from(first), usize::from(last), card);
+            write_quoted(out, characters.as_slice());
+            out.write_str(": characters where a packed field goes");
+        }
+        RecordFault::NoPlace { column, byte } => {
+            write_count(out, "column {}: ", column);
+            write_quoted(out, &[byte]);
+            out.write_str(" stands where no digits go");
         }
         RecordFault::TooMany => out.write_str("a file has at most 10,000,000 records"),
     }
 }
 
-/// Returns what is wrong with a record or a line of the file `path`. Records are numbered from 1, bytes from 0.
+/// A record or a line of a file that is rejected. Records and lines are numbered from 1, bytes from 0.
+#[derive(Clone, Copy)]
+pub(crate) struct RefusedRecord {
+    pub way: RecordsWay,
+    pub number: u64,
+    pub offset: u64,
+    pub fault: RecordFault,
+}
+
+/// Returns what is wrong with a record or a line of the file `path`.
 pub(crate) fn record_message(
     alloc: Global,
     path: &str,
-    number: u64,
-    offset: u64,
-    fault: RecordFault,
+    refused: RefusedRecord,
 ) -> Result<String, AllocError> {
     let mut out = TextWriter::new(alloc);
     out.write_shown(path.as_bytes());
-    out.fill(": record {} at byte {}: ", &[number.into(), offset.into()]);
-    write_record_fault(&mut out, fault);
+    let (number, offset) = (refused.number.into(), refused.offset.into());
+    match refused.way {
+        RecordsWay::ToLines => out.fill(": record {} at byte {}: ", &[number, offset]),
+        RecordsWay::ToRecords => out.fill(": line {}: ", &[number]),
+    }
+    write_record_fault(&mut out, refused.fault);
     out.write_char('\n');
     out.finish()
 }

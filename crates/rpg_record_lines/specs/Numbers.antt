@@ -1,5 +1,6 @@
 -- The digits of a record's packed and binary fields, and the bytes of such digits.
-use Rattle.std.specs.Prelude.{ℕ, ◌+◌, ◌-◌, ◌∷◌, min, nat_le, nat_lt, if◌then◌else◌, List, [], ◌++◌, drop, length, replicate, slice_range, take, Option, Some, None, Result, Ok, Err}
+use Rattle.std.specs.Prelude.{◌≡◌, ℕ, false, ◌+◌, ◌-◌, ◌∷◌, min, nat_le, nat_lt, not, if◌then◌else◌, List, [], ◌++◌, drop, length, position, replicate, slice_index, slice_range, take, Option, Some, None, Result, Ok, Err}
+use Rattle.rpg_text.specs.Texts.{all_blank, is_blank}
 use Rattle.rpg_records.specs.Unpacked.{binary_text, bytes_of_binary_text, bytes_of_packed_text, packed_text}
 use Rattle.rpg_records.specs.declared.digits.NumberFault.{NumberFault}
 use Rattle.rpg_records.specs.declared.digits.NumberFault.TheVariants as numbers
@@ -7,6 +8,7 @@ use Rattle.rpg_records.specs.Fields.{digit_count}
 use Rattle.rpg_records.specs.Sizes.{counted, field_digits, field_size}
 use Rattle.rpg_record_lines.specs.Outcomes.{TextOrFault, text_and_then, joined_texts, some_or}
 use Rattle.rpg_record_lines.specs.declared.fault.FieldBytes.{FieldBytes}
+use Rattle.rpg_record_lines.specs.declared.fault.RecordFault.{RecordFault}
 use Rattle.rpg_record_lines.specs.declared.fault.RecordFault.TheVariants as faults
 use Rattle.rpg_records.specs.declared.layout.NumberField.{NumberField}
 use Rattle.rpg_records.specs.declared.layout.NumberForm.{NumberForm}
@@ -19,9 +21,9 @@ abbrev pub digits_in : NumberForm → List ℕ → Result (List ℕ) NumberFault
 digits_in forms.Packed bytes = some_or numbers.NotPacked (packed_text bytes)
 digits_in forms.Binary bytes = some_or numbers.TooLarge (binary_text (digit_count forms.Binary (length bytes)) bytes)
 
--- the first 8 bytes of a field, and how many it has
+-- the first 15 bytes of a field, and how many it has
 abbrev pub field_bytes : List ℕ → FieldBytes
-field_bytes bytes = record { bytes = take 8 bytes ++ replicate (8 - length bytes) 0; len = min (length bytes) 8 }
+field_bytes bytes = record { bytes = take 15 bytes ++ replicate (15 - length bytes) 0; len = min (length bytes) 15 }
 
 -- digits, or what is wrong with the field of these bytes
 abbrev pub field_outcome : NumberField → List ℕ → Result (List ℕ) NumberFault → TextOrFault
@@ -49,6 +51,10 @@ abbrev pub bytes_of_digits : NumberForm → ℕ → List ℕ → Option (List �
 bytes_of_digits forms.Packed k digits = bytes_of_packed_text k digits
 bytes_of_digits forms.Binary k digits = bytes_of_binary_text k digits
 
+-- the same, where blanks alone are no number
+abbrev pub bytes_unless_blank : NumberForm → ℕ → List ℕ → Option (List ℕ)
+bytes_unless_blank form k digits = if all_blank digits then None else bytes_of_digits form k digits
+
 -- a text in n columns: blanks follow its end
 abbrev pub filled : ℕ → List ℕ → List ℕ
 filled n text = take n text ++ replicate (n - length text) 32
@@ -57,17 +63,40 @@ filled n text = take n text ++ replicate (n - length text) 32
 abbrev pub digits_at : List ℕ → ℕ → NumberField → List ℕ
 digits_at line place f = filled (field_digits f) (drop place line)
 
--- a record with a field's bytes, or what is wrong with the digits at this place of the line
-abbrev pub with_bytes : NumberField → ℕ → List ℕ → Option (List ℕ) → TextOrFault
-with_bytes f place record_bytes (Some bytes) = Ok ((take (f.first - 1) record_bytes ++ bytes) ++ drop f.last record_bytes)
-with_bytes f place record_bytes None = Err (faults.BadDigits f.card (counted (place + 1)) (counted (place + field_digits f)))
+-- what a line has in the field's own columns, which must be blank
+abbrev pub covered_by : List ℕ → NumberField → List ℕ
+covered_by line f = filled (field_size f) (drop (f.first - 1) line)
 
--- a record, which must have the field, with the bytes of a line's digits
+-- a record with a field's bytes, or what is wrong with these digits at a place of the line
+abbrev pub with_bytes : NumberField → ℕ → List ℕ → List ℕ → Option (List ℕ) → TextOrFault
+with_bytes f place digits record_bytes (Some bytes) = Ok ((take (f.first - 1) record_bytes ++ bytes) ++ drop f.last record_bytes)
+with_bytes f place digits record_bytes None = Err (faults.BadDigits f.card (counted (place + 1)) (counted (place + field_digits f)) (field_bytes digits))
+
+-- a record with the bytes of digits, at this place of the line
+abbrev pub with_digits : NumberField → ℕ → List ℕ → List ℕ → TextOrFault
+with_digits f place record_bytes digits = with_bytes f place digits record_bytes (bytes_unless_blank f.form (field_size f) digits)
+
+-- a line has characters in the field's own columns, and the fault says which
+abbrev pub IsTaken : List ℕ → NumberField → RecordFault → Type 0
+IsTaken line f fault = (all_blank (covered_by line f) ≡ false) × (fault ≡ faults.Taken f.card f.first f.last (field_bytes (covered_by line f)))
+
+-- a record, which must have the field, with the bytes of a line's digits; no character may stand in the field's own columns
 abbrev pub with_number : List ℕ → ℕ → List ℕ → NumberField → TextOrFault
 with_number line place record_bytes f =
-    if nat_le f.last (length record_bytes) then with_bytes f place record_bytes (bytes_of_digits f.form (field_size f) (digits_at line place f)) else Err faults.NoType
+    if nat_lt (length record_bytes) f.last then Err faults.NoType
+    else if all_blank (covered_by line f) then with_digits f place record_bytes (digits_at line place f)
+    else Err (faults.Taken f.card f.first f.last (field_bytes (covered_by line f)))
+
+-- a record, unless this place after the last digits of a line has a character
+abbrev pub unless_left : List ℕ → ℕ → List ℕ → Option ℕ → TextOrFault
+unless_left rest place record_bytes None = Ok record_bytes
+unless_left rest place record_bytes (Some k) = Err (faults.NoPlace (counted (counted (place + k) + 1)) (slice_index rest k))
+
+-- a record, if its line has blanks alone from this place on
+abbrev pub after_digits : List ℕ → ℕ → List ℕ → TextOrFault
+after_digits line place record_bytes = unless_left (drop place line) place record_bytes (position (λ c. not (is_blank c)) (drop place line))
 
 -- a record with the bytes of all digits, in sequence from a place of a line to its end
 abbrev pub with_numbers : List ℕ → List NumberField → ℕ → List ℕ → TextOrFault
-with_numbers line [] place record_bytes = if nat_lt place (length line) then Err (faults.TooLong (length line)) else Ok record_bytes
+with_numbers line [] place record_bytes = after_digits line place record_bytes
 with_numbers line (f ∷ fs) place record_bytes = text_and_then (with_number line place record_bytes f) (with_numbers line fs (counted (place + field_digits f)))

@@ -3,10 +3,10 @@
 pub use rpg_records::NumberFault;
 use std::alloc::AllocError;
 
-/// The bytes of a field.
+/// The bytes of a field, or the characters of a line where it goes.
 #[derive(Clone, Copy)]
 pub struct FieldBytes {
-    bytes: [u8; 8],
+    bytes: [u8; 15],
     len: usize,
 }
 
@@ -14,12 +14,12 @@ impl FieldBytes {
     ghost use Rattle.std.specs.Prelude.{◌≡◌};
     ghost use Rattle.rpg_record_lines.specs.Numbers.{field_bytes};
 
-    /// Keeps the first 8 bytes at most.
+    /// Keeps the first 15 bytes at most.
     pub(crate) fn new(given: &[u8]) -> Self
         ensures { result ≡ field_bytes given.now }
     {
-        let len = given.len().min(8);
-        let mut bytes = [0; 8];
+        let len = given.len().min(15);
+        let mut bytes = [0; 15];
         bytes[..len].copy_from_slice(&given[..len]);
         FieldBytes { bytes, len }
     }
@@ -73,11 +73,24 @@ pub enum RecordFault {
         card: u16,
         other: Option<u16>,
     },
-    /// Digits of a line aren't a number. Columns are counted from 1.
+    /// Digits of a line are blank, or aren't a number. Columns are counted from 1.
     BadDigits {
         card: u16,
         first: usize,
         last: usize,
+        digits: FieldBytes,
+    },
+    /// A line has characters in the columns of a packed or binary field.
+    Taken {
+        card: u16,
+        first: u16,
+        last: u16,
+        characters: FieldBytes,
+    },
+    /// A line has a character after its digits. Columns are counted from 1.
+    NoPlace {
+        column: usize,
+        byte: u8,
     },
     /// It is record 10,000,001.
     TooMany,
