@@ -130,10 +130,11 @@ impl<'a> NewFiles<'a> {
 
     /// Reports what other runs left beside the files.
     fn report_taken<L: Listener>(&self, alloc: Global, listener: &mut L) {
-        for new in [&self.lines, &self.deck] {
-            if let Some(new) = new {
-                new.report_taken(alloc, listener);
-            }
+        if let Some(lines) = &self.lines {
+            lines.report_taken(alloc, listener);
+        }
+        if let Some(deck) = &self.deck {
+            deck.report_taken(alloc, listener);
         }
     }
 
