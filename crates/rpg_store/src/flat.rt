@@ -67,6 +67,18 @@ fn bytes_in(fields: &[FieldForm]) -> usize
     total
 }
 
+/// Returns the slot of a field whose entries begin at a place.
+fn slot_from(form: FieldForm, first: usize) -> Slot
+    requires { first ≤ 65535 }
+    ensures { result ≡ record { form = form; first = first; current = 1 } }
+{
+    Slot {
+        form,
+        first: first as u16,
+        current: 1,
+    }
+}
+
 /// Returns the table of these fields, with numbers before texts.
 #[tactic(auto, using(crate::proofs::Storage::all_bytes))]
 fn area_slots_of(
@@ -83,24 +95,13 @@ fn area_slots_of(
     let mut text = digits;
     for form in fields {
         let bytes = form.length as usize * form.entries as usize;
-        let form = *form;
         match form.kind {
             Kind::Number => {
-                let first = number as u16;
-                slots.push(Slot {
-                    form,
-                    first,
-                    current: 1,
-                })?;
+                slots.push(slot_from(*form, number))?;
                 number += bytes;
             }
             Kind::Text => {
-                let first = text as u16;
-                slots.push(Slot {
-                    form,
-                    first,
-                    current: 1,
-                })?;
+                slots.push(slot_from(*form, text))?;
                 text += bytes;
             }
         }
