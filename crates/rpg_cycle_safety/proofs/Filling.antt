@@ -18,7 +18,7 @@ use Rattle.rpg_program.specs.declared.input.InputField.{InputField}
 use Rattle.rpg_cycle_safety.proofs.Acting.{read_fits}
 use Rattle.rpg_cycle_safety.proofs.Writing.{followed_keeps, gives, number_written, or_halts, plain_may, same_fields, text_written}
 use Rattle.rpg_cycle_safety.specs.Holding.{Holds, KeepsData}
-use Rattle.rpg_machine_lines.proofs.Filling.{fits_field, long_there, value_there}
+use Rattle.rpg_machine_inputs.proofs.Filling.{fits_field, long_there, value_there}
 use Rattle.rpg_memory.proofs.Entries.{and_true}
 use Rattle.rpg_memory.specs.Fields.{AreForms, IsValue}
 use Rattle.rpg_program.specs.Kept.{IsCharacter}

@@ -10,7 +10,7 @@ use crate::output::write_line_out;
 use crate::section::run_section;
 use crate::state::{State, Writer};
 use crate::time::OutputTime;
-use rpg_machine_lines::inputs::fill_all;
+use rpg_machine_inputs::inputs::fill_all;
 use rpg_machine_lines::{Entries, Output};
 use rpg_memory::memory::Memory;
 use rpg_program::outcome::End;

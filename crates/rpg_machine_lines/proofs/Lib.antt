@@ -2,17 +2,14 @@ pub mod AllLines
 pub mod Assembling
 pub mod Entering
 pub mod Fields
-pub mod Filling
 pub mod Following
 pub mod Growing
-pub mod InputEntries
 pub mod Keeping
 pub mod Left
 pub mod Moving
 pub mod Needs
 pub mod OneLine
 pub mod Operands
-pub mod Pairs
 pub mod PassLines
 pub mod Passages
 pub mod Planned

@@ -17,7 +17,7 @@ use Rattle.rpg_program.specs.declared.form.FieldForm.{FieldForm}
 use Rattle.rpg_program.specs.declared.line.LineField.{LineField}
 use Rattle.rpg_program.specs.declared.operation.Entry.{Entry}
 use Rattle.rpg_machine_lines.proofs.Operands.{AreFit, entry_named}
-use Rattle.rpg_machine_lines.proofs.Pairs.{pair_at}
+use Rattle.rpg_memory.proofs.Pairs.{pair_at}
 use Rattle.rpg_machine_lines.specs.Drafts.{counted_in, drafted_in, field_text_in, with_field_in}
 use Rattle.rpg_machine_lines.specs.Entries.{IsFieldEntry}
 use Rattle.rpg_machine_lines.specs.Plans.{IsFixedField, IsPlanOf, IsPlannedLine}

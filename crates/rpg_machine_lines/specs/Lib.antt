@@ -1,7 +1,5 @@
 pub mod Drafts
 pub mod Entries
-pub mod FixedInputs
-pub mod Inputs
 pub mod Outputs
 pub mod PassLines
 pub mod Passages

@@ -1,11 +1,11 @@
 //! Fields of lines: how they are edited, their text in the line, PAGE, and blank after.
-ghost use Rattle.std.specs.Prelude.{◌≡◌, ◌+◌, ◌-◌, ◌≤◌, ◌<◌, ◌^◌, ◌++◌, Some, length, take, unsigned_abs, replicate, true};
+ghost use Rattle.std.specs.Prelude.{◌≡◌, ◌+◌, ◌≤◌, ◌<◌, ◌^◌, Some, length, unsigned_abs, replicate, true};
 ghost use Rattle.rpg_edit_marks.specs.How.{edited, width_of};
-ghost use Rattle.rpg_edit_marks.specs.Word.{word_marks, worded};
+ghost use Rattle.rpg_edit_marks.specs.Word.{word_marks};
 ghost use Rattle.rpg_program.specs.Forms as forms;
 ghost use Rattle.rpg_program.specs.LineFaults as faults;
 ghost use Rattle.rpg_program.specs.Lines as lines;
-ghost use Rattle.rpg_machine_lines.specs.Drafts.{counted_in, field_text_in, fields_replaced, how_in};
+ghost use Rattle.rpg_machine_lines.specs.Drafts.{counted_in, field_text_in, fields_replaced, how_in, with_word_at_end};
 ghost use Rattle.rpg_machine_lines.specs.Entries.{AreFieldEntries, IsEditableForm, IsFieldEntry};
 ghost use Rattle.rpg_machine_lines.specs.Right.{FitsEditing, IsRightField};
 ghost use Rattle.rpg_program.specs.Constants as constants;
@@ -52,7 +52,7 @@ fn write_by_word(
     requires fits { faults.fits_word digits (constants.word_at (seen rows.now) constant) ≡ true }
     requires room { length (word_marks (constants.word_at (seen rows.now) constant)) ≤ length line.old }
     ensures start { result + length (word_marks (constants.word_at (seen rows.now) constant)) ≡ length line.old }
-    ensures text { let word = constants.word_at (seen rows.now) constant in line.new ≡ take (length line.old - length (word_marks word)) line.old ++ worded n word }
+    ensures text { line.new ≡ with_word_at_end line.old n (constants.word_at (seen rows.now) constant) }
 {
     match words.of(constant, word_at(rows, constant)) {
         Some(word) => write_worded(n, word, line),

@@ -1,13 +1,11 @@
-//! Output and input of an object program over any store. Output lines are assembled in one buffer, edited, and placed on the form or
-//! written as records. Columns of a record are moved to input fields.
+//! Output of an object program over any store. Output lines are assembled in one buffer, edited, and placed on the form or
+//! written as records.
 #![tactic(auto)]
 
 mod assembly;
 pub mod bytes;
 mod entries;
 mod field;
-pub mod fixed_inputs;
-pub mod inputs;
 mod line;
 pub mod outputs;
 mod pass;

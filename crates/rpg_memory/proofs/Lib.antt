@@ -4,6 +4,7 @@ pub mod Fitting
 pub mod Fixing
 pub mod Keeping
 pub mod MarkedLemmas
+pub mod Pairs
 pub mod Programs
 pub mod Silent
 pub mod Values

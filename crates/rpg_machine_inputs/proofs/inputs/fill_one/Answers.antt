@@ -1,7 +1,7 @@
 use Rattle.std.proofs.Common.{◌∙◌, sym, length}
 use Rattle.rpg_program.specs.declared.form.Kind.TheVariants as kinds
-use Rattle.rpg_machine_lines.proofs.Filling.{field_filled, fits_field, long_there, value_there}
-use Rattle.rpg_machine_lines.proofs.inputs.fill_one.Goals as goal
+use Rattle.rpg_machine_inputs.proofs.Filling.{field_filled, fits_field, long_there, value_there}
+use Rattle.rpg_machine_inputs.proofs.inputs.fill_one.Goals as goal
 
 pub columns_of-part-requires : goal.columns_of-part-requires
 columns_of-part-requires g c =

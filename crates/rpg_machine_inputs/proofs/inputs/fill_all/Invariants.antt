@@ -1,9 +1,9 @@
 use Rattle.std.proofs.Common.{◌≡◌, None, length}
 use Rattle.std.specs.List.{All}
 use Rattle.rpg_program.specs.Input.{input_fault, record_in}
-use Rattle.rpg_machine_lines.specs.FixedInputs.{AreFixedInputs}
+use Rattle.rpg_machine_inputs.specs.FixedInputs.{AreFixedInputs}
 use Rattle.rpg_memory.specs.Memory.{data_put, forms_in}
-use Rattle.rpg_machine_lines.proofs.inputs.fill_all.Given as goal
+use Rattle.rpg_machine_inputs.proofs.inputs.fill_all.Given as goal
 
 abbrev pub invariant-fields : goal.invariant-fields
 invariant-fields g l =

@@ -10,8 +10,8 @@ use Rattle.rpg_program.specs.World.{Data}
 use Rattle.rpg_program.specs.declared.form.FieldForm.{FieldForm}
 use Rattle.rpg_program.specs.declared.form.Kind.{Kind}
 use Rattle.rpg_program.specs.declared.input.InputField.{InputField}
-use Rattle.rpg_machine_lines.specs.FixedInputs.{IsFixedInput}
-use Rattle.rpg_machine_lines.specs.declared.fixed_inputs.FixedInput.{FixedInput}
+use Rattle.rpg_machine_inputs.specs.FixedInputs.{IsFixedInput}
+use Rattle.rpg_machine_inputs.specs.declared.fixed_inputs.FixedInput.{FixedInput}
 use Rattle.rpg_memory.specs.Fields.{IsValue}
 
 -- how a text compares with zero

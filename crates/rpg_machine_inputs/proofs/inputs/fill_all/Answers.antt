@@ -1,10 +1,10 @@
 use Rattle.std.proofs.Common.{◌≡◌, None, ◌∙◌, ap, length, refl}
 use Rattle.std.proofs.lemmas.List.Elements.{All-rest}
 use Rattle.rpg_program.specs.Input.{input_fault}
-use Rattle.rpg_machine_lines.proofs.Filling.{field_next}
-use Rattle.rpg_machine_lines.proofs.InputEntries.{inputs_after_first}
+use Rattle.rpg_machine_inputs.proofs.Filling.{field_next}
+use Rattle.rpg_machine_inputs.proofs.InputEntries.{inputs_after_first}
 use Rattle.rpg_memory.specs.Memory.{data_put, forms_in}
-use Rattle.rpg_machine_lines.proofs.inputs.fill_all.Goals as goal
+use Rattle.rpg_machine_inputs.proofs.inputs.fill_all.Goals as goal
 
 pub fields-init : goal.fields-init
 fields-init g c = record {

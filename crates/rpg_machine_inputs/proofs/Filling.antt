@@ -12,7 +12,7 @@ use Rattle.rpg_program.specs.declared.input.InputField.{InputField}
 use Rattle.rpg_program.specs.declared.outcome.End as rust
 use Rattle.rpg_program.specs.declared.outcome.End.TheVariants as answers
 use Rattle.rpg_memory.proofs.Entries.{and_true}
-use Rattle.rpg_machine_lines.specs.Inputs.{filled_field}
+use Rattle.rpg_machine_inputs.specs.Inputs.{filled_field}
 use Rattle.rpg_memory.proofs.Silent.{nothing_shown, nothing_shown_if_any}
 use Rattle.rpg_memory.proofs.Values.{length_high, length_low}
 use Rattle.rpg_memory.specs.Fields.{AreForms, IsValue}

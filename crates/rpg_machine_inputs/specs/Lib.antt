@@ -1,0 +1,2 @@
+pub mod FixedInputs
+pub mod Inputs

@@ -1,0 +1,5 @@
+//! Input of an object program over any store: columns of a record are moved to input fields.
+#![tactic(auto)]
+
+pub mod fixed_inputs;
+pub mod inputs;
