@@ -38,7 +38,7 @@ def counts_of(job, folder):
     counts = {}
     for inputs, sign in ((job.more, 1), (job.few, -1)):
         out = os.path.join(folder, "callgrind")
-        words = running.words_for(job.programs["rpg2"], folder, inputs, os.path.join(folder, "print"))
+        words = running.words_for(job.programs["rpg2"], folder, inputs, running.new_print(folder))
         flags = ["--tool=callgrind", "--dump-instr=yes", "--compress-pos=no", "--compress-strings=no", f"--callgrind-out-file={out}"]
         subprocess.run(["valgrind", *flags, *words], capture_output=True, check=True)
         with open(out, encoding="utf-8") as report:

@@ -192,10 +192,16 @@ def records_in(inputs):
     return sum(map(len, inputs.values()))
 
 
+def new_print(folder):
+    """The path of a print that isn't there yet."""
+    return os.path.join(tempfile.mkdtemp(dir=folder), "print")
+
+
 def instructions_a_record(job, program, folder):
     if not shutil.which("valgrind"):
         return None
-    few, more = (counted(words_for(program, folder, it, os.path.join(folder, "some.print"))) for it in (job.few, job.more))
+    # Each of the two prints to a new file: what replacing one takes isn't a record's.
+    few, more = (counted(words_for(program, folder, it, new_print(folder))) for it in (job.few, job.more))
     return (more - few) / (records_in(job.more) - records_in(job.few))
 
 
