@@ -29,6 +29,10 @@ least place ms = least_with place 65535 ms
 abbrev pub least_at : ℕ → List ℕ → ℕ
 least_at place values = slice_index_or values place 65535
 
+-- each name has the lesser of its old value and the least of these
+abbrev pub Lowers : List Mark → List ℕ → List ℕ → Type 0
+Lowers ms old new = (place : ℕ) → least_at place new ≡ least_with place (least_at place old) ms
+
 -- the least value of each name is at its place
 abbrev pub AreLeast : List ℕ → List Mark → Type 0
-AreLeast values ms = (place : ℕ) → least_at place values ≡ least place ms
+AreLeast values ms = Lowers ms [] values

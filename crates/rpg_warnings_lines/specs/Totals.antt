@@ -1,5 +1,5 @@
 -- The fields of total lines, and the control levels of their lines.
-use Rattle.std.specs.Prelude.{ℕ, ◌-◌, List, [], ◌∷◌, ◌++◌, Bool, true, false, not, ◌&&◌, nat_le, Option, None, Some, if◌then◌else◌}
+use Rattle.std.specs.Prelude.{ℕ, ◌-◌, List, [], ◌∷◌, ◌++◌, Bool, true, false, not, ◌&&◌, nat_le, max, min, Option, None, Some, if◌then◌else◌}
 use Rattle.std.specs.Option.{option_and_then, option_map_or}
 use Rattle.rpg_cards.specs.Cards.{output_field_on, output_on}
 use Rattle.rpg_cards.specs.declared.spec_card.SpecCard.{SpecCard}
@@ -19,14 +19,6 @@ use Rattle.rpg_warnings_lines.specs.declared.totals.LineSoFar.{LineSoFar}
 use Rattle.rpg_warnings_lines.specs.declared.totals.Noted.{Noted}
 use Rattle.rpg_warnings_lines.specs.declared.totals.Noted.TheVariants as noted
 
--- the greater of two
-abbrev pub greater : ℕ → ℕ → ℕ
-greater a b = if nat_le a b then b else a
-
--- the lesser of two
-abbrev pub lesser : ℕ → ℕ → ℕ
-lesser a b = if nat_le a b then a else b
-
 -- the control level L1 to L9 that a condition waits for; 0 if it waits for none
 abbrev pub level_by : ConditionSpec → ℕ
 level_by c = if not c.negated && nat_le 101 c.indicator && nat_le c.indicator 109 then c.indicator - 100 else 0
@@ -37,7 +29,7 @@ level_of c = option_map_or level_by c 0
 
 -- the greatest of three conditions
 abbrev pub level_in : Three (Option ConditionSpec) → ℕ
-level_in t = greater (level_of t.first) (greater (level_of t.second) (level_of t.third))
+level_in t = max (level_of t.first) (max (level_of t.second) (level_of t.third))
 
 -- a line of type T
 abbrev pub is_total : LineTime → Bool
@@ -53,8 +45,8 @@ begun r = record { is_total = is_total r.time; least = 65535; own = level_in r.c
 -- the line with one more card: an AND card goes on with the last alternative, an OR card begins one
 abbrev pub line_by : LineSoFar → OutputSpec → LineSoFar
 line_by s (output.Record r) = begun r
-line_by s (output.And t) = record { is_total = s.is_total; least = s.least; own = greater s.own (level_in t) }
-line_by s (output.Or t) = record { is_total = s.is_total; least = lesser s.least s.own; own = level_in t }
+line_by s (output.And t) = record { is_total = s.is_total; least = s.least; own = max s.own (level_in t) }
+line_by s (output.Or t) = record { is_total = s.is_total; least = min s.least s.own; own = level_in t }
 line_by s (output.Field f) = s
 
 -- the same for any card
@@ -68,7 +60,7 @@ total_place cards s c = option_and_then (λ (f : OutputField). if s.is_total the
 -- the field's card, or the least level that an alternative of its line waits for
 abbrev pub value_of : Noted → LineSoFar → SpecCard → ℕ
 value_of noted.Card s c = c.number
-value_of noted.Level s c = lesser s.least s.own
+value_of noted.Level s c = min s.least s.own
 
 -- the names that total lines print, after these cards of a line
 abbrev pub totals_from : Noted → List SpecCard → LineSoFar → List SpecCard → List Mark

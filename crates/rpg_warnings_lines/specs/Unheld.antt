@@ -1,6 +1,6 @@
 -- W8 and W9: which lines no condition keeps back.
-use Rattle.std.specs.Prelude.{List, [], ◌∷◌, ◌++◌, Option, None, Some, if◌then◌else◌}
-use Rattle.std.specs.Option.{option_and_then, option_map, option_to_list}
+use Rattle.std.specs.Prelude.{List, Option, None, Some, if◌then◌else◌}
+use Rattle.std.specs.Option.{option_and_then, option_map}
 use Rattle.rpg_cards.specs.Cards.{output_record_on}
 use Rattle.rpg_cards.specs.declared.spec_card.SpecCard.{SpecCard}
 use Rattle.rpg_sheet_specs.specs.declared.column.ColumnFault.{ColumnFault}
@@ -43,12 +43,3 @@ unheld_warning c k = record { card = c.number; columns = condition_columns; kind
 -- the warning about a card, given those after it
 abbrev pub unheld_on : SpecCard → List SpecCard → Option Warning
 unheld_on c cs = option_map (unheld_warning c) (option_and_then (λ r. unheld r cs) (output_record_on c.spec))
-
--- the same as a list
-abbrev pub warned_on : SpecCard → List SpecCard → List Warning
-warned_on c cs = option_to_list (unheld_on c cs)
-
--- the lines that nothing keeps back
-abbrev pub unheld_from : List SpecCard → List Warning
-unheld_from [] = []
-unheld_from (c ∷ cs) = warned_on c cs ++ unheld_from cs

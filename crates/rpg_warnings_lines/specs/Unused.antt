@@ -1,20 +1,29 @@
 -- W11: which results nothing reads.
-use Rattle.std.specs.Prelude.{ℕ, List, [], ◌∷◌, ◌++◌, ◌&&◌, ◌==◌, Option, None, Some, if◌then◌else◌}
+use Rattle.std.specs.Prelude.{ℕ, List, [], ◌∷◌, ◌++◌, Bool, not, ◌&&◌, ◌==◌, Option, None, Some, if◌then◌else◌}
 use Rattle.std.specs.List.{filter_map}
 use Rattle.rpg_cards.specs.declared.spec_card.SpecCard.{SpecCard}
 use Rattle.rpg_sheet_specs.specs.declared.column.ColumnFault.{ColumnFault}
 use Rattle.rpg_warnings_lines.specs.Marks.{AreLeast, least, least_at, mark_of, marks_of}
-use Rattle.rpg_warnings_lines.specs.Uses.{read_on, result_on}
+use Rattle.rpg_warnings_lines.specs.Uses.{printed_on, read_on, result_on}
 use Rattle.rpg_warnings_lines.specs.declared.marks.Mark.{Mark}
 use Rattle.rpg_warnings_lines.specs.declared.unused.FirstResults.{FirstResults}
 use Rattle.rpg_warnings_lines.specs.declared.warning.Warning.{Warning}
 use Rattle.rpg_warnings_lines.specs.declared.warning.WarningKind.TheVariants as kind
 
 module _ (cards : List SpecCard) where
-  -- the names that these cards read, with the cards
+  -- the names that lines print on these cards, with the cards
+  abbrev pub printed_from : List SpecCard → List Mark
+  printed_from [] = []
+  printed_from (c ∷ cs) = marks_of c.number (printed_on cards c.spec) ++ printed_from cs
+
+  -- the names that these cards read otherwise, with the cards
   abbrev pub read_from : List SpecCard → List Mark
   read_from [] = []
   read_from (c ∷ cs) = marks_of c.number (read_on cards c.spec) ++ read_from cs
+
+  -- all names that cards print or read, with the cards
+  abbrev pub all_read : List Mark
+  all_read = printed_from cards ++ read_from cards
 
   -- the result fields of these cards, with the cards
   abbrev pub results_from : List SpecCard → List Mark
@@ -23,7 +32,7 @@ module _ (cards : List SpecCard) where
 
   -- the first card that reads a name; 65535 if none does
   abbrev pub first_read : ℕ → ℕ
-  first_read place = least place (read_from cards)
+  first_read place = least place all_read
 
   -- the first card with this result field
   abbrev pub first_set : ℕ → ℕ
@@ -31,7 +40,7 @@ module _ (cards : List SpecCard) where
 
   -- the first cards of all names
   pub record AreFirst (firsts : FirstResults) : Type 0 where
-    pub read : AreLeast firsts.read.items (read_from cards)
+    pub read : AreLeast firsts.read.items all_read
     pub set : AreLeast firsts.set.items (results_from cards)
 
 -- the columns of a result field
@@ -49,6 +58,10 @@ unused_by cards m = if first_set cards m.place == m.value && first_read cards m.
 -- the same, by the first cards of all names
 abbrev pub unused_with : FirstResults → Mark → Option Warning
 unused_with firsts m = if least_at m.place firsts.set.items == m.value && least_at m.place firsts.read.items == 65535 then Some (unused_at m.value) else None
+
+-- a card that reads the name is noted
+abbrev pub is_noted : List ℕ → Mark → Bool
+is_noted read m = not (least_at m.place read == 65535)
 
 -- the results that nothing reads
 abbrev pub unused : List SpecCard → List Warning

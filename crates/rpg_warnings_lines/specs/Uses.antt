@@ -85,6 +85,14 @@ needs_result o = false
 abbrev pub counts_as_read : CalculationSpec → Bool
 counts_as_read k = needs_result k.operation || (is_some k.resulting_indicators.first || is_some k.resulting_indicators.second || is_some k.resulting_indicators.third)
 
+-- up to two names, among six
+abbrev pub two_of_six : Option ℕ → Option ℕ → List (Option ℕ)
+two_of_six a b = a ∷ b ∷ None ∷ None ∷ None ∷ None ∷ []
+
+-- up to two names
+abbrev pub two : Option ℕ → Option ℕ → List (Option ℕ)
+two a b = a ∷ b ∷ []
+
 module _ (cards : List SpecCard) where
   -- the place of a factor, unless it is the result of ADD or SUB
   abbrev pub factor_read : CalculationSpec → Option Factor → Option ℕ
@@ -107,24 +115,17 @@ module _ (cards : List SpecCard) where
   abbrev pub own_table : ExtensionSpec → Option ℕ
   own_table e = place cards e.table.name
 
-  -- up to two names, among six
-  abbrev pub two_of_six : Option ℕ → Option ℕ → List (Option ℕ)
-  two_of_six a b = a ∷ b ∷ None ∷ None ∷ None ∷ None ∷ []
+  -- the names that an output field prints
+  abbrev pub printed_on : Spec → List (Option ℕ)
+  printed_on (spec.Output (output.Field f)) = two (entry_place cards f.operand) (index_place cards f.operand)
+  printed_on s = two None None
 
-  -- the names that a card reads; tables, and input fields, which describe records, count as read
+  -- the names that other cards read; tables, and input fields, which describe records, count as read
   abbrev pub read_on : Spec → List (Option ℕ)
-  read_on (spec.Header h) = two_of_six None None
-  read_on (spec.File f) = two_of_six None None
   read_on (spec.Extension e) = two_of_six (own_table e) (table_place e.alternating)
-  read_on (spec.Input (input.Type t)) = two_of_six None None
-  read_on (spec.Input (input.And codes)) = two_of_six None None
   read_on (spec.Input (input.Field f)) = two_of_six (place cards f.name) None
   read_on (spec.Calculation k) = read_by k
-  read_on (spec.Output (output.Record r)) = two_of_six None None
-  read_on (spec.Output (output.And t)) = two_of_six None None
-  read_on (spec.Output (output.Or t)) = two_of_six None None
-  read_on (spec.Output (output.Field f)) = two_of_six (entry_place cards f.operand) (index_place cards f.operand)
-  read_on (spec.Data d) = two_of_six None None
+  read_on s = two_of_six None None
 
   -- the result field of a card
   abbrev pub result_on : Spec → Option ℕ
@@ -140,21 +141,10 @@ module _ (cards : List SpecCard) where
   abbrev pub set_by : CalculationSpec → Option ℕ
   set_by k = if is_own_sum k then None else entry_place cards k.result_field
 
-  -- up to two names
-  abbrev pub two : Option ℕ → Option ℕ → List (Option ℕ)
-  two a b = a ∷ b ∷ []
-
   -- the names that a card sets: by blank after, with a record, with data, or by a calculation that doesn't add to them
   abbrev pub set_on : Spec → List (Option ℕ)
-  set_on (spec.Header h) = two None None
-  set_on (spec.File f) = two None None
   set_on (spec.Extension e) = if is_some e.entries_per_card then two (own_table e) (table_place e.alternating) else two None None
-  set_on (spec.Input (input.Type t)) = two None None
-  set_on (spec.Input (input.And codes)) = two None None
   set_on (spec.Input (input.Field f)) = two (place cards f.name) None
   set_on (spec.Calculation k) = two (set_by k) None
-  set_on (spec.Output (output.Record r)) = two None None
-  set_on (spec.Output (output.And t)) = two None None
-  set_on (spec.Output (output.Or t)) = two None None
   set_on (spec.Output (output.Field f)) = if f.blank_after then two (entry_place cards f.operand) None else two None None
-  set_on (spec.Data d) = two None None
+  set_on s = two None None

@@ -1,7 +1,6 @@
 //! W13: a device that looks like the printer and isn't.
 
-ghost use Rattle.std.specs.Prelude.{◌≡◌, ◌++◌, OnOk};
-ghost use Rattle.std.specs.List.{filter_map};
+ghost use Rattle.std.specs.Prelude.{◌≡◌};
 ghost use Rattle.std.specs.Str.Lines.{lines};
 ghost use Rattle.rpg_warnings_lines.specs.Devices as devices;
 
@@ -9,7 +8,6 @@ use crate::warning::{Warning, WarningKind};
 use rpg_cards::SpecCard;
 use rpg_sheet_specs::{ColumnFault, Device, FileRole, FileSpec};
 use rpg_text::first_line;
-use std::alloc::AllocError;
 
 /// The columns of a device.
 const DEVICE: ColumnFault = ColumnFault {
@@ -53,8 +51,9 @@ fn is_disk(file: &FileSpec) -> bool
     }
 }
 
+/// Returns the warning of a device that looks like the printer, on a card of `text`.
 #[tactic(auto, unfolding(crate::specs::Devices::device_on))]
-fn device_on(text: &[u8], card: &SpecCard) -> Option<Warning>
+pub(crate) fn device_on(text: &[u8], card: &SpecCard) -> Option<Warning>
     ensures { result ≡ devices.device_on (lines text.now) card.now }
 {
     let file = card.file()?;
@@ -67,20 +66,4 @@ fn device_on(text: &[u8], card: &SpecCard) -> Option<Warning>
     } else {
         None
     }
-}
-
-/// Appends the warnings of devices that look like the printer, in the order of their cards, which are those of `text`.
-pub(crate) fn put_devices(
-    warnings: &mut Vec<Warning>,
-    text: &[u8],
-    cards: &[SpecCard],
-) -> Result<(), AllocError>
-    ensures { OnOk result (warnings.new.items ≡ warnings.old.items ++ filter_map (devices.device_on (lines text.now)) cards.now) }
-{
-    for card in cards {
-        if let Some(warning) = device_on(text, card) {
-            warnings.push(warning)?;
-        }
-    }
-    Ok(())
 }

@@ -15,5 +15,5 @@ mod unused;
 mod uses;
 mod warning;
 
-pub use lines::put_line_warnings;
+pub use lines::{put_line_warnings, put_warning};
 pub use warning::{Warning, WarningKind};

@@ -1,19 +1,62 @@
 //! All warnings about lines, files and results.
 
 ghost use Rattle.std.specs.Prelude.{◌≡◌, ◌++◌, OnOk};
+ghost use Rattle.std.specs.Option.{option_to_list};
 ghost use Rattle.std.specs.Str.Lines.{lines};
 ghost use Rattle.rpg_warnings_lines.specs.LineWarnings as warned;
 
-use crate::devices::put_devices;
+use crate::devices::device_on;
 use crate::overlaps::put_overlaps;
-use crate::pages::put_pages;
-use crate::printer::put_overflows;
+use crate::pages::page_on;
+use crate::printer::overflow_on;
 use crate::sums::put_unreset;
-use crate::unheld::put_unheld;
+use crate::unheld::unheld_on;
 use crate::unused::put_unused;
 use crate::warning::Warning;
 use rpg_card_index::IndexedCards;
+use rpg_cards::SpecCard;
 use std::alloc::{AllocError, Global};
+
+/// Returns the warning about a card's page number, line, printer or device. A card has at most one of these.
+fn card_warning(
+    text: &[u8],
+    cards: &[SpecCard],
+    card: &SpecCard,
+    after: &[SpecCard],
+) -> Option<Warning>
+    ensures { result ≡ warned.card_warning (lines text.now) cards.now card.now after.now }
+{
+    page_on(card)
+        .or(unheld_on(card, after))
+        .or(overflow_on(cards, card))
+        .or(device_on(text, card))
+}
+
+/// Appends a warning, if there is one.
+pub fn put_warning(warnings: &mut Vec<Warning>, warning: Option<Warning>) -> Result<(), AllocError>
+    ensures { OnOk result (warnings.new.items ≡ warnings.old.items ++ option_to_list warning) }
+{
+    if let Some(warning) = warning {
+        warnings.push(warning)?;
+    }
+    Ok(())
+}
+
+/// Appends the warnings about page numbers, lines, printers and devices, in the order of their cards.
+fn put_card_warnings(
+    warnings: &mut Vec<Warning>,
+    text: &[u8],
+    cards: &[SpecCard],
+) -> Result<(), AllocError>
+    ensures { OnOk result (warnings.new.items ≡ warnings.old.items ++ warned.card_warnings (lines text.now) cards.now cards.now) }
+{
+    let mut rest = cards;
+    while let Some((card, after)) = rest.split_first() {
+        put_warning(warnings, card_warning(text, cards, card, after))?;
+        rest = after;
+    }
+    Ok(())
+}
 
 /// Appends the warnings about lines, files and results of a source without faults, given its text: each kind in the order of the cards.
 pub fn put_line_warnings(
@@ -24,12 +67,9 @@ pub fn put_line_warnings(
 ) -> Result<(), AllocError>
     ensures { OnOk result (warnings.new.items ≡ warnings.old.items ++ warned.line_warnings (lines text.now) source.now) }
 {
+    put_unused(alloc, warnings, source)?;
     let mut placed = Vec::new(alloc);
     put_overlaps(warnings, &mut placed, source)?;
-    put_pages(warnings, source.as_slice())?;
-    put_unheld(warnings, source.as_slice())?;
-    put_unreset(alloc, warnings, source)?;
-    put_unused(alloc, warnings, source)?;
-    put_overflows(warnings, source.as_slice())?;
-    put_devices(warnings, text, source.as_slice())
+    put_card_warnings(warnings, text, source.as_slice())?;
+    put_unreset(alloc, warnings, source)
 }

@@ -1,6 +1,6 @@
 //! The least value that is noted for each name.
 
-ghost use Rattle.std.specs.Prelude.{◌≡◌, ◌++◌, ◌<◌, ℕ, length, IfOk, OnOk};
+ghost use Rattle.std.specs.Prelude.{◌≡◌, [], ◌∷◌, ◌++◌, ◌<◌, ℕ, length, IfOk, OnOk};
 ghost use Rattle.rpg_warnings_lines.specs.Marks as marks;
 
 use std::alloc::{AllocError, Global};
@@ -29,20 +29,6 @@ pub(crate) fn put_mark(
     Ok(())
 }
 
-/// Notes a value for each of these names.
-pub(crate) fn put_marks(
-    noted: &mut Vec<Mark>,
-    places: &[Option<u64>],
-    value: u16,
-) -> Result<(), AllocError>
-    ensures { OnOk result (noted.new.items ≡ noted.old.items ++ marks.marks_of value places.now) }
-{
-    for place in places {
-        put_mark(noted, *place, value)?;
-    }
-    Ok(())
-}
-
 /// Makes room for a place.
 fn grow(least: &mut Vec<u16>, place: usize) -> Result<(), AllocError>
     ensures within { OnOk result (place < length least.new.items) }
@@ -55,13 +41,42 @@ fn grow(least: &mut Vec<u16>, place: usize) -> Result<(), AllocError>
 }
 
 /// Notes a value, if it is the least so far.
-fn lower(least: &mut Vec<u16>, mark: Mark) -> Result<(), AllocError>
-    ensures { OnOk result ((i : ℕ) → marks.least_at i least.new.items ≡ marks.lowered i (marks.least_at i least.old.items) mark) }
+pub(crate) fn lower(least: &mut Vec<u16>, mark: Mark) -> Result<(), AllocError>
+    ensures { OnOk result (marks.Lowers (mark ∷ []) least.old.items least.new.items) }
 {
     let place = mark.place as usize;
     grow(least, place)?;
     if mark.value < least[place] {
         least[place] = mark.value;
+    }
+    Ok(())
+}
+
+/// Notes a value for a name, if there is one, and the value is the least so far.
+pub(crate) fn lower_at(
+    least: &mut Vec<u16>,
+    place: Option<u64>,
+    value: u16,
+) -> Result<(), AllocError>
+    ensures { OnOk result (marks.Lowers (marks.mark_of value place) least.old.items least.new.items) }
+{
+    match place {
+        None => Ok(()),
+        Some(place) => lower(least, Mark { place, value }),
+    }
+}
+
+/// Notes a value for each of these names, if it is the least so far.
+#[tactic(auto, using(crate::proofs::Noting::lowers_more))]
+pub(crate) fn lower_each(
+    least: &mut Vec<u16>,
+    places: &[Option<u64>],
+    value: u16,
+) -> Result<(), AllocError>
+    ensures { OnOk result (marks.Lowers (marks.marks_of value places.now) least.old.items least.new.items) }
+{
+    for place in places {
+        lower_at(least, *place, value)?;
     }
     Ok(())
 }

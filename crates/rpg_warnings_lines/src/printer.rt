@@ -1,14 +1,12 @@
 //! W12: a printer without an overflow indicator.
 
-ghost use Rattle.std.specs.Prelude.{◌≡◌, ◌++◌, false, OnOk};
-ghost use Rattle.std.specs.List.{filter_map};
+ghost use Rattle.std.specs.Prelude.{◌≡◌, false};
 ghost use Rattle.rpg_warnings_lines.specs.Printer as printer;
 
 use crate::alternatives::{ConditionTest, line_names_first_page, line_passes};
 use crate::warning::{Warning, WarningKind};
 use rpg_cards::SpecCard;
 use rpg_sheet_specs::{ColumnFault, Device, FileRole, FileSpec, LineTime, OutputRecord, Word};
-use std::alloc::AllocError;
 
 /// The columns of an overflow indicator.
 const OVERFLOW: ColumnFault = ColumnFault {
@@ -96,8 +94,9 @@ fn lacks_overflow(cards: &[SpecCard], file: &FileSpec) -> bool
         && !any_line(LineTest::Skips, &file.name, cards)
 }
 
+/// Returns the warning of a printer without an overflow indicator.
 #[tactic(auto, unfolding(crate::specs::Printer::overflow_on))]
-fn overflow_on(cards: &[SpecCard], card: &SpecCard) -> Option<Warning>
+pub(crate) fn overflow_on(cards: &[SpecCard], card: &SpecCard) -> Option<Warning>
     ensures { result ≡ printer.overflow_on cards.now card.now }
 {
     let file = card.file()?;
@@ -110,19 +109,4 @@ fn overflow_on(cards: &[SpecCard], card: &SpecCard) -> Option<Warning>
     } else {
         None
     }
-}
-
-/// Appends the warnings of printers without an overflow indicator, in the order of their cards.
-pub(crate) fn put_overflows(
-    warnings: &mut Vec<Warning>,
-    cards: &[SpecCard],
-) -> Result<(), AllocError>
-    ensures { OnOk result (warnings.new.items ≡ warnings.old.items ++ filter_map (printer.overflow_on cards.now) cards.now) }
-{
-    for card in cards {
-        if let Some(warning) = overflow_on(cards, card) {
-            warnings.push(warning)?;
-        }
-    }
-    Ok(())
 }

@@ -2,11 +2,12 @@
 
 ghost use Rattle.std.specs.Prelude.{◌≡◌, ◌++◌, IfOk, OnOk};
 ghost use Rattle.std.specs.List.{filter_map};
+ghost use Rattle.rpg_warnings_lines.specs.Marks as marks;
 ghost use Rattle.rpg_warnings_lines.specs.Sums as sums;
 ghost use Rattle.rpg_warnings_lines.specs.Totals as totals;
 ghost use Rattle.rpg_warnings_lines.specs.declared.totals.Noted.TheVariants as noted;
 
-use crate::marks::{Mark, NONE, least_at, least_of, put_mark, put_marks};
+use crate::marks::{Mark, NONE, least_at, least_of, lower_at, lower_each};
 use crate::totals::{Noted, put_totals};
 use crate::uses::{set_on, sum_on};
 use crate::warning::{Warning, WarningKind};
@@ -37,23 +38,25 @@ fn level_with(level: u16, card: &SpecCard) -> u16
 }
 
 /// Notes the results that cards add to, with the levels at which they do.
-fn put_sums(marks: &mut Vec<Mark>, source: &IndexedCards) -> Result<(), AllocError>
-    ensures { OnOk result (marks.new.items ≡ marks.old.items ++ sums.sums_of source.now) }
+#[tactic(auto, using(crate::proofs::Noting::lowers_more))]
+fn lower_sums(added: &mut Vec<u16>, source: &IndexedCards) -> Result<(), AllocError>
+    ensures { OnOk result (marks.Lowers (sums.sums_of source.now) added.old.items added.new.items) }
 {
     let mut level = 0;
     for card in source.as_slice() {
         level = level_with(level, card);
-        put_mark(marks, sum_on(source, card), level)?;
+        lower_at(added, sum_on(source, card), level)?;
     }
     Ok(())
 }
 
 /// Notes the names that cards set.
-fn put_set(marks: &mut Vec<Mark>, source: &IndexedCards) -> Result<(), AllocError>
-    ensures { OnOk result (marks.new.items ≡ marks.old.items ++ sums.set_from source.now source.now) }
+#[tactic(auto, using(crate::proofs::Noting::lowers_more))]
+fn lower_set(set: &mut Vec<u16>, source: &IndexedCards) -> Result<(), AllocError>
+    ensures { OnOk result (marks.Lowers (sums.set_from source.now source.now) set.old.items set.new.items) }
 {
     for card in source.as_slice() {
-        put_marks(marks, &set_on(source, card), card.number)?;
+        lower_each(set, &set_on(source, card), card.number)?;
     }
     Ok(())
 }
@@ -71,22 +74,6 @@ pub struct NameSums {
     printed: Vec<u16>,
 }
 
-fn least_sums(alloc: Global, source: &IndexedCards) -> Result<Vec<u16>, AllocError>
-    ensures { IfOk result (λ least. sums.AreAdded source.now least.items) }
-{
-    let mut marks = Vec::new(alloc);
-    put_sums(&mut marks, source)?;
-    least_of(alloc, &marks)
-}
-
-fn first_set(alloc: Global, source: &IndexedCards) -> Result<Vec<u16>, AllocError>
-    ensures { IfOk result (λ least. sums.AreSet source.now least.items) }
-{
-    let mut marks = Vec::new(alloc);
-    put_set(&mut marks, source)?;
-    least_of(alloc, &marks)
-}
-
 fn least_levels(alloc: Global, source: &IndexedCards) -> Result<Vec<u16>, AllocError>
     ensures { IfOk result (λ least. sums.AreLevels source.now least.items) }
 {
@@ -99,9 +86,13 @@ fn name_sums(alloc: Global, source: &IndexedCards, printed: &[Mark]) -> Result<N
     requires { printed.now ≡ totals.totals_of noted.Card source.now }
     ensures { IfOk result (λ known. sums.AreSums source.now known) }
 {
+    let mut added = Vec::new(alloc);
+    lower_sums(&mut added, source)?;
+    let mut set = Vec::new(alloc);
+    lower_set(&mut set, source)?;
     Ok(NameSums {
-        added: least_sums(alloc, source)?,
-        set: first_set(alloc, source)?,
+        added,
+        set,
         levels: least_levels(alloc, source)?,
         printed: least_of(alloc, printed)?,
     })
@@ -152,6 +143,9 @@ pub(crate) fn put_unreset(
 {
     let mut printed = Vec::new(alloc);
     put_totals(&mut printed, source, Noted::Card)?;
+    if printed.is_empty() {
+        return Ok(());
+    }
     let known = name_sums(alloc, source, &printed)?;
     put_known(warnings, &known, &printed)
 }

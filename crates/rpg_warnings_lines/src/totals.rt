@@ -44,24 +44,12 @@ fn level_of(condition: Option<ConditionSpec>) -> u16
     }
 }
 
-fn greater(a: u16, b: u16) -> u16
-    ensures { result ≡ totals.greater a b }
-{
-    if a <= b { b } else { a }
-}
-
-fn lesser(a: u16, b: u16) -> u16
-    ensures { result ≡ totals.lesser a b }
-{
-    if a <= b { a } else { b }
-}
-
 /// Returns the greatest control level that conditions wait for.
 fn level_in(conditions: Three<Option<ConditionSpec>>) -> u16
     ensures { result ≡ totals.level_in conditions }
 {
-    let rest = greater(level_of(conditions.second), level_of(conditions.third));
-    greater(level_of(conditions.first), rest)
+    let rest = level_of(conditions.second).max(level_of(conditions.third));
+    level_of(conditions.first).max(rest)
 }
 
 fn is_total(time: LineTime) -> bool
@@ -90,11 +78,11 @@ fn line_with(line: LineSoFar, card: &SpecCard) -> LineSoFar
     match card.output() {
         Some(OutputSpec::Record(record)) => begun(record),
         Some(OutputSpec::And(conditions)) => LineSoFar {
-            own: greater(line.own, level_in(*conditions)),
+            own: line.own.max(level_in(*conditions)),
             ..line
         },
         Some(OutputSpec::Or(conditions)) => LineSoFar {
-            least: lesser(line.least, line.own),
+            least: line.least.min(line.own),
             own: level_in(*conditions),
             ..line
         },
@@ -118,7 +106,7 @@ fn value_of(noted: Noted, line: LineSoFar, card: &SpecCard) -> u16
 {
     match noted {
         Noted::Card => card.number,
-        Noted::Level => lesser(line.least, line.own),
+        Noted::Level => line.least.min(line.own),
     }
 }
 

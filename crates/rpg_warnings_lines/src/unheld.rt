@@ -1,13 +1,12 @@
 //! W8 and W9: lines that no condition keeps back.
 
-ghost use Rattle.std.specs.Prelude.{◌≡◌, ◌++◌, OnOk};
+ghost use Rattle.std.specs.Prelude.{◌≡◌};
 ghost use Rattle.rpg_warnings_lines.specs.Unheld as unheld;
 
 use crate::alternatives::{ConditionTest, line_passes};
 use crate::warning::{Warning, WarningKind};
 use rpg_cards::SpecCard;
 use rpg_sheet_specs::{ColumnFault, LineTime, OutputRecord};
-use std::alloc::AllocError;
 
 /// The columns of a line's conditions.
 const CONDITIONS: ColumnFault = ColumnFault {
@@ -30,7 +29,8 @@ fn unheld(line: &OutputRecord, after: &[SpecCard]) -> Option<WarningKind>
     }
 }
 
-fn unheld_on(card: &SpecCard, after: &[SpecCard]) -> Option<Warning>
+/// Returns the warning of a line that nothing keeps back.
+pub(crate) fn unheld_on(card: &SpecCard, after: &[SpecCard]) -> Option<Warning>
     ensures { result ≡ unheld.unheld_on card.now after.now }
 {
     let kind = unheld(card.line()?, after)?;
@@ -39,30 +39,4 @@ fn unheld_on(card: &SpecCard, after: &[SpecCard]) -> Option<Warning>
         columns: CONDITIONS,
         kind,
     })
-}
-
-/// Appends the warning of a line that nothing keeps back.
-fn put_unheld_on(
-    warnings: &mut Vec<Warning>,
-    card: &SpecCard,
-    after: &[SpecCard],
-) -> Result<(), AllocError>
-    ensures { OnOk result (warnings.new.items ≡ warnings.old.items ++ unheld.warned_on card.now after.now) }
-{
-    if let Some(warning) = unheld_on(card, after) {
-        warnings.push(warning)?;
-    }
-    Ok(())
-}
-
-/// Appends the warnings of lines that nothing keeps back, in the order of their cards.
-pub(crate) fn put_unheld(warnings: &mut Vec<Warning>, cards: &[SpecCard]) -> Result<(), AllocError>
-    ensures { OnOk result (warnings.new.items ≡ warnings.old.items ++ unheld.unheld_from cards.now) }
-{
-    let mut rest = cards;
-    while let Some((card, after)) = rest.split_first() {
-        put_unheld_on(warnings, card, after)?;
-        rest = after;
-    }
-    Ok(())
 }

@@ -1,11 +1,12 @@
 //! W11: results that nothing reads.
 
 ghost use Rattle.std.specs.Prelude.{◌≡◌, ◌++◌, IfOk, OnOk};
-ghost use Rattle.std.specs.List.{filter_map};
+ghost use Rattle.std.specs.List.{filter_map, list_all};
+ghost use Rattle.rpg_warnings_lines.specs.Marks as marks;
 ghost use Rattle.rpg_warnings_lines.specs.Unused as unused;
 
-use crate::marks::{Mark, NONE, least_at, least_of, put_mark, put_marks};
-use crate::uses::{read_on, result_on};
+use crate::marks::{Mark, NONE, least_at, least_of, lower_each, put_mark};
+use crate::uses::{printed_on, read_on, result_on};
 use crate::warning::{Warning, WarningKind};
 use rpg_card_index::IndexedCards;
 use rpg_sheet_specs::ColumnFault;
@@ -17,14 +18,38 @@ const RESULT: ColumnFault = ColumnFault {
     last: 48,
 };
 
-/// Notes the names that cards read.
-fn put_read(noted: &mut Vec<Mark>, source: &IndexedCards) -> Result<(), AllocError>
-    ensures { OnOk result (noted.new.items ≡ noted.old.items ++ unused.read_from source.now source.now) }
+/// Notes the names that output fields print, with their first cards.
+#[tactic(auto, using(crate::proofs::Noting::lowers_more))]
+fn lower_printed(read: &mut Vec<u16>, source: &IndexedCards) -> Result<(), AllocError>
+    ensures { OnOk result (marks.Lowers (unused.printed_from source.now source.now) read.old.items read.new.items) }
 {
     for card in source.as_slice() {
-        put_marks(noted, &read_on(source, card), card.number)?;
+        lower_each(read, &printed_on(source, card), card.number)?;
     }
     Ok(())
+}
+
+/// Notes the names that other cards read, with their first cards.
+#[tactic(auto, using(crate::proofs::Noting::lowers_more))]
+fn lower_read(read: &mut Vec<u16>, source: &IndexedCards) -> Result<(), AllocError>
+    ensures { OnOk result (marks.Lowers (unused.read_from source.now source.now) read.old.items read.new.items) }
+{
+    for card in source.as_slice() {
+        lower_each(read, &read_on(source, card), card.number)?;
+    }
+    Ok(())
+}
+
+/// Whether a reading card is noted for each of these names.
+fn are_noted(read: &[u16], results: &[Mark]) -> bool
+    ensures { result ≡ list_all (unused.is_noted read.now) results.now }
+{
+    for mark in results {
+        if least_at(read, mark.place) == NONE {
+            return false;
+        }
+    }
+    true
 }
 
 /// Notes the result fields of cards, with their cards.
@@ -44,20 +69,22 @@ pub struct FirstResults {
     set: Vec<u16>,
 }
 
+/// Returns the first cards, given those of the names that output fields print.
+#[tactic(auto, using(crate::proofs::Noting::lowers_more))]
 fn first_results(
     alloc: Global,
     source: &IndexedCards,
+    printed: Vec<u16>,
     results: &[Mark],
 ) -> Result<FirstResults, AllocError>
-    requires { results.now ≡ unused.results_from source.now source.now }
+    requires printed { marks.AreLeast printed.items (unused.printed_from source.now source.now) }
+    requires results { results.now ≡ unused.results_from source.now source.now }
     ensures { IfOk result (λ firsts. unused.AreFirst source.now firsts) }
 {
-    let mut noted = Vec::new(alloc);
-    put_read(&mut noted, source)?;
-    Ok(FirstResults {
-        read: least_of(alloc, &noted)?,
-        set: least_of(alloc, results)?,
-    })
+    let mut read = printed;
+    lower_read(&mut read, source)?;
+    let set = least_of(alloc, results)?;
+    Ok(FirstResults { read, set })
 }
 
 /// Returns the warning about a result, if nothing reads it, and no earlier card sets it.
@@ -93,8 +120,9 @@ fn put_known(
     Ok(())
 }
 
-/// Appends the warnings of results that nothing reads, in the order of their cards.
-#[tactic(auto, using(crate::proofs::Noting::known_firsts))]
+/// Appends the warnings of results that nothing reads, in the order of their cards. If output fields print all of them, no other card is
+/// looked at.
+#[tactic(auto, using(crate::proofs::Noting::known_firsts, crate::proofs::Noting::none_unused))]
 pub(crate) fn put_unused(
     alloc: Global,
     warnings: &mut Vec<Warning>,
@@ -104,6 +132,14 @@ pub(crate) fn put_unused(
 {
     let mut results = Vec::new(alloc);
     put_results(&mut results, source)?;
-    let firsts = first_results(alloc, source, &results)?;
+    if results.is_empty() {
+        return Ok(());
+    }
+    let mut printed = Vec::new(alloc);
+    lower_printed(&mut printed, source)?;
+    if are_noted(&printed, &results) {
+        return Ok(());
+    }
+    let firsts = first_results(alloc, source, printed, &results)?;
     put_known(warnings, &firsts, &results)
 }

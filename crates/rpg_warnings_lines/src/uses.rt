@@ -143,38 +143,37 @@ fn own_table(source: &IndexedCards, extension: &ExtensionSpec) -> Option<u64>
     source.name_place(&extension.table.name)
 }
 
-/// Returns the names that a card reads; with them those of tables and of input fields, which describe records.
+/// Returns the names that an output field prints.
+pub(crate) fn printed_on(source: &IndexedCards, card: &SpecCard) -> [Option<u64>; 2]
+    ensures { result ≡ uses.printed_on source.now card.now.spec }
+{
+    match &card.spec {
+        Spec::Output(OutputSpec::Field(field)) => {
+            let index = index_place(source, &field.operand);
+            [entry_place(source, &field.operand), index]
+        }
+        _ => [None, None],
+    }
+}
+
+fn two_of_six(first: Option<u64>, second: Option<u64>) -> [Option<u64>; 6]
+    ensures { result ≡ uses.two_of_six first second }
+{
+    [first, second, None, None, None, None]
+}
+
+/// Returns the names that other cards read; with them those of tables and of input fields, which describe records.
 pub(crate) fn read_on(source: &IndexedCards, card: &SpecCard) -> [Option<u64>; 6]
     ensures { result ≡ uses.read_on source.now card.now.spec }
 {
     match &card.spec {
         Spec::Extension(extension) => {
             let alternating = table_place(source, &extension.alternating);
-            [
-                own_table(source, extension),
-                alternating,
-                None,
-                None,
-                None,
-                None,
-            ]
+            two_of_six(own_table(source, extension), alternating)
         }
-        Spec::Input(InputSpec::Field(field)) => {
-            [source.name_place(&field.name), None, None, None, None, None]
-        }
+        Spec::Input(InputSpec::Field(field)) => two_of_six(source.name_place(&field.name), None),
         Spec::Calculation(calculation) => read_by(source, calculation),
-        Spec::Output(OutputSpec::Field(field)) => {
-            let index = index_place(source, &field.operand);
-            [
-                entry_place(source, &field.operand),
-                index,
-                None,
-                None,
-                None,
-                None,
-            ]
-        }
-        _ => [None, None, None, None, None, None],
+        _ => two_of_six(None, None),
     }
 }
 
