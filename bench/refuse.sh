@@ -214,6 +214,27 @@ keep_told check "$work/calls.rpg" "$work/loop.rpg"
 keep_told run "$work/levels.obj" "$work/levels.txt" "$work/print" --trace 9 --watch --sorted
 keep_told run "$work/levels.obj" "$work/levels.txt" "$work/print" --trace-record 2 --format json
 
+# A source with a warning that is denied: it never compiles, whatever is refused.
+cat > "$work/warned.rpg" <<'SOURCE'
+     FINPUT   IPE F      80            READ40
+     FPRINT   O   F     120            PRINTER
+     IINPUT   AA
+     I                                        1   5 TEXT
+     OPRINT   D
+     O                         TEXT       5
+SOURCE
+refused=0 served=0
+for ((nth = 1; served < 100; nth++)); do
+    status=0
+    REFUSED=$nth LD_PRELOAD=$work/refuse.so "$rpg2" compile "$work/warned.rpg" "$work/warned.obj" --deny > "$work/line" 2> "$work/told" || status=$?
+    if [ "$status" = 0 ] || [ -e "$work/warned.obj" ]; then
+        echo "compile --deny, allocation $nth refused: status $status"
+        exit 1
+    fi
+    if [ "$status" = 3 ]; then served=$((served + 1)); else served=0; refused=$((refused + 1)); fi
+done
+echo "compile --deny: $refused allocations refused in turn, and the source never passed"
+
 # A cycle that writes 9 MB is reported within the memory in which the job runs.
 cat > "$work/large.rpg" <<'SOURCE'
      FIN      IPE F       3            DISK

@@ -67,6 +67,7 @@ ERRORS = {
     "openat": ("EIO", "EINTR", "ENFILE", "EACCES"),
     "ftruncate": ("EIO", "EINTR", "EPERM"),
     "rename": ("EIO", "ENOSPC"),
+    "fchmod": ("EPERM",),
     "fsync": ("EIO", "ENOSPC", "EDQUOT"),
     "close": ("EIO",),
     "statx": ("EIO",),

@@ -1,17 +1,19 @@
 //! The only way to change a deck.
 
-ghost use Rattle.std.specs.Prelude.{◌≡◌, true, Some, None, IfErr, IfOk, OnOk, unwrap_or};
+ghost use Rattle.std.specs.Prelude.{◌≡◌, ◌||◌, true, Some, None, IfErr, IfOk, OnOk, is_err, unwrap_or};
+ghost use Rattle.rpg_fit_deck.specs.Changing.{Has, change_by, deck_of, rewritten_deck, with_here, with_sentence};
 ghost use Rattle.rpg_fit_deck.specs.New.{nothing_reported};
 ghost use Rattle.rpg_fit_deck.specs.Laws.{IsFitted};
 ghost use Rattle.rpg_fit_deck.specs.Stopping.{IsOf, IsSource, StaysStopped, StopsFor, may_continue, has_run_out, refusal_for, refusal_of};
 
 use crate::card::Card;
+use crate::changing::{insert_made, set_made};
 use crate::fitted::Fitted;
 use crate::here::Here;
 use crate::marks::ends_source;
 use crate::render::{MOST_CARDS, RenderError, lines_of, render, unreported_cards_are_kept};
 use crate::sentence::{Refusal, Remark, Rule, Sentence, What};
-use crate::slot::{Made, Slot, insert_made, set_made};
+use crate::slot::{Made, Slot};
 use crate::stopped::Stopped;
 use crate::view::{Address, Seen, View};
 use std::alloc::{AllocError, Global};
@@ -60,7 +62,8 @@ impl<'a> Editor<'a> {
 
     /// Begins a rule: what follows carries its code.
     pub fn begin(&mut self, rule: Rule)
-        ensures { StaysStopped self.old self.new }
+        ensures stays { StaysStopped self.old self.new }
+        ensures deck { deck_of self.new ≡ record (deck_of self.old) { rule = rule } }
     {
         self.rule = rule;
     }
@@ -92,7 +95,7 @@ impl<'a> Editor<'a> {
     }
 
     fn keep(&mut self, outcome: Result<(), AllocError>)
-        ensures { StaysStopped self.old self.new }
+        ensures { self.new ≡ record self.old { ran_out = has_run_out self.old || is_err outcome } }
     {
         if outcome.is_err() {
             self.ran_out = true;
@@ -113,43 +116,65 @@ impl<'a> Editor<'a> {
         }
     }
 
+    /// Adds a sentence to a card of the source, if there is such a card.
+    fn add(&mut self, card: usize, remark: Remark) -> Result<(), AllocError>
+        ensures stays { StaysStopped self.old self.new }
+        ensures deck { OnOk result (deck_of self.new ≡ with_sentence card remark (deck_of self.old)) }
+    {
+        match self.slots.get_mut(card.saturating_sub(1)) {
+            Some(slot) => slot.report(remark),
+            None => Ok(()),
+        }
+    }
+
     /// Reports a change of a card of the source by a sentence.
     pub fn report(&mut self, card: usize, sentence: Sentence)
-        ensures { StaysStopped self.old self.new }
+        ensures stays { StaysStopped self.old self.new }
+        ensures deck { Has (with_sentence card (change_by self.old.rule sentence) (deck_of self.old)) self.new }
     {
-        let remarks = Remark {
+        let remark = Remark {
             rule: self.rule,
             what: What::Change(sentence),
         };
-        let outcome = match self.slots.get_mut(card.saturating_sub(1)) {
-            Some(slot) => slot.report(remarks),
-            None => Ok(()),
-        };
+        let outcome = self.add(card, remark);
         self.keep(outcome);
     }
 
-    fn put(&mut self, at: Address, here: Here, with: usize)
-        ensures { StaysStopped self.old self.new }
+    /// Replaces a card, as part of the change of the card `with`.
+    fn set(&mut self, at: Address, here: Here, with: usize) -> Result<(), AllocError>
+        ensures stays { StaysStopped self.old self.new }
+        ensures deck { OnOk result (deck_of self.new ≡ with_here here at with (deck_of self.old)) }
     {
         let rule = self.rule;
-        let outcome = match self.slots.get_mut(at.slot) {
-            Some(slot) if at.made == 0 => slot.set(here, rule, with),
-            Some(slot) => slot.set_made(at.made, here),
-            None => set_made(&mut self.end, at.made, here),
-        };
+        match self.slots.get_mut(at.slot) {
+            Some(slot) => slot.set(at.made, here, rule, with),
+            None => {
+                set_made(&mut self.end, at.made, here);
+                Ok(())
+            }
+        }
+    }
+
+    fn put(&mut self, at: Address, here: Here, with: usize)
+        ensures stays { StaysStopped self.old self.new }
+        ensures deck { Has (with_here here at with (deck_of self.old)) self.new }
+    {
+        let outcome = self.set(at, here, with);
         self.keep(outcome);
     }
 
     /// Replaces a card, as part of the change of the card `with`.
     pub fn change(&mut self, at: Address, card: Card, with: usize)
-        ensures { StaysStopped self.old self.new }
+        ensures stays { StaysStopped self.old self.new }
+        ensures deck { Has (with_here (Here.Changed card) at with (deck_of self.old)) self.new }
     {
         self.put(at, Here::Changed(card), with);
     }
 
     /// Removes a card, as part of the change of the card `with`.
     pub fn remove(&mut self, at: Address, with: usize)
-        ensures { StaysStopped self.old self.new }
+        ensures stays { StaysStopped self.old self.new }
+        ensures deck { Has (with_here Here.Gone at with (deck_of self.old)) self.new }
     {
         self.gone = self.gone.saturating_add(1);
         self.put(at, Here::Gone, with);
@@ -157,7 +182,8 @@ impl<'a> Editor<'a> {
 
     /// Replaces a card, and reports that by a sentence.
     pub fn rewrite(&mut self, seen: &Seen, card: Card, sentence: Sentence)
-        ensures { StaysStopped self.old self.new }
+        ensures stays { StaysStopped self.old self.new }
+        ensures deck { Has (rewritten_deck seen.now card sentence (deck_of self.old)) self.new }
     {
         self.report(seen.number, sentence);
         self.change(seen.at, card, seen.number);

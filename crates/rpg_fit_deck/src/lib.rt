@@ -3,6 +3,7 @@
 #![tactic(auto)]
 
 mod card;
+mod changing;
 mod editor;
 mod fitted;
 mod here;

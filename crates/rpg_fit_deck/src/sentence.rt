@@ -1,5 +1,8 @@
 //! Sentences about cards.
 
+ghost use Rattle.std.specs.Prelude.{◌≡◌};
+ghost use Rattle.rpg_fit_deck.specs.Rules.{rule_number};
+
 use crate::word::Word;
 
 /// The rules by their codes: A1, the first, has 0. `rpg_fit::RULES` has the order in which they are applied.
@@ -37,7 +40,9 @@ pub enum Rule {
 
 impl Rule {
     /// Returns the number in its code, from 1.
-    pub fn number(self) -> u8 {
+    pub fn number(self) -> u8
+        ensures { result ≡ rule_number self }
+    {
         self as u8 + 1
     }
 }

@@ -1,12 +1,12 @@
 //! The slot of a card: the cards inserted before it, what happened to it, and the sentences about it.
 
-ghost use Rattle.std.specs.Prelude.{◌≡◌, ◌<◌, true, vec_len, length, IfSome};
+ghost use Rattle.std.specs.Prelude.{◌≡◌, true, vec_len};
 ghost use Rattle.rpg_fit_deck.specs.Kept.{is_kept};
 
 use crate::card::Card;
 use crate::here::Here;
-use crate::sentence::{Remark, Rule, What};
-use std::alloc::{AllocError, Global};
+use crate::sentence::{Remark, What};
+use std::alloc::Global;
 
 /// A card that a rule inserted.
 #[derive(Clone, Copy)]
@@ -39,12 +39,6 @@ impl Slot {
         }
     }
 
-    /// Adds a sentence about the card.
-    pub fn report(&mut self, remarks: Remark) -> Result<(), AllocError> {
-        self.remarks.push(remarks)?;
-        Ok(())
-    }
-
     /// Returns how many changes of the card have a sentence.
     pub fn changes(&self) -> usize {
         let mut changes: usize = 0;
@@ -70,86 +64,4 @@ impl Slot {
             None => own,
         }
     }
-
-    /// Whether a rule has a sentence about the card.
-    fn is_reported_by(&self, rule: Rule) -> bool {
-        for remarks in &self.remarks {
-            if remarks.rule.number() == rule.number() {
-                return true;
-            }
-        }
-        false
-    }
-
-    /// Notes that the card is part of another one's change, unless the rule has a sentence about it.
-    pub fn report_with(&mut self, rule: Rule, with: usize) -> Result<(), AllocError> {
-        if !self.is_reported_by(rule) || self.remarks.is_empty() {
-            self.remarks.push(Remark {
-                rule,
-                what: What::With(with),
-            })?;
-        }
-        Ok(())
-    }
-
-    /// Replaces the card.
-    pub fn set(&mut self, here: Here, rule: Rule, with: usize) -> Result<(), AllocError> {
-        self.report_with(rule, with)?;
-        if !self.remarks.is_empty() {
-            self.here = here;
-        }
-        Ok(())
-    }
-
-    /// Replaces an inserted card.
-    pub fn set_made(&mut self, id: usize, here: Here) -> Result<(), AllocError> {
-        set_made(&mut self.before, id, here)
-    }
-
-    /// Inserts a card before another inserted one, or before the card itself (0).
-    pub fn insert(
-        &mut self,
-        id: usize,
-        made: Made,
-        rule: Rule,
-        with: usize,
-    ) -> Result<(), AllocError> {
-        self.report_with(rule, with)?;
-        insert_made(&mut self.before, id, made)
-    }
-}
-
-/// Returns the place of an inserted card.
-fn place_of(cards: &[Made], id: usize) -> Option<usize>
-    ensures { IfSome result (λ place. place < length cards.now) }
-{
-    for (place, made) in cards.iter().enumerate() {
-        if made.id == id {
-            return Some(place);
-        }
-    }
-    None
-}
-
-/// Replaces an inserted card.
-pub(crate) fn set_made(cards: &mut Vec<Made>, id: usize, here: Here) -> Result<(), AllocError> {
-    if let Some(place) = place_of(cards.as_slice(), id) {
-        match here {
-            Here::Kept => {}
-            Here::Changed(card) => cards[place].card = card,
-            Here::Gone => {
-                let _ = cards.remove(place);
-            }
-        }
-    }
-    Ok(())
-}
-
-/// Inserts a card before another one, or after all others.
-pub(crate) fn insert_made(cards: &mut Vec<Made>, id: usize, made: Made) -> Result<(), AllocError> {
-    match place_of(cards.as_slice(), id) {
-        Some(place) => cards.insert(place, made)?,
-        None => cards.push(made)?,
-    }
-    Ok(())
 }
