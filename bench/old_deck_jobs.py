@@ -198,7 +198,7 @@ class Job:
         self.values.update(UDATE=int(date), UMONTH=int(date[:2]), UDAY=int(date[2:4]), UYEAR=int(date[4:]))
         self.current = dict.fromkeys(deck.table_names, 0)
         self.on = {"L0", "1P"} | {name for name, digit in zip(SWITCHES, switches) if digit == "1"}
-        self.papers = {it.name: Paper(it.overflow, deck.page_length, deck.overflow_line) for it in deck.printers}
+        self.papers = {it.name: Paper(it.overflow, *deck.page_forms.get(it.name, (66, 60))) for it in deck.printers}
         self.disks, self.records = {}, None
         self.remainder, self.spent = (0, 0), 0
         self.groups, self.had_levels = {}, False

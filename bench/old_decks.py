@@ -232,7 +232,7 @@ class OldDeck:
         self.forms.update((it, Form(4, "0")) for it in PAGES)
         self.files, self.types, self.calculations, self.lines, self.structures = {}, [], [], [], []
         self.entries, self.table_names = {}, []
-        self.page_length, self.overflow_line = 66, 60
+        self.page_forms = {}  # the lines of a page and its overflow line, by the file of an L card
         self.file, self.fields = "", []
         cards, self.data = split(text)
         reads = {"F": self.read_file, "L": self.read_form, "E": self.read_table}
@@ -298,7 +298,7 @@ class OldDeck:
         self.files[name] = DataFile(name, use, ends, length, card.part(33, 34), card.part(40, 46), card.part(71, 72))
 
     def read_form(self, card):
-        self.page_length, self.overflow_line = int(card.columns(15, 17)), int(card.columns(20, 22))
+        self.page_forms[card.part(7, 14)] = int(card.columns(15, 17)), int(card.columns(20, 22))
 
     def read_table(self, card):
         on_a_record, count = card.part(33, 35), int(card.columns(36, 39))
