@@ -165,18 +165,29 @@ fn write_back(editor: &mut Editor, free: &mut FreeIndicators, file: &Seen) -> Do
     };
     updated.check_indicators()?;
     let lines = updated.lines();
-    let lines = lines.checked()?;
+    lines.check()?;
+    put_back(editor, free, &updated, lines.as_slice(), length)
+}
+
+/// Writes the records of a file to a new one by its lines.
+fn put_back(
+    editor: &mut Editor,
+    free: &mut FreeIndicators,
+    updated: &Updated,
+    lines: &[&Line],
+    length: usize,
+) -> Done {
     updated.check_lines(lines)?;
-    let puts = puts_of(&updated, lines);
+    let puts = puts_of(updated, lines);
     let puts = puts.checked()?;
     let both = updated.both(puts);
     if let Some(both) = &both {
-        check_joined(&updated, lines, both)?;
+        check_joined(updated, lines, both)?;
     }
     updated.put_files(editor, length)?;
     match both {
-        Some(_) => join_lines(editor, free, &updated, lines),
-        None => write_lines(editor, &updated, lines, puts),
+        Some(_) => join_lines(editor, free, updated, lines),
+        None => write_lines(editor, updated, lines, puts),
     }
 }
 
