@@ -75,10 +75,11 @@ class Room:
 
     def fit(self, source, new):
         tables = ["--table", f"{old_deck_sources.TABLE_FILE}=table"] if self.job.table is not None else []
-        return self.answer("fit", source, new, *tables, "--switches", self.job.switches)
+        printer = ["--printer", self.job.printer] if self.job.printer else []
+        return self.answer("fit", source, new, *tables, *printer, "--switches", self.job.switches)
 
     def go(self):
-        secondary = ["--secondary", "second"] if self.job.has_secondary else []
+        secondary = ["--secondary", "second"] if len(self.job.records) > 1 else []
         return self.answer("go", "new", "records", "print", "--date", DATE, "--disk", "disk", *secondary, "--allowance", ALLOWANCE)
 
 
@@ -116,19 +117,29 @@ def ending_of(line):
     return line.partition(",")[0].replace("end of job", "end")
 
 
-def disk_files(room, deck):
-    """The disk files of the old deck, each taken from the one that the new deck has. Of several, a letter in column 1 tells them apart."""
-    text, files = room.text("disk"), deck.disk_files()
-    if len(files) == 1:
-        return {files[0].name: text}
-    found = {}
-    for letter, file in zip("ABCDEFGHI", files):
-        mine = [it[1 : file.length + 1] for it in text.split("\n") if it[:1] == letter]
-        found[file.name] = "".join(it + "\n" for it in mine)
-    return found
+def disk_file(text, told, file):
+    """The records of a file of the old deck in the one disk file of the new one, and whether it is a new file for those that were read."""
+    new = dict(re.findall(r": A27: (\S+) is read, and (\S+) gets", told))
+    letters = dict(re.findall(r": A21: (\S+): the disk records that begin with (.)", told))
+    letter = letters.get(new.get(file.name, file.name))
+    if letter is None:
+        return text, file.name in new
+    mine = [it[1 : file.length + 1] for it in text.split("\n") if it[:1] == letter]
+    return "".join(it + "\n" for it in mine), file.name in new
 
 
-def check_run(room, deck, wanted, came):
+def check_disk(text, told, file, wanted):
+    """A disk file. A new file with the records of an old one ends where the job halts."""
+    records, is_new = disk_file(text, told, file)
+    old = wanted.disks.get(file.name, "")
+    if is_new and wanted.ending != "end":
+        left = wanted.chosen[file.name] - records.count("\n")
+        require(old.startswith(records) and left in (0, 1), f"the file {file.name} up to the halt")
+    else:
+        require(records == old, f"the disk file {file.name}")
+
+
+def check_run(room, deck, wanted, came, told):
     """The ending, the print and the disk files; returns the kind of the run."""
     printed, ending = room.text("print"), ending_of(came.line)
     if wanted.ending == OUT_OF_ORDER:
@@ -137,9 +148,16 @@ def check_run(room, deck, wanted, came):
         return "out of order"
     require(ending == wanted.ending, f"{came.line}, and not {wanted.ending}\n{came.errors}")
     require(printed == wanted.print, "the print")
-    for name, text in disk_files(room, deck).items():
-        require(text == wanted.disks.get(name, ""), f"the disk file {name}")
+    text = room.text("disk")
+    for file in deck.disk_files():
+        check_disk(text, told, file, wanted)
     return "same" if ending == "end" else "halted"
+
+
+def course_of(job):
+    """The old deck of a job, and what it does."""
+    deck = OldDeck(job.deck, {old_deck_sources.TABLE_FILE: job.table}, job.printer)
+    return deck, Job(deck, job.switches, DATE).run(job.records)
 
 
 def compared_in(room):
@@ -151,10 +169,8 @@ def compared_in(room):
     if is_rejected:
         return Result("rejected", answer.line)
     check_rewritten(room, answer)
-    job = room.job
-    deck = OldDeck(job.deck, {old_deck_sources.TABLE_FILE: job.table})
-    wanted = Job(deck, job.switches, DATE).run(job.records, job.second)
-    return Result(check_run(room, deck, wanted, room.go()), answer.line)
+    deck, wanted = course_of(room.job)
+    return Result(check_run(room, deck, wanted, room.go(), answer.errors), answer.line)
 
 
 def compared(program, seed):

@@ -28,8 +28,6 @@ sys.path.insert(0, str(Path(__file__).resolve().parent.parent / "tests"))
 import fit
 import old_deck_sources
 from fits import words_of
-from old_deck_jobs import Job
-from old_decks import OldDeck
 
 TOP = Path(__file__).resolve().parent.parent
 HERE = TOP / "bench"
@@ -75,15 +73,21 @@ def rounds(rules):
 # ---- inputs of the program
 
 
-def program_input(deck, table, switches, keeps_forms):
+def program_input(deck, table, switches, printer, keeps_forms):
     lines = [f"D{card}" for card in deck.split("\n")[:-1]] + [f"T{record}" for record in table]
-    return "".join(f"{it}\n" for it in [*lines, f"S{switches}", *(["F"] if keeps_forms else [])])
+    return "".join(f"{it}\n" for it in [*lines, f"S{switches}", *([f"P{printer}"] if printer else []), *(["F"] if keeps_forms else [])])
+
+
+def after(words, word):
+    """The word after one of them, if it is there."""
+    return words[words.index(word) + 1] if word in words else None
 
 
 def case_input(path):
     words = words_of(path)
     table = (CASES / "table").read_text(encoding="latin-1").split("\n")[:-1]
-    return program_input(path.read_text(encoding="latin-1"), table, words[words.index("--switches") + 1], "--forms" in words)
+    switches = after(words, "--switches") or "0" * 8
+    return program_input(path.read_text(encoding="latin-1"), table, switches, after(words, "--printer"), "--forms" in words)
 
 
 def case_answer(path):
@@ -155,10 +159,9 @@ def differs(seed, feature, printed):
     with tempfile.TemporaryDirectory() as name:
         room = fit.Room(fit.RPG2, name, job)
         (room.folder / "new").write_text(printed.partition("--- new\n")[2], encoding="latin-1")
-        deck = OldDeck(job.deck, {old_deck_sources.TABLE_FILE: job.table})
-        wanted = Job(deck, job.switches, fit.DATE).run(job.records, job.second)
+        deck, wanted = fit.course_of(job)
         try:
-            fit.check_run(room, deck, wanted, room.go())
+            fit.check_run(room, deck, wanted, room.go(), printed)
         except fit.Differs as how:
             return str(how)
     return None
@@ -186,7 +189,7 @@ def inputs_for(wrong, decks):
     for feature in {it.feature for it in wrong}:
         for seed in range(1, decks + 1):
             job = old_deck_sources.made(seed, {feature})
-            inputs[f"{feature}-{seed}"] = program_input(job.deck, job.table or [], job.switches, False)
+            inputs[f"{feature}-{seed}"] = program_input(job.deck, job.table or [], job.switches, job.printer, False)
     return inputs
 
 

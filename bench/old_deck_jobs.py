@@ -1,5 +1,6 @@
 """What the job of an old deck does with its records: a plain evaluator, cycle by cycle. Nothing is shared with rpg2."""
 
+from decimal import ROUND_FLOOR, Context, Decimal
 from typing import NamedTuple
 
 from old_deck_values import (
@@ -17,6 +18,7 @@ from old_deck_values import (
     moved,
     rounded,
     signs,
+    unzoned,
 )
 from old_decks import PAGES, SWITCHES
 
@@ -27,11 +29,13 @@ MOST_COLUMNS = 9999
 
 
 class Course(NamedTuple):
-    """How a job ended (`end`, `halt N` or out of order), its print, and its disk files by their names."""
+    """How a job ended (`end`, `halt N` or out of order), its print, its disk files by their names, those with records that lines change
+    among them, and how many records were chosen from each input file."""
 
     ending: str
     print: str
     disks: dict
+    chosen: dict
 
 
 class Taken(NamedTuple):
@@ -44,10 +48,11 @@ class Taken(NamedTuple):
 
 
 class Paper:
-    """The printed text, and where the form stands."""
+    """The printed text of a printer, where its form stands, and whether its overflow lines are due."""
 
-    def __init__(self, length, overflow_line):
-        self.length, self.overflow_line = length, overflow_line
+    def __init__(self, overflow, length, overflow_line):
+        self.overflow, self.length, self.overflow_line = overflow, length, overflow_line
+        self.overflow_waits = self.overflow_is_new = self.overflow_is_done = False
         self.page = self.at = 1
         self.last, self.text, self.is_begun = (1, 1), "", False
 
@@ -87,24 +92,25 @@ def without_signs(text, decimals):
 
 
 class Records:
-    """The records of both files, with their types, their order and their matches."""
+    """The records of all input files, with their types, their order and their matches. `records` has those of each file by its name."""
 
-    def __init__(self, deck, records, secondary):
-        self.deck = deck
-        self.primary, self.secondary = deck.file_for("IP"), deck.file_for("IS")
-        self.files = [self.primary] + ([self.secondary] if self.secondary else [])
-        self.left = {self.primary: list(records), self.secondary: list(secondary)}
+    def __init__(self, deck, records):
+        self.deck, self.files = deck, deck.inputs()
+        self.all = {file: [it.ljust(deck.files[file].length) for it in records[file]] for file in self.files}
+        self.left = {file: list(records[file]) for file in self.files}
         self.number, self.match, self.chosen = dict.fromkeys(self.files, 0), dict.fromkeys(self.files), dict.fromkeys(self.files)
+        self.counts = dict.fromkeys(self.files, 0)  # how many records of each file a cycle was for
         self.waiting, self.wanted = {}, list(self.files)
 
     def next(self):
         """The file and the record that a cycle is for, or None for both."""
         for file in self.wanted:
             self.waiting[file] = self.take(file)
-        file = self.selected()
+        file = None if self.is_ended() else self.selected()
         if file is None:
             return None, None
         self.wanted = [file]
+        self.counts[file] += 1
         taken = self.waiting[file]
         if taken.match is not None:
             self.chosen[file] = taken.match
@@ -126,7 +132,7 @@ class Records:
     def typed(self, file, record):
         for record_type in self.deck.types:
             for alternative in record_type.alternatives:
-                if record_type.file == file and all(it.holds(record) for it in alternative.codes):
+                if record_type.file == file and not record_type.is_ahead and all(it.holds(record) for it in alternative.codes):
                     return record_type, alternative
         raise Halt("halt 3")
 
@@ -153,20 +159,35 @@ class Records:
         self.match[file] = value
         return value
 
+    def is_ended(self):
+        """Whether the job ends, since all files with E in 17 are read. The end of an empty one is noticed in its turn."""
+        ending = [it for it in self.files if self.deck.files[it].ends] or self.files
+        for file in ending:
+            earlier = self.files[: self.files.index(file)]
+            if not self.all[file] and any(self.waiting[it] is not None for it in earlier):
+                return False
+        return not self.deck.has_match and all(self.waiting[it] is None for it in ending)
+
     def selected(self):
-        first, second = self.waiting[self.primary], self.waiting.get(self.secondary)
-        if first is None or second is None:
-            return self.primary if first is not None else self.secondary if second is not None else None
-        if first.match is None or second.match is None:
-            return self.secondary if second.match is None and first.match is not None else self.primary
-        return self.secondary if first.match > second.match else self.primary
+        """The file whose record is next: one without match fields at once, else the least value, the earlier file first."""
+        left = [it for it in self.files if self.waiting[it] is not None]
+        unmatched = [it for it in left if self.waiting[it].match is None or not self.deck.has_match]
+        if unmatched:
+            return unmatched[0]
+        return min(left, key=lambda it: self.waiting[it].match) if left else None
 
     def is_matching(self, file, taken):
-        """Whether the other file has a record with the same value: MR."""
-        if taken.match is None or not self.secondary:
-            return False
-        other = self.secondary if file == self.primary else self.primary
-        return taken.match in (self.chosen[other], self.match[other])
+        """Whether a file of the other kind has a record with the same value: MR."""
+        others = self.files[1:] if file == self.files[0] else self.files[:1]
+        return taken.match is not None and any(taken.match in (self.chosen[it], self.match[it]) for it in others)
+
+    def ahead(self, file, chosen):
+        """The next record of a file: nines after the last one."""
+        if file == chosen:
+            record = self.left[file][0] if self.left[file] else None
+        else:
+            record = self.waiting[file].record if self.waiting[file] else None
+        return "9" * MOST_COLUMNS if record is None else record.ljust(self.deck.files[file].length)
 
 
 class Job:
@@ -177,9 +198,8 @@ class Job:
         self.values.update(UDATE=int(date), UMONTH=int(date[:2]), UDAY=int(date[2:4]), UYEAR=int(date[4:]))
         self.current = dict.fromkeys(deck.table_names, 0)
         self.on = {"L0", "1P"} | {name for name, digit in zip(SWITCHES, switches) if digit == "1"}
-        self.overflow = deck.printer.overflow if deck.printer else ""
-        self.paper, self.disks = Paper(deck.page_length, deck.overflow_line), {}
-        self.overflow_waits = self.overflow_is_new = self.overflow_is_done = False
+        self.papers = {it.name: Paper(it.overflow, *deck.page_forms.get(it.name, (66, 60))) for it in deck.printers}
+        self.disks, self.records = {}, None
         self.remainder, self.spent = (0, 0), 0
         self.groups, self.had_levels = {}, False
 
@@ -202,11 +222,21 @@ class Job:
         if is_literal(entry):
             return constant(entry)
         name, place = self.place_of(entry, at)
+        if name in self.deck.views:
+            structure, first, last = self.deck.views[name]
+            return self.forms[name].held(self.forms[name].read(structure.text[first - 1 : last]))
         return self.forms[name].held(self.values[name] if place is None else self.values[name][place])
 
     def put(self, entry, value, at=None):
-        name, place = self.place_of(entry, at)
-        if place is None:
+        self.put_at(*self.place_of(entry, at), value)
+
+    def put_at(self, name, place, value):
+        if name in self.deck.views:
+            structure, first, last = self.deck.views[name]
+            form = self.forms[name]
+            text = unzoned(value, form.length) if form.is_number else value
+            structure.text = structure.text[: first - 1] + text + structure.text[last:]
+        elif place is None:
             self.values[name] = value
         else:
             self.values[name][place] = value
@@ -217,7 +247,8 @@ class Job:
         for indicator, is_hit in zip(indicators, hits):
             if indicator and is_hit:
                 self.on.add(indicator)
-                self.overflow_waits = self.overflow_waits or indicator == self.overflow
+                for paper in self.papers.values():
+                    paper.overflow_waits = paper.overflow_waits or indicator == paper.overflow
 
     # ---- operations
 
@@ -236,6 +267,8 @@ class Job:
             self.put(it.result, moved(it.operation, self.operand(it.factor_2, target, at), target), at)
         elif it.operation == "MVR":
             self.store(it, self.remainder_for(target), at)
+        elif it.operation == "SQRT":
+            self.put(it.result, kept(root_of(self.held(it.factor_2, at), target.places), target.length), at)
         else:
             second = self.operand(it.factor_2, target, at)
             first = self.held(it.factor_1, at) if it.factor_1 else target
@@ -375,79 +408,85 @@ class Job:
 
     # ---- lines
 
-    def put_out(self, times, at_overflow=False):
+    def put_out(self, times, at_overflow=None):
+        """The lines of some times; of a printer at its overflow, that one's alone."""
         for line in self.deck.lines:
-            is_meant = line.file == self.deck.printer.name if at_overflow else True
-            if line.time in times and is_meant:
-                self.put_out_line(line, at_overflow)
+            if line.time in times and at_overflow in (None, line.file):
+                self.put_out_line(line, at_overflow is not None)
 
     def put_out_line(self, line, at_overflow):
-        file = self.deck.files[line.file]
+        file, paper = self.deck.files[line.file], self.papers.get(line.file)
         if file.switch and file.switch not in self.on:
             return
         chosen = next((it for it in line.alternatives if self.is_meant(line, it.conditions, at_overflow) and self.holds(it.conditions)), None)
         if chosen is None:
             return
-        if line.fetches and not at_overflow and self.overflow in self.on and self.overflow_waits:
-            self.put_out_overflow()
-        text, blanked = self.assembled(line)
-        if file.is_printer:
-            self.print_line(text, chosen.movement or line.movement)
+        if line.fetches and not at_overflow and paper and paper.overflow in self.on and paper.overflow_waits:
+            self.put_out_overflow(line.file)
+        text, columns, blanked = self.assembled(line)
+        if paper:
+            self.print_line(paper, text, chosen.movement or line.movement)
+        elif file.is_rewritten:
+            self.rewrite(file.name, text, columns)
         else:
             self.disks[line.file] = self.disks.get(line.file, "") + text[: file.length] + "\n"
         for name, place in blanked:
-            self.blank(name, place)
+            self.put_at(name, place, self.forms[name].nothing())
+
+    def rewrite(self, file, text, columns):
+        """The record of a file that was chosen last, with the columns that a line has."""
+        records, at = self.records.all[file], self.records.counts[file] - 1
+        records[at] = "".join(text[it] if it in columns else old for it, old in enumerate(records[at]))
 
     def is_meant(self, line, conditions, at_overflow):
         """Whether lines of this kind go out now: overflow lines at overflow, others not; exceptions whatever they ask for."""
-        if not self.deck.files[line.file].is_printer:
+        if line.file not in self.papers:
             return not at_overflow
-        asks = bool(self.overflow) and any(it.indicator == self.overflow and not it.is_negated for it in conditions)
+        overflow = self.papers[line.file].overflow
+        asks = bool(overflow) and any(it.indicator == overflow and not it.is_negated for it in conditions)
         return line.time == "E" or asks == at_overflow
 
-    def put_out_overflow(self):
+    def put_out_overflow(self, printer):
         for times in ("T", "HD"):
-            self.put_out(times, at_overflow=True)
+            self.put_out(times, at_overflow=printer)
         # what the movements of its own lines turn on doesn't count
-        self.overflow_waits, self.overflow_is_new, self.overflow_is_done = False, False, True
+        paper = self.papers[printer]
+        paper.overflow_waits, paper.overflow_is_new, paper.overflow_is_done = False, False, True
 
-    def print_line(self, text, movement):
+    def print_line(self, paper, text, movement):
         columns = (movement[0], movement[1], movement[2:4], movement[4:])
         space_before, space_after, skip_before, skip_after = (int(it) if it.strip() else 0 for it in columns)
         if not movement.strip():
             space_after = 1
-        self.move(skip_before, space_before)
-        self.paper.place(text.rstrip())
-        self.move(skip_after, space_after)
+        self.move(paper, skip_before, space_before)
+        paper.place(text.rstrip())
+        self.move(paper, skip_after, space_after)
 
-    def move(self, skip, space):
-        reached = bool(skip) and self.paper.skip(skip)
-        reached = bool(space) and self.paper.space(space) or reached
-        if reached and self.overflow:
-            self.on.add(self.overflow)
-            self.overflow_waits, self.overflow_is_new = True, True
-
-    def blank(self, name, place):
-        if place is None:
-            self.values[name] = self.forms[name].nothing()
-        else:
-            self.values[name][place] = self.forms[name].nothing()
+    def move(self, paper, skip, space):
+        reached = bool(skip) and paper.skip(skip)
+        reached = bool(space) and paper.space(space) or reached
+        if reached and paper.overflow:
+            self.on.add(paper.overflow)
+            paper.overflow_waits, paper.overflow_is_new = True, True
 
     def assembled(self, line):
-        """The text of a line, and which entries are blank after it."""
-        text, blanked, greatest_end = [" "] * MOST_COLUMNS, [], 0
+        """The text of a line, the columns that it has, counted from 0, and which entries are blank after it."""
+        text, columns, blanked, greatest_end, above = [" "] * MOST_COLUMNS, set(), [], 0, None
         for it in line.fields:
+            if it.name == "*PLACE" and above is None:
+                above = text[:greatest_end]
             if it.name in PAGES:
                 part = self.page_number(it)
             elif not self.holds(it.conditions):
                 part = None
             else:
-                part = text[:greatest_end] if it.name == "*PLACE" else self.field_text(it)
+                part = above if it.name == "*PLACE" else self.field_text(it)
             if part is not None:
                 text[it.end - len(part) : it.end] = list(part)
+                columns.update(range(it.end - len(part), it.end))
                 blanked += self.blanked_by(it)
             greatest_end = max(greatest_end, it.end)
-        return "".join(text), blanked
+        return "".join(text), columns, blanked
 
     def page_number(self, it):
         """The next page. Its conditions set the counter back first."""
@@ -472,13 +511,18 @@ class Job:
 
     # ---- the cycle
 
-    def run(self, records, secondary=()):
-        ending = "end"
+    def run(self, records):
+        """`records` has those of each input file by its name."""
+        ending, self.records = "end", Records(self.deck, records)
         try:
-            self.cycles(Records(self.deck, records, secondary))
+            self.cycles(self.records)
         except Halt as halt:
             ending = str(halt)
-        return Course(ending, self.paper.ended(), self.disks)
+        for file, rows in self.records.all.items():
+            if self.deck.files[file].is_rewritten:
+                self.disks[file] = "".join(it + "\n" for it in rows)
+        printed = self.papers[self.deck.printer.name].ended() if self.deck.printer else ""
+        return Course(ending, printed, self.disks, self.records.counts)
 
     def cycles(self, records):
         has_levels = any(it.level for record_type in self.deck.types for it in record_type.fields)
@@ -494,21 +538,26 @@ class Job:
             self.had_levels = self.had_levels or bool(levels)
             if "LR" in self.on or taken is None:
                 return
-            if self.overflow in self.on and (self.overflow_waits or not self.overflow_is_done):
-                self.put_out_overflow()
+            for name, paper in self.papers.items():
+                if paper.overflow in self.on and (paper.overflow_waits or not paper.overflow_is_done):
+                    self.put_out_overflow(name)
             self.on.discard("MR")
             if records.is_matching(file, taken):
                 self.on.add("MR")
+            self.look_ahead(records, file)
             self.move_fields(taken)
             self.calculate("detail")
 
     def begin(self):
         """Heading and detail lines, halt indicators, and what goes off before a record."""
         self.spent = 0
-        was_done, self.overflow_is_done = self.overflow_is_done, False
+        done = [it for it in self.papers.values() if it.overflow_is_done]
+        for paper in done:
+            paper.overflow_is_done = False
         self.put_out("HD")  # a line that fetches overflow here leaves nothing for the overflow of the next cycle
-        if was_done and not self.overflow_is_new:
-            self.on.discard(self.overflow)
+        for paper in done:
+            if not paper.overflow_is_new:
+                self.on.discard(paper.overflow)
         if any(it[0] == "H" for it in self.on):
             raise Halt("halt 6")
         typed = {it.indicator for record_type in self.deck.types for it in record_type.alternatives}
@@ -531,6 +580,14 @@ class Job:
         self.groups.update(levels)
         return levels
 
+    def look_ahead(self, records, chosen):
+        """Fields of the next records."""
+        for record_type in self.deck.types:
+            if record_type.is_ahead:
+                record = records.ahead(record_type.file, chosen)
+                for it in record_type.fields:
+                    self.put(it.name, self.forms[it.name].read(it.text_of(record)))
+
     def move_fields(self, taken):
         for it in taken.fields:
             text = it.text_of(taken.record)
@@ -542,6 +599,14 @@ class Job:
             value = form.read(text)
             self.put(it.name, value)
             self.show(it.indicators, signs(value) if form.is_number else (False, False, not value.strip()))
+
+
+def root_of(number, places):
+    """The square root of a number with some places, rounded."""
+    if number.value < 0:
+        raise Halt("halt 1")
+    square = Decimal(number.value).scaleb(2 * places - number.places)
+    return int((Context(prec=60).sqrt(square) + Decimal("0.5")).to_integral_value(ROUND_FLOOR))
 
 
 def fraction_of(operation, first, second):

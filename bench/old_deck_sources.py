@@ -34,6 +34,20 @@ FEATURES = {
     "disks": "several disk files",
     "files": "files by switches",
 }
+# Those of other systems and devices. A deck with one of them has fewer of the others.
+MORE_FEATURES = {
+    "habits": "job control, cards of 96 columns, areas, extents, and options of the header",
+    "printers": "printers by other names, and two of them",
+    "combined": "combined files, and files updated in place",
+    "zone": "codes by zone or digit",
+    "places": "several *PLACE in a line",
+    "structure": "data structures",
+    "end": "E in 17 of the last input file alone",
+    "third": "a third input file",
+    "ahead": "look ahead",
+    "root": "SQRT",
+}
+LEFT_FEATURES = {"third", "ahead"}  # no rule rewrites these: only decks that are asked for have them
 TABLE_FILE = "TABF"
 NO_INDICATORS = "      "
 DIVISIONS = ("AA", "AB", "BA", "CC")
@@ -49,26 +63,28 @@ def right(value, width):
 class RecordType:
     character: str
     indicator: str
-    or_of: int | None = None  # the type that it is an OR card of
-    is_secondary: bool = False
+    or_of: "RecordType | None" = None  # the type that it is an OR card of
+    file: str = "IN"
+    more_codes: str = ""
     sequence: str = ""
 
 
 @dataclass(frozen=True)
 class OldJob:
-    """A deck and all that its job is given. `table` has the records of the table file, if the deck has one."""
+    """A deck and all that its job is given. `records` has those of each input file by its name, `table` those of the table file, if the
+    deck has one; `printer` is the printer that is looked at, if there are several."""
 
     deck: str
-    records: list
-    second: list
+    records: dict
     table: list | None
     switches: str
+    printer: str | None
     features: frozenset
-    has_secondary: bool
 
     def write(self, folder):
-        """Writes the deck and what it is run with: deck, records, second, table, and an empty print and disk."""
-        files = {"records": self.records, "second": self.second, "table": self.table or [], "print": [], "disk": []}
+        """Writes the deck and what it is run with: deck, records, second, third, table, and an empty print and disk."""
+        inputs = [self.records.get(it, []) for it in ("IN", "IN2", "IN3")]
+        files = {**dict(zip(("records", "second", "third"), inputs)), "table": self.table or [], "print": [], "disk": []}
         (folder / "deck").write_text(self.deck, encoding="ascii", newline="")
         for name, lines in files.items():
             (folder / name).write_text("".join(it + "\n" for it in lines), encoding="ascii", newline="")
@@ -81,15 +97,22 @@ class Source:
         self.by = random.Random(seed)
         share = 0.18 if seed % 3 else 0.35
         self.features = set(features) if features is not None else {it for it in FEATURES if self.by.random() < share}
+        if features is None:
+            more = random.Random(f"{seed} more")
+            chosen = {it for it in MORE_FEATURES if more.random() < 0.2} - LEFT_FEATURES
+            if chosen:
+                self.features = chosen | {it for it in FEATURES if more.random() < 0.06}
         self.halts = self.by.random() < 0.12
-        self.has_secondary = self.by.random() < 0.25
+        self.has_secondary = self.by.random() < (0.5 if self.has("ahead") else 0.25) or self.has("end", "third")
+        self.has_match = self.has_secondary and not self.has("end") and (not self.has(*MORE_FEATURES) or self.chance(0.9))
         self.has_level_2 = self.by.random() < 0.5 and not self.has_secondary
         self.overflow = self.any("OF", "OV") if self.by.random() < 0.75 or self.has("fetch") else ""
         self.cards, self.data, self.table_rows, self.disks = [], [], None, []
         self.numbers, self.texts, self.arrays = {"AMT": (6, 2), "QTY": (3, 0)}, {"NAM": 6, "DIV": 2}, {}
         self.defined = {"AMT", "QTY"}  # numbers whose length a card has given
         self.indicators = ["30", "31", "32", "33"]
-        self.count, self.last_file, self.second = 0, None, []
+        self.count, self.last_file, self.second_overflow = 0, None, None
+        self.rewritten = []
         self.has_subroutine = self.has_exceptions = False
 
     # ---- chance
@@ -116,7 +139,11 @@ class Source:
     def made(self):
         """The text of the deck."""
         self.choose_types()
-        self.card("H", c75="TEST", **({"c41": "1"} if self.has("columns") else {}))
+        options = {"c41": "1"} if self.has("columns") else {}
+        if self.has("habits"):
+            self.cards += ["// LOAD $RPG,F1", "// RUN"]
+            options = {"c37": self.any(*" IB"), "c48": self.any(*" 1S")}
+        self.card("H", c75="TEST", **options)
         self.put_files()
         self.put_tables()
         self.put_types()
@@ -126,26 +153,49 @@ class Source:
         if self.has("directive"):
             at = self.by.randrange(len(cards))
             cards = cards[:at] + [f"     {cards[at][5]}/EJECT"] + cards[at:]
-        text = "".join(it + "\n" for it in cards + self.data)
-        return text + ("/*\n" if self.chance(0.5) else "")
+        lines = cards + self.data + (["/*"] if self.chance(0.5) else [])
+        if self.has("habits") and self.chance(0.5):
+            lines = [it.ljust(96) if self.chance(0.8) or it[:2] in ("/*", "**") else it for it in lines]
+        return "".join(it + "\n" for it in lines)
 
     def choose_types(self):
         self.types = [RecordType("ABCD"[it], f"{it + 1:02}") for it in range(self.by.randint(1, 3))]
         if self.has("or", "relation"):
-            self.types.append(RecordType("E", "08", or_of=len(self.types) - 1))
+            self.types.append(RecordType("E", "08", or_of=self.types[-1]))
         if self.has_secondary:
-            self.types += [RecordType("F", "05", is_secondary=True), RecordType("G", "06", is_secondary=True)]
+            self.types += [RecordType("F", "05", file="IN2"), RecordType("G", "06", file="IN2")]
+        if self.has("third"):
+            self.types.append(RecordType("H", "07", file="IN3"))
+        if self.has("zone"):
+            self.choose_zone()
         self.type_indicators = [it.indicator for it in self.types]
+
+    def choose_zone(self):
+        """A type with a code by zone or digit, and perhaps one of all other characters."""
+        at = self.by.randrange(len(self.types))
+        chosen, code = self.types[at], self.any("ZJ", "ZA", "Z1", "D1", "DA", "Z-", "D ", "ZS")
+        chosen.more_codes = f"  50 {code}"
+        if self.chance(0.7):
+            other = RecordType(chosen.character, "09", file=chosen.file, more_codes=f"  50N{code}")
+            self.types.insert(at + 1 if not at or chosen.or_of else at + self.any(0, 1), other)
 
     def put_files(self):
         device = {"c47": "SYS005"} if self.has("columns") and self.chance(0.7) else {}
-        self.card("F", c7="IN", c15="IPE", c19="F", c20="  80  80", c40="MFCU1", **device)
+        if self.has("habits"):
+            device.update(c32=self.any("1", "2"), c67=self.any("   ", " 02", "  1"))
+        ends = (" ", "E") if self.has("end") else ("E", "E")
+        self.put_input("IN", "P" + ends[0], c20="  80  80", c40="MFCU1", **device)
         if self.has_secondary:
-            self.card("F", c7="IN2", c15="ISE", c19="F", c24="  80", c40="DISK")
+            self.put_input("IN2", "S" + ends[1], c24="  80", c40="DISK")
+        if self.has("third"):
+            self.card("F", c7="IN3", c15="IS" + ends[1], c19="F", c24="  80", c40="DISK")
         if self.has("table"):
             self.card("F", c7=TABLE_FILE, c15="IT", c19="F", c24="  80", c39="E", c40="DISK")
         form = "L" if self.has("form") else " "
-        self.card("F", c7="OUT", c15="O", c19="F", c24=" 132", c33=self.overflow or "  ", c39=form, c40="PRINTER", **device)
+        self.card("F", c7="OUT", c15="O", c19="F", c24=" 132", c33=self.overflow or "  ", c39=form, c40=self.printer_device(), **device)
+        if self.has("printers") and self.chance(0.75):
+            self.second_overflow = self.any("OG", "OG", "")
+            self.card("F", c7="OUT2", c15="O", c19="F", c24=" 132", c33=self.second_overflow, c40="PRINTR2")
         for number in range(self.by.randint(2, 3) if self.has("disks") else self.by.randint(0, 1)):
             length = self.by.randint(30, 60)
             self.disks.append((f"DSK{number}", length))
@@ -153,6 +203,15 @@ class Source:
             self.card("F", c7=f"DSK{number}", c15="O", c19="F", c24=right(length, 4), c40="DISK45", **switch)
         if self.has("form"):
             self.card("L", c7="OUT", c15=self.any("066FL060OL", "060FL055OL", "066FL060OL", "066FL055OL", "050FL060OL"))
+
+    def put_input(self, name, use, **columns):
+        kind = self.any("C", "U") if self.has("combined") and not self.has("third") and self.chance(0.7) else "I"
+        if kind != "I":
+            self.rewritten.append(name)
+        self.card("F", c7=name, c15=kind + use, c19="F", **columns)
+
+    def printer_device(self):
+        return self.any("PRINTUF", "PRINTLF") if self.has("printers") and self.chance(0.3) else "PRINTER"
 
     # ---- tables and arrays
 
@@ -168,12 +227,12 @@ class Source:
 
     def put_array(self, name):
         decimals = self.any(0, 2, None) if self.has("movea", "figurative") else self.any(0, 2, 2)
-        entries = self.by.randint(2, 5) if self.chance(0.9) else 33
+        entries = self.by.randint(2, 5) if self.chance(0.5 if self.has("habits") else 0.9) else 33
         length = self.by.randint(1, 3) if decimals is None else self.by.randint(3, 7)
         if not self.chance(0.5):
             self.array(name, entries, length, decimals)
             return
-        on_a_card = self.by.randint(1, min(entries, 80 // length))
+        on_a_card = min(entries, 96 // length) if self.has("habits") else self.by.randint(1, min(entries, 80 // length))
         characters = "ABCXYZ " if decimals is None else "0123456789"
         values = ["".join(self.by.choice(characters) for _ in range(length)) for _ in range(entries)]
         rows = ["".join(values[at : at + on_a_card]) for at in range(0, entries, on_a_card)]
@@ -207,14 +266,59 @@ class Source:
         for number, record_type in enumerate(self.types):
             if record_type.or_of is None:
                 self.put_type(number, record_type)
+        if self.has("ahead"):
+            self.put_ahead()
+        if self.has("structure"):
+            self.put_structure()
+
+    def put_ahead(self):
+        self.card("I", c7="IN", c15="ZZ", c19="**")
+        self.put_field(3, 4, "NXT", None, NO_INDICATORS, None)
+        self.texts["NXT"] = 2
+        if self.chance(0.5):
+            self.put_field(11, 16, "NXA", 2, NO_INDICATORS, None)
+            self.numbers["NXA"] = (6, 2)
+            self.defined.add("NXA")
+
+    def put_structure(self):
+        """A structure that takes a field apart, or puts fields together."""
+        kind = self.any("together", "text", "number")
+        name = {"together": "KEY", "text": "NAMDS", "number": "AMTDS"}[kind] if self.chance(0.5) else ""
+        self.card("I", c7=name, c19="DS")
+        if kind == "together":
+            self.put_key(bool(name))
+            return
+        fields = {"text": [(1, 6, "NAM", None), (1, 2, "NAA", None), (2, 6, "NAB", None)]}
+        fields["number"] = [(1, 6, "AMT", 2), (1, 3, "AMA", 0), (4, 6, "AMB", 1)]
+        for first, last, field, decimals in fields[kind]:
+            self.put_field(first, last, field, decimals, NO_INDICATORS, None)
+        if kind == "text":
+            self.texts.update(NAA=2, NAB=5)
+        else:
+            self.numbers.update(AMA=(3, 0), AMB=(3, 1))
+            self.defined |= {"AMA", "AMB"}
+
+    def put_key(self, is_named):
+        first = self.any(3, 3, 4)
+        end = first + 5
+        fields = [(1, 2, "DIV", None), (first, end, "NAM", None)]
+        if self.chance(0.4):
+            fields.append((end + 1, end + 3, "QTY", 0))
+        length = fields[-1][1] + self.any(0, 1)
+        if not is_named:
+            fields.insert(0, (1, length, "KEY", None))
+        for one in fields:
+            self.put_field(*one, NO_INDICATORS, None)
+        self.texts["KEY"] = fields[-1][1] if is_named else length
 
     def put_type(self, number, record_type):
         record_type.sequence = "AA"
         if self.has("sequence"):
             record_type.sequence = f"{number + 1:02}{self.by.choice('1NN')}{self.by.choice(' OO')}"
         stacker = {"c42": "2"} if self.has("columns") and self.chance(0.4) else {}
-        file = "IN" if not number else "IN2" if record_type.character == "F" else ""
-        code = f"   1 C{record_type.character}"
+        before = self.types[number - 1].file if number else ""
+        file = "" if record_type.file == before else record_type.file
+        code = f"   1 C{record_type.character}{record_type.more_codes}"
         self.card("I", c7=file, c19=record_type.indicator, c21=code, c15=record_type.sequence, **stacker)
         related = self.put_or(number, record_type)
         self.put_control_fields(number, related)
@@ -229,7 +333,7 @@ class Source:
         """OR cards of a type; returns the indicators that its fields may have a relation to."""
         related = None
         for other in self.types:
-            if other.or_of == number:
+            if other.or_of is record_type:
                 indicator = other.indicator if self.chance(0.85) else "  "
                 self.card("I", c14="OR", c19=indicator, c21=f"   1 C{other.character}")
                 other.sequence = record_type.sequence
@@ -242,7 +346,7 @@ class Source:
         if self.has_level_2:
             self.put_field(2, 2, "REG", None, NO_INDICATORS, related, "L2")
             self.texts["REG"] = 1
-        has_match = self.has_secondary and (number == 0 or self.chance(0.8))
+        has_match = self.has_match and (number == 0 or self.chance(0.8))
         self.put_field(3, 4, "DIV", None, NO_INDICATORS, related, "L1M1" if has_match else "L1")
 
     def put_field(self, first, last, name, decimals, indicators, related, level=""):
@@ -267,7 +371,7 @@ class Source:
     def conditions(self, count=None, pool=None):
         if pool is None:
             pool = self.type_indicators + self.indicators + ["L1"] + (["L2"] if self.has_level_2 else [])
-            pool += (["U1", "U2", "U1"] if self.has("switch") else []) + (["MR"] if self.has_secondary else [])
+            pool += (["U1", "U2", "U1"] if self.has("switch") else []) + (["MR"] if self.has_match else [])
         count = self.any(0, 1, 1, 2) if count is None else count
         return "".join(self.by.choice("    N") + it for it in self.by.sample(pool, min(count, len(pool))))
 
@@ -350,6 +454,7 @@ class Source:
             choice += ["call"] * self.has_subroutine + ["except"] * (2 * self.has_exceptions)
         choice += ["whole"] * (4 * self.has("arrays")) + ["figurative"] * (5 * self.has("figurative")) + ["movea"] * (5 * self.has("movea"))
         choice += ["debug"] * self.has("debug") + ["search"] * (2 * self.has("table"))
+        choice += ["root"] * (3 * self.has("root")) + ["move"] * (4 * self.has("structure"))
         return choice + (["sum_up", "entry"] if self.number_arrays else [])
 
     def put_calculation(self, level, label, section):
@@ -375,7 +480,8 @@ class Source:
         return label
 
     def put_arithmetic(self, level, shows):
-        name = self.new_number() if self.chance(0.6) else self.by.choice([it for it in self.numbers if it != "IX" or self.chance(0.3)])
+        is_new = self.has("structure", "ahead") or self.chance(0.6)
+        name = self.new_number() if is_new else self.by.choice([it for it in self.numbers if it != "IX" or self.chance(0.3)])
         size = self.size_of(name)
         operation = self.any("ADD", "SUB", "MULT", "DIV", "Z-ADD", "Z-SUB")
         first = "" if operation[0] == "Z" else self.factor()
@@ -385,6 +491,13 @@ class Source:
         if operation == "DIV" and half == " " and self.chance(0.5):
             name = self.new_number()
             self.put(level, "MVR", "", "", name, self.size_of(name), " ", shows, is_alone=True)
+
+    def put_root(self, level, _):
+        name = self.new_number()
+        size = self.size_of(name)
+        factors = ["QTY"] * 6 + ["12", "2.25", "0", "99"] + (["AMT"] * 9 if self.halts else [])
+        factors += sorted(it for it in self.defined if it[0] == "N" and it in self.numbers and it != name)[:2]
+        self.put(level, "SQRT", "", self.by.choice(factors), name, size)
 
     def put_add(self, level, shows):
         name = self.any("TOT1", "TOT2")
@@ -417,7 +530,8 @@ class Source:
     def put_move(self, level, _):
         if self.chance(0.5):
             size = self.text_size()
-            self.put(level, self.any("MOVE", "MOVEL"), "", self.any("NAM", "DIV", "'XYZ'", "QTY", "AMT"), "TX", size)
+            parts = [it for it in ("KEY", "NAA", "NAB") if it in self.texts]
+            self.put(level, self.any("MOVE", "MOVEL"), "", self.any("NAM", "DIV", "'XYZ'", "QTY", "AMT", *parts), "TX", size)
         else:
             name = self.new_number()
             size = self.size_of(name)
@@ -512,7 +626,7 @@ class Source:
         """The fields of a line, up to a column."""
         end, fields = 0, []
         for _ in range(self.by.randint(1, 5)):
-            if end > limit - 45:
+            if end > limit - 45 or has_place and self.has("places") and end > 20:
                 break
             made = self.output_field(limit - end)
             if made:
@@ -522,7 +636,11 @@ class Source:
         if not fields:
             fields.append({"c40": "   5", "c45": "'EMPTY'"})
             end = 5
-        if has_place:
+        if has_place and self.has("places"):
+            for place in range(2, 4 if end <= 35 else 3):
+                more = self.any(0, 0, 1, 2) if place > 2 else 0
+                fields.append({"c32": "*PLACE", "c40": right(end * place + more, 4), "c23": self.conditions(self.any(0, 0, 1))})
+        elif has_place:
             fields.append({"c32": "*PLACE", "c40": right(min(limit, max(end * 2, 60)), 4), "c23": self.conditions(self.any(0, 0, 1))})
         for columns in fields:
             self.card("O", **columns)
@@ -589,7 +707,7 @@ class Source:
         return self.any({"c18": "1"}, {"c17": "1"}, {"c17": "1", "c18": "2"}, {}, skip, {"c18": "3"}, last)
 
     def put_line(self, file, time, conditions, others=(), has_place=False, page=None, fetches=False, name=None):
-        is_disk = file != "OUT"
+        is_disk = file not in ("OUT", "OUT2")
         columns = {"c15": time, **({"c16": "F"} if fetches else {})}
         if not is_disk:
             columns.update(self.movement(time))
@@ -604,7 +722,8 @@ class Source:
             self.card("O", c14="OR", c23=other, **own)
         if page is not None:
             self.card("O", c32="PAGE2" if self.has("page2") else "PAGE", c40=" 130", c23=page)
-        limit = 60 if has_place else dict(self.disks)[file] if is_disk else 120
+        lengths = {**dict(self.disks), **dict.fromkeys(self.rewritten, 80)}
+        limit = 60 if has_place else lengths[file] if is_disk else 120
         self.put_fields(limit, has_place)
 
     def page(self, share):
@@ -617,6 +736,10 @@ class Source:
         self.put_headings()
         for _ in range(self.by.randint(1, 3)):
             self.put_detail()
+        for name in self.rewritten:
+            self.put_rewriting(name)
+        if self.second_overflow is not None:
+            self.put_second_printer()
         for name, _ in self.disks:
             for _ in range(self.by.randint(1, 2)):
                 self.put_line(name, self.by.choice("DTT"), self.conditions(self.by.randint(1, 2)))
@@ -641,8 +764,24 @@ class Source:
     def put_detail(self):
         conditions = self.conditions(self.by.randint(1, 2), self.type_indicators + ["30", "31"]) if self.chance(0.8) else " 01"
         others = [self.conditions(1)] if self.chance(0.3) else []
-        has_place, page = self.has("place") and self.chance(0.6), self.page(0.05)
+        has_place, page = self.has("place", "places") and self.chance(0.6), self.page(0.05)
         self.put_line("OUT", "D", conditions, others, has_place, page, self.has("fetch") and self.chance(0.25))
+
+    def put_rewriting(self, name):
+        """Lines that change records of a file, two for one record sometimes."""
+        mine = [it.indicator for it in self.types if it.file == name]
+        self.by.shuffle(mine)
+        if self.chance(0.3):
+            mine = mine[:1] * 2 + mine[1:]
+        for indicator in mine[: self.any(0, 1, 1, 2, len(mine))]:
+            self.put_line(name, self.any(*"DDDH"), f" {indicator}" + self.any("", "", " 30", "N31", " L1", "N30 32"), name=name)
+
+    def put_second_printer(self):
+        if self.chance(0.7):
+            others = [f" {self.second_overflow}"] if self.second_overflow else []
+            self.put_line("OUT2", "H", " 1P", others, page=self.page(0.3), name="OUT2")
+        for _ in range(self.by.randint(1, 2)):
+            self.put_line("OUT2", self.any(*"DT"), self.conditions(1), page=self.page(0.1), name="OUT2")
 
     def put_total(self):
         conditions = " L1" if self.chance(0.5) else self.conditions(1, ["L1", "LR", "L1"])
@@ -653,7 +792,7 @@ class Source:
     # ---- records
 
     def records(self):
-        """The records of the primary file; those of the secondary file are kept."""
+        """The records of each input file."""
         wanted = self.any(0, 1, 5, 20, 60, 90)
         records = []
         while len(records) < wanted:
@@ -661,18 +800,18 @@ class Source:
             records += [self.record(region, division) for _ in range(self.by.randint(1, 7))]
         if self.has_secondary:
             records.sort(key=lambda it: DIVISIONS.index(it[2:4]))
-            self.second = [it for it in records if it[0] in "FG"]
-            return [it for it in records if it[0] not in "FG"]
+            files = {it.character: it.file for it in self.types}
+            return {file: [it for it in records if files[it[0]] == file] for file in sorted(set(files.values()) | {"IN"})}
         if self.has("sequence") and self.chance(0.7):
             characters = [character for _ in range(max(1, wanted // 3)) for character in self.group()]
-            return [character + it[1:] for character, it in zip(characters, records)]
-        return records
+            return {"IN": [character + it[1:] for character, it in zip(characters, records)]}
+        return {"IN": records}
 
     def record(self, region, division):
         character = self.by.choice(self.types).character
         amount = f"{self.by.randint(0, 99999):05}{self.by.choice('0123456789JKLMN}')}"
         name = self.any("KLAUS ", "AB3   ", "      ", "ZETA  ", "OTTO X", "000000")
-        rest = "".join(self.by.choice("0123456789") for _ in range(30))
+        rest = "".join(self.by.choice("0123456789") for _ in range(30)) + (self.by.choice("JKR}-&A1 0S/") if self.has("zone") else "")
         quantity = str(self.by.randint(0, 999))
         if self.halts:
             quantity = self.by.choice(["0", "7", "1X2"] + [quantity] * 40)
@@ -694,4 +833,5 @@ def made(seed, features=None):
     source = Source(seed, features)
     deck, records = source.made(), source.records()
     switches = "".join(source.by.choice("01") for _ in range(8))
-    return OldJob(deck, records, source.second, source.table_rows, switches, frozenset(source.features), source.has_secondary)
+    printer = source.any("OUT", "OUT2") if source.second_overflow is not None else None
+    return OldJob(deck, records, source.table_rows, switches, printer, frozenset(source.features))

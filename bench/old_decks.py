@@ -2,8 +2,9 @@
 
 It reads what rpg2 reads, and besides: U1 to U8, UDAY, UMONTH and UYEAR, PAGE1 to PAGE7, PAGE under conditions, OR types, field record
 relation by a type's indicator, sequence by number, arrays on I cards, whole arrays on C and O cards, *BLANK and *ZERO, MOVEA, DEBUG,
-fetched overflow, spaces of OR cards, *PLACE, a floating $ and more places in edit words, table files and L cards. A deck has one
-primary file, at most one secondary file, one printer and any number of disk files. old_deck_jobs.py runs it.
+fetched overflow, spaces of OR cards, *PLACE, a floating $ and more places in edit words, table files and L cards; job control, cards of
+96 columns, codes by zone and digit, data structures, look ahead, E in 17 of some files, combined files and files updated in place, SQRT.
+A deck has one primary file, and any number of secondary files, printers and disk files. old_deck_jobs.py runs it.
 """
 
 from dataclasses import dataclass, field
@@ -12,6 +13,9 @@ from old_deck_values import Form, unquoted
 
 SWITCHES = [f"U{it}" for it in range(1, 9)]
 PAGES = ["PAGE"] + [f"PAGE{it}" for it in range(1, 8)]
+
+# The zones of a card's punches that the character's byte doesn't have.
+ZONES_OF_SIGNS = {"&": 12, "-": 13, " ": 15}
 
 
 @dataclass(frozen=True)
@@ -26,6 +30,7 @@ class Condition:
 class DataFile:
     name: str
     use: str  # columns 15 and 16
+    ends: bool  # E in 17
     length: int
     overflow: str
     device: str
@@ -33,19 +38,32 @@ class DataFile:
 
     @property
     def is_printer(self):
-        return self.device == "PRINTER"
+        return self.device.startswith("PRINT")
+
+    @property
+    def is_rewritten(self):
+        """Whether lines change its records: a combined file, or one that is updated in place."""
+        return self.use[0] in "CU"
 
 
 @dataclass(frozen=True)
 class Code:
-    """A character that a record of a type has in a column, or hasn't."""
+    """A character that a record of a type has in a column, or hasn't; or the zone or the digit of one."""
 
     column: int
     is_negated: bool
+    kind: str  # C, Z or D
     character: str
 
+    def part(self, character):
+        """The part of a character that counts."""
+        byte = character.encode("cp037")[0]
+        if self.kind == "Z":
+            return ZONES_OF_SIGNS.get(character, byte // 16)
+        return byte % 16 if self.kind == "D" else byte
+
     def holds(self, record):
-        return (record[self.column - 1] == self.character) != self.is_negated
+        return (self.part(record[self.column - 1]) == self.part(self.character)) != self.is_negated
 
 
 @dataclass
@@ -81,12 +99,26 @@ class RecordType:
     fields: list = field(default_factory=list)
 
     @property
+    def is_ahead(self):
+        """Whether its fields are those of the next record."""
+        return self.alternatives[0].indicator == "**"
+
+    @property
     def number(self):
         """The place of the type in a group of records; None where letters say that it has none."""
         return int(self.sequence) if self.sequence.isdigit() else None
 
     def fields_of(self, alternative):
         return [it for it in self.fields if it.relation in ("", alternative.indicator)]
+
+
+@dataclass
+class Structure:
+    """A data structure: its name, which may be empty, its subfields, and the text that all of them are parts of."""
+
+    name: str
+    fields: list = field(default_factory=list)
+    text: str = ""
 
 
 @dataclass
@@ -141,7 +173,7 @@ class Line:
 
 class Card:
     def __init__(self, text):
-        self.text = text.ljust(80)
+        self.text = text.ljust(80)[:80]
         self.sheet = self.text[5]
 
     def columns(self, first, last=None):
@@ -168,7 +200,7 @@ class Card:
 
     def codes(self):
         places = [at for at in (21, 28, 35) if self.part(at, at + 6)]
-        return [Code(int(self.columns(at, at + 3)), self.columns(at + 4) == "N", self.columns(at + 6)) for at in places]
+        return [Code(int(self.columns(at, at + 3)), self.columns(at + 4) == "N", self.columns(at + 5), self.columns(at + 6)) for at in places]
 
 
 def is_mark(line, mark):
@@ -184,23 +216,24 @@ def split(text):
         if is_mark(line, "**"):
             data.append([])
         elif data:
-            data[-1].append(line.ljust(80))
-        elif line.strip() and line[6:7] not in ("*", "/"):
+            data[-1].append(line.ljust(96))
+        elif line.strip() and line[6:7] not in ("*", "/") and line[:2] not in ("//", "/&") and line[:5] != "* $$ ":
             cards.append(Card(line))
     return cards, data
 
 
 class OldDeck:
-    """A deck with its forms and first values. `tables` has the records of table files, by their names."""
+    """A deck with its forms and first values. `tables` has the records of table files, by their names; `printer` names the one that is
+    looked at, the first one if it is None."""
 
-    def __init__(self, text, tables=None):
-        self.tables = tables or {}
+    def __init__(self, text, tables=None, printer=None):
+        self.tables, self.wanted_printer = tables or {}, printer
         self.forms = {"UDATE": Form(6, "0"), "UDAY": Form(2, "0"), "UMONTH": Form(2, "0"), "UYEAR": Form(2, "0")}
         self.forms.update((it, Form(4, "0")) for it in PAGES)
-        self.files, self.types, self.calculations, self.lines = {}, [], [], []
+        self.files, self.types, self.calculations, self.lines, self.structures = {}, [], [], [], []
         self.entries, self.table_names = {}, []
-        self.page_length, self.overflow_line = 66, 60
-        self.file = ""
+        self.page_forms = {}  # the lines of a page and its overflow line, by the file of an L card
+        self.file, self.fields = "", []
         cards, self.data = split(text)
         reads = {"F": self.read_file, "L": self.read_form, "E": self.read_table}
         reads.update(I=self.read_input, C=self.read_calculation, O=self.read_output)
@@ -208,18 +241,41 @@ class OldDeck:
             if card.sheet in reads:
                 reads[card.sheet](card)
         self.labels = {it.label: at for at, it in enumerate(self.calculations) if it.label}
+        self.views = {}
+        for structure in self.structures:
+            self.complete(structure)
+
+    def complete(self, structure):
+        """The columns of a structure's names."""
+        length = max(it.last for it in structure.fields)
+        structure.text = " " * length
+        self.views.update((it.name, (structure, it.first, it.last)) for it in structure.fields)
+        if structure.name:
+            self.views[structure.name] = (structure, 1, length)
+            self.forms.setdefault(structure.name, Form(length, " "))
 
     # ---- what the job asks for
 
-    def file_for(self, use):
-        return next((it.name for it in self.files.values() if it.use == use), None)
+    def inputs(self):
+        """The names of the primary file and of the secondary files."""
+        return [it.name for use in "PS" for it in self.files.values() if it.use[0] in "ICU" and it.use[1] == use]
+
+    @property
+    def printers(self):
+        return [it for it in self.files.values() if it.is_printer]
 
     @property
     def printer(self):
-        return next((it for it in self.files.values() if it.is_printer), None)
+        """The printer that is looked at."""
+        return next((it for it in self.printers if self.wanted_printer in (None, it.name)), None)
+
+    @property
+    def has_match(self):
+        return any(it.match for record_type in self.types for it in record_type.fields)
 
     def disk_files(self):
-        return [it for it in self.files.values() if it.use[0] == "O" and it is not self.printer]
+        """The files that the job writes or rewrites, but for printers."""
+        return [it for it in self.files.values() if it.use[0] in "OCU" and not it.is_printer]
 
     def first_values(self):
         """A value for each name, a list of them for an array or a table."""
@@ -238,10 +294,11 @@ class OldDeck:
     def read_file(self, card):
         name = card.part(7, 14)
         length = int(card.part(24, 27) or card.part(20, 23))
-        self.files[name] = DataFile(name, card.columns(15, 16), length, card.part(33, 34), card.part(40, 46), card.part(71, 72))
+        use, ends = card.columns(15, 16), card.columns(17) == "E"
+        self.files[name] = DataFile(name, use, ends, length, card.part(33, 34), card.part(40, 46), card.part(71, 72))
 
     def read_form(self, card):
-        self.page_length, self.overflow_line = int(card.columns(15, 17)), int(card.columns(20, 22))
+        self.page_forms[card.part(7, 14)] = int(card.columns(15, 17)), int(card.columns(20, 22))
 
     def read_table(self, card):
         on_a_record, count = card.part(33, 35), int(card.columns(36, 39))
@@ -273,6 +330,10 @@ class OldDeck:
         return values
 
     def read_input(self, card):
+        if card.columns(19, 20) == "DS" and not card.part(43, 58):
+            self.structures.append(Structure(card.part(7, 12)))
+            self.fields = self.structures[-1].fields
+            return
         if card.is_or() and card.columns(14, 16) != "ORD":
             alternatives = self.types[-1].alternatives
             alternatives.append(TypeAlternative(card.part(19, 20) or alternatives[-1].indicator, card.codes()))
@@ -282,6 +343,7 @@ class OldDeck:
             self.file = card.part(7, 14) or self.file
             first = TypeAlternative(card.part(19, 20), card.codes())
             self.types.append(RecordType(self.file, card.columns(15, 16), card.columns(17) == "N", card.columns(18) == "O", [first]))
+            self.fields = self.types[-1].fields
         else:
             self.read_input_field(card)
 
@@ -289,7 +351,7 @@ class OldDeck:
         first, last = int(card.columns(44, 47)), int(card.columns(48, 51))
         level, match, relation = card.pairs(59, 61, 63)
         read = InputField(first, last, card.columns(52), card.part(53, 58), level, match, relation, card.pairs(65, 67, 69))
-        self.types[-1].fields.append(read)
+        self.fields.append(read)
         self.forms.setdefault(read.name.split(",")[0], Form(last - first + 1, read.decimals))
 
     def read_calculation(self, card):

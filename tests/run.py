@@ -31,6 +31,7 @@ import installed
 import lay_out
 import objects
 import sessions
+import shops
 from case_file import Run, lines_in, runs_in
 from outcome import Outcome
 from program import Program
@@ -112,6 +113,8 @@ def jobs_of(program: Program, word: str) -> Iterable[Job]:
         yield from evaluated.jobs_of(program, HERE / "evaluated")
     if word in "fit":
         yield from fits.jobs_of(program, HERE / "fit")
+    if word in "shops":
+        yield from shops.jobs_of(program, HERE / "shops")
     if word in "editors":
         yield from editors.jobs_of(program)
     if word in "installed":

@@ -20,10 +20,20 @@ const THIRD_INPUT: &str =
     "; a second input file has S in 16, and a third isn't supported: merge two beforehand (docs/OLD_PROGRAMS.md)";
 
 const MORE_PRINTERS: &str =
-    "; more than one printer isn't supported: make a deck for each (docs/OLD_PROGRAMS.md)";
+    "; more than one printer isn't supported (rpg2 fit --printer writes the deck of one: A23)";
 
 const MORE_DISKS: &str =
     "; more than one disk file isn't supported (rpg2 fit makes one of several: A21)";
+
+const ENDS_APART: &str =
+    "one of the two input files has E in 17: the old job ends with that file, and rpg2 reads both to their end (rpg2 fit rewrites E on the last file alone: A24)";
+
+/// Writes which rule rewrites the device of a file, if it is another name for a printer.
+fn write_printer_rule(out: &mut TextWriter, device: &[u8]) {
+    if device.starts_with(b"PRINT") {
+        out.write_str(" (rpg2 fit rewrites it: A23)");
+    }
+}
 
 /// Writes that a use has a second file, and what to do.
 fn write_second(out: &mut TextWriter, spot: Spot<'_>, name: &[u8], first: &FileOnCard) {
@@ -43,9 +53,11 @@ fn write_second(out: &mut TextWriter, spot: Spot<'_>, name: &[u8], first: &FileO
     match first.serves_as {
         FileUse::Disk if is_near(first_device, b"PRINTER") => {
             out.fill_one(", since its device is {} and not PRINTER", first_device);
+            write_printer_rule(out, first_device);
         }
         FileUse::Disk if is_near(own_device, b"PRINTER") => {
             out.fill_one("; {} isn't PRINTER", own_device);
+            write_printer_rule(out, own_device);
         }
         FileUse::Primary | FileUse::Secondary => out.write_str(THIRD_INPUT),
         FileUse::Printer => out.write_str(MORE_PRINTERS),
@@ -77,7 +89,7 @@ pub(crate) fn write_file(out: &mut TextWriter, spot: Spot<'_>, cause: &FileCause
         ),
         FileCause::Second { name, first } => write_second(out, spot, name.as_slice(), first),
         FileCause::EndsApart => {
-            out.write_str("one of the two input files has E in 17: both have it, or neither");
+            out.write_str(ENDS_APART);
         }
         FileCause::Length { serves_as, length } => {
             let sentence = match serves_as {
@@ -119,4 +131,5 @@ pub(crate) fn write_movement(out: &mut TextWriter, spot: Spot<'_>, file: &FileOn
         out.fill_one(", device {}", device);
     }
     out.write_str(") is the disk file");
+    write_printer_rule(out, device);
 }

@@ -100,8 +100,9 @@ OR among record types isn't supported: write a record type for each, and repeat 
  T 07-14 _______OR
 data structures aren't supported: read the pieces as fields, or put them together by MOVEL and MOVE (rpg2 fit rewrites it: A29)
  T 15-16 ____DS
- I 18-18 UDS
  I 19-19 DS
+the local data area isn't supported: give its values on a first record (docs/OLD_PROGRAMS.md)
+ I 18-18 UDS
 sequence by number isn't supported: write two letters; the order of the types isn't checked then (rpg2 fit rewrites it: A7)
  T 15-16 ##
 sequence by number isn't supported: blank column 17

@@ -103,15 +103,15 @@ pub(crate) const REWRITINGS: &str = "\
     @A27%a combined file, or one that is updated in place, is read, and a new one written%\
     %     FCARDS   CP  F      80            MFCU1\n     ICARDS   AA  01   1 CA\n     I                                        2   60AMT\n     OCARDS   D        01 30\n     O                         AMT       40\
     %     FCARDS   IP  F      80            MFCU1\n     FNEW     O   F      80            DISK\n     ICARDS   AA  01   1 CA\n     I                                        2   60AMT\n     I                                        1  80 REC#\n     ONEW     D        01 30\n     O                         REC#      80\n     O                         AMT       40\n     ONEW     D        01N30\n     O                         REC#      80\
-    %read the new file in place of the old one afterwards. Where the job halts, it ends with\nthe last record written. Rejected are keys, new records, total lines for the file, two lines\nfor one record, and cards that turn on LR\
+    %read the new file in place of the old one afterwards. Where the job halts, it ends with\nthe last record written. Lines of which two may change one record become one. Rejected are keys,\nnew records, total lines for the file, and cards that turn on LR\
     @A28%codes by zone or digit become codes of characters%\
     %     IIN      AA  01   1 ZS\n     I                                        2   6 NAM\n     I        BB  02   1NZS\
     %     IIN      AA  01   1 CS\n     I                                        2   6 NAM\n     ..\n     I        AA  01   1 C\\\n     I                                        2   6 NAM\n     I        BB  02   1NCS   1NCT   1NCU\n     I       AND       1NCV   1NCW   1NCX\n     I       AND       1NCY   1NCZ   1NC\\\
     %nothing. A zone has 9 to 11 characters, and rule A6 makes a type of each. Rejected are\nthe zones of signs, and more than 100 alternatives\
-    @A29%a data structure over an input field becomes fields%\
+    @A29%the subfields of a data structure are read, or its whole is put together%\
     %     IIN      AA  01   1 CA\n     I                                        2   70DATE\n     I            DS\n     I                                        1   60DATE\n     I                                        1   20MONTH\
     %     IIN      AA  01   1 CA\n     I                                        2   70DATE\n     I                                        2   30MONTH\
-    %nothing. Rejected are UDS, arrays, fields of it that calculations change, and a structure that\nseveral fields fill: put it together by MOVE and MOVEL\
+    %nothing. If several fields fill the structure, calculations move them to its whole at the\nstart of detail. Rejected are UDS, arrays, and fields of it that calculations change\
     @A30%SQRT becomes a loop%\
     %     C                     SQRT N         R       80\
     %     C                     SETOF                     99\n     C                     SETON                     99\n     C  N99                GOTO ROOT#\n     C           N         MULT 4         SQ#     60\n     ..\n     C           ROOT#     TAG\

@@ -1,10 +1,11 @@
 //! UDAY, UMONTH and UYEAR.
 
 use rpg_fit_deck::{Card, Editor, Seen, Sentence, View, Word};
+use rpg_fit_terms::is_name_on;
 use rpg_fit_words::{
-    Columns, Done, Group, Indicator, Line, List, Operand, Place, Printer, RuleStop, Section,
-    array_of, calculation, fresh_name, groups, has_overflow, insert_at, is_card,
-    is_field_put_first, is_name_used, is_total_skipped_late, lines, printer_of,
+    Columns, Done, Indicator, Line, List, Place, Printer, RuleStop, array_of, calculation,
+    fresh_name, has_overflow, insert_at, is_card, is_field_put_first, is_name_used,
+    is_total_skipped_late, lines, printer_of,
 };
 
 /// A part of the date that the old system provided as a field.
@@ -33,10 +34,6 @@ impl DatePart {
 }
 
 /// Rewrites parts of the date as fields that calculations fill from UDATE.
-///
-/// # Errors
-///
-/// A line with a part of the date may be written before any calculation, no name is free, or memory runs out.
 pub fn dates(editor: &mut Editor) -> Done {
     let view = editor.view()?;
     let parts = undefined_parts(&view);
@@ -67,7 +64,7 @@ fn fill(editor: &mut Editor, view: &View, parts: &[DatePart]) -> Done {
         half: fresh_name(view, b"UDMD", number)?,
         number,
     };
-    if has_total(view)? {
+    if has_total(view) {
         filling.put(editor, Place::TotalFront, Indicator::ALWAYS)?;
     }
     filling.put(editor, Place::DetailFront, Indicator::BLANK)?;
@@ -101,38 +98,23 @@ fn is_part(parts: &[DatePart], name: &[u8]) -> bool {
     false
 }
 
-/// Whether a card has one of these parts of the date, as an operand or as its index.
-fn has_part(parts: &[DatePart], card: &Card, as_index: bool) -> bool {
-    match card.form() {
-        b'C' => {
-            is_operand(parts, Columns::Factor1.value(card), as_index)
-                || is_operand(parts, Columns::Factor2.value(card), as_index)
-                || is_operand(parts, Columns::Result.value(card), as_index)
-        }
-        b'O' => is_operand(parts, card.value(32, 37), as_index),
-        _ => false,
-    }
-}
-
-/// Whether an operand, or its index, is one of these parts of the date.
-fn is_operand(parts: &[DatePart], text: &[u8], as_index: bool) -> bool {
-    let index = Operand::of(text).index;
-    is_part(parts, if as_index { index } else { text })
-}
-
-/// Returns the first card that has one of these parts of the date; if all are indexes, the first with one of those.
+/// Returns the first card that has one of these parts of the date.
 fn first_card(view: &View, parts: &[DatePart]) -> usize {
-    let mut indexed = 0;
     for seen in view.cards.iter() {
-        let is_card = !seen.card.is_comment();
-        if is_card && has_part(parts, &seen.card, false) {
+        if uses_part(&seen.card, parts) {
             return seen.number;
         }
-        if indexed == 0 && is_card && has_part(parts, &seen.card, true) {
-            indexed = seen.number;
+    }
+    0
+}
+
+fn uses_part(card: &Card, parts: &[DatePart]) -> bool {
+    for part in parts {
+        if is_name_on(card, part.name()) {
+            return true;
         }
     }
-    indexed
+    false
 }
 
 /// Rejects parts of the date on lines that may be written before any calculation.
@@ -159,23 +141,11 @@ fn check_line(printer: Option<Printer>, line: &Line, parts: &[DatePart], is_earl
 }
 
 /// Whether a deck has total calculations or total lines.
-fn has_total(view: &View) -> Result<bool, RuleStop> {
-    let groups = groups(view)?;
-    Ok(has_total_line(view) || has_total_group(groups.as_slice()))
-}
-
-fn has_total_line(view: &View) -> bool {
+fn has_total(view: &View) -> bool {
     for seen in view.cards.iter() {
-        if is_card(seen, b'O') && seen.card.column(15) == b'T' {
-            return true;
-        }
-    }
-    false
-}
-
-fn has_total_group(groups: &[Group]) -> bool {
-    for group in groups {
-        if group.section() == Section::Total {
+        let card = &seen.card;
+        let is_calculation = is_card(seen, b'C') && card.column(7) == b'L';
+        if is_calculation || is_card(seen, b'O') && card.column(15) == b'T' {
             return true;
         }
     }
@@ -215,19 +185,15 @@ impl Filling<'_> {
 
 /// Returns the sentence about the parts of the date that are fields now.
 fn sentence(parts: &[DatePart]) -> Sentence {
+    let (one, two, three) = (
+        "% from UDATE, so --date is month, day, year",
+        "%, % from UDATE, so --date is month, day, year",
+        "%, %, % from UDATE, so --date is month, day, year",
+    );
     match parts {
-        [first, second, third] => Sentence::of_three(
-            "%, %, % from UDATE, so --date is month, day, year",
-            first.word(),
-            second.word(),
-            third.word(),
-        ),
-        [first, second] => Sentence::of_two(
-            "%, % from UDATE, so --date is month, day, year",
-            first.word(),
-            second.word(),
-        ),
-        [first, ..] => Sentence::about("% from UDATE, so --date is month, day, year", first.word()),
+        [a, b, c] => Sentence::of_three(three, a.word(), b.word(), c.word()),
+        [a, b] => Sentence::of_two(two, a.word(), b.word()),
+        [a, ..] => Sentence::about(one, a.word()),
         [] => Sentence::of(""),
     }
 }

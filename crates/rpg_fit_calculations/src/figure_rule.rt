@@ -1,16 +1,96 @@
 //! Figurative constants.
 
-use crate::figure::{Beside, Figure, Instead, Use, replacement};
 use rpg_fit_deck::{Card, Editor, Seen, Sentence, View, Word};
 use rpg_fit_words::{
     Columns, Done, Operand, Place, RuleStop, calculation, form_of, fresh_name, insert_at, is_card,
 };
+
+/// The longest text that a literal fills.
+const LITERAL: usize = 8;
+
+/// The most digits of a number.
+const DIGITS: usize = 15;
 
 /// The calculation that defines a field of blanks, as long as the longest text. It is never done.
 const BLANKS: &[u8] = b"NL0||MOVE|' '|%|256";
 
 /// The calculation that defines a field of zeros, with the most digits of a number. It is never done.
 const ZEROS: &[u8] = b"NL0||Z-ADD|0|%| 150";
+
+/// A figurative constant.
+#[derive(Clone, Copy)]
+enum Figure {
+    Blanks,
+    Zeros,
+}
+
+impl Figure {
+    /// Returns the figurative constant in an operand.
+    fn of(operand: &[u8]) -> Option<Figure> {
+        match operand {
+            b"*BLANK" | b"*BLANKS" => Some(Figure::Blanks),
+            b"*ZERO" | b"*ZEROS" => Some(Figure::Zeros),
+            _ => None,
+        }
+    }
+
+    /// Returns a literal of `length` of its characters.
+    fn literal(self, length: usize) -> Word {
+        let characters: &[u8] = match self {
+            Figure::Blanks => b"        ",
+            Figure::Zeros => b"00000000",
+        };
+        Word::of(b"'")
+            .and(characters.get(..length).unwrap_or(&[]))
+            .and(b"'")
+    }
+}
+
+/// The other operand of a figurative constant.
+#[derive(Clone, Copy)]
+enum Beside {
+    Number,
+    /// A text of this many characters.
+    Text(usize),
+}
+
+/// Whether an operand is a character literal.
+pub(crate) fn is_literal(operand: &[u8]) -> bool {
+    operand.first() == Some(&b'\'')
+}
+
+impl Beside {
+    /// Returns what an operand is, or None if nothing defines it. A blank counts as a number.
+    fn of(view: &View, operand: &[u8]) -> Option<Beside> {
+        if matches!(operand, [] | [b'0'..=b'9' | b'+' | b'-' | b'.', ..]) {
+            return Some(Beside::Number);
+        }
+        if is_literal(operand) {
+            return Some(Beside::Text(operand.len().saturating_sub(2)));
+        }
+        let form = form_of(view, Operand::of(operand).name)?;
+        Some(if form.is_number() {
+            Beside::Number
+        } else {
+            Beside::Text(form.length)
+        })
+    }
+}
+
+/// What replaces a figurative constant.
+#[derive(Clone, Copy)]
+enum Instead {
+    /// The number 0. A move becomes Z-ADD.
+    Number,
+    /// A literal of this many characters.
+    Literal(usize),
+    /// A field that nothing writes.
+    Field,
+}
+
+fn is_move(operation: &[u8]) -> bool {
+    matches!(operation, b"MOVE" | b"MOVEL")
+}
 
 /// Fields that nothing writes, for constants that are longer than a literal.
 #[derive(Clone, Copy)]
@@ -19,37 +99,13 @@ struct Fields {
     zeros: Option<Word>,
 }
 
-impl Fields {
-    fn none() -> Fields {
-        Fields {
-            blanks: None,
-            zeros: None,
-        }
-    }
-
-    fn of(&self, figure: Figure) -> Option<Word> {
-        match figure {
-            Figure::Blanks => self.blanks,
-            Figure::Zeros => self.zeros,
-        }
-    }
-
-    fn keep(&mut self, figure: Figure, name: Word) {
-        match figure {
-            Figure::Blanks => self.blanks = Some(name),
-            Figure::Zeros => self.zeros = Some(name),
-        }
-    }
-}
-
 /// Rewrites figurative constants as numbers, as literals, or as fields that nothing writes.
-///
-/// # Errors
-///
-/// A constant has no such meaning with the other operand, a name is needed and none is free, or memory runs out.
 pub fn figures(editor: &mut Editor) -> Done {
     let view = editor.view()?;
-    let mut fields = Fields::none();
+    let mut fields = Fields {
+        blanks: None,
+        zeros: None,
+    };
     for seen in view.cards.iter() {
         if is_card(seen, b'C') {
             let mut now = *seen;
@@ -73,30 +129,35 @@ fn rewritten(
     let Some(figure) = Figure::of(constant.text()) else {
         return Ok(seen.card);
     };
-    let instead = meaning(view, &seen, columns, figure)?;
-    let text = match instead {
-        Instead::Number => Word::of(b"0"),
-        Instead::Literal(literal) => literal,
+    let mut card = seen.card;
+    let text = match meaning(view, &seen, constant, figure, columns)? {
+        Instead::Number => {
+            if is_move(card.value(28, 32)) {
+                card = card.with(28, 32, b"Z-ADD");
+            }
+            Word::of(b"0")
+        }
+        Instead::Literal(length) => figure.literal(length),
         Instead::Field => field(editor, fields, figure, seen.number)?,
     };
-    let card = columns.put(with_operation(seen.card, instead), text.text());
+    card = columns.put(card, text.text());
     editor.rewrite(&seen, card, Sentence::of_two("% is %", constant, text));
     Ok(card)
 }
 
-/// Returns what replaces the figurative constant in columns.
+/// Returns what replaces a figurative constant in columns.
 fn meaning(
     view: &View,
     seen: &Seen,
-    columns: Columns,
+    constant: Word,
     figure: Figure,
+    columns: Columns,
 ) -> Result<Instead, RuleStop> {
-    let constant = columns.value(&seen.card);
-    let Some(beside) = beside(view, other_operand(&seen.card, columns)) else {
+    let Some(beside) = Beside::of(view, other_operand(&seen.card, columns)) else {
         let why = "% stands with a name that nothing defines";
-        return Err(RuleStop::about(seen.number, why, Word::of(constant)));
+        return Err(RuleStop::about(seen.number, why, constant));
     };
-    match replacement(figure, constant, seen.card.value(28, 32), beside) {
+    match instead_of(constant, figure, beside, seen.card.value(28, 32)) {
         Ok(instead) => Ok(instead),
         Err(why) => Err(RuleStop::refused(seen.number, why)),
     }
@@ -104,38 +165,43 @@ fn meaning(
 
 /// Returns the operand that decides what replaces a figurative constant.
 fn other_operand(card: &Card, columns: Columns) -> &[u8] {
-    if matches!(columns, Columns::Factor1) {
-        return Columns::Factor2.value(card);
-    }
     let field = Columns::Result.value(card);
-    if field.is_empty() {
-        Columns::Factor1.value(card)
-    } else {
-        field
+    match columns {
+        Columns::Factor1 => Columns::Factor2.value(card),
+        _ if field.is_empty() => Columns::Factor1.value(card),
+        _ => field,
     }
 }
 
-/// Returns what an operand is, or None if nothing defines it.
-fn beside(view: &View, other: &[u8]) -> Option<Beside> {
-    if let Some(constant) = Beside::of_constant(other) {
-        return Some(constant);
-    }
-    let form = form_of(view, Operand::of(other).name)?;
-    if form.is_number() {
-        Some(Beside::Number)
-    } else {
-        Some(Beside::Text(form.length))
-    }
-}
-
-/// Returns a card with the operation for what replaces a figurative constant.
-fn with_operation(card: Card, instead: Instead) -> Card {
-    match instead {
-        Instead::Number if matches!(Use::of(card.value(28, 32)), Use::Move) => {
-            card.with(28, 32, b"Z-ADD")
+/// Returns what replaces a figurative constant, or why nothing has the same meaning.
+fn instead_of(
+    constant: Word,
+    figure: Figure,
+    beside: Beside,
+    operation: &[u8],
+) -> Result<Instead, Sentence> {
+    let why = match (beside, figure) {
+        (Beside::Number, Figure::Zeros) => return Ok(Instead::Number),
+        (Beside::Number, Figure::Blanks) => Sentence::of("*BLANK beside a number"),
+        (Beside::Text(length), _) if is_move(operation) && length <= LITERAL => {
+            return Ok(Instead::Literal(length));
         }
-        _ => card,
-    }
+        (Beside::Text(length), Figure::Zeros) if is_move(operation) && length > DIGITS => {
+            Sentence::of("*ZERO to a text of more than 15 characters")
+        }
+        (Beside::Text(_), _) if is_move(operation) => return Ok(Instead::Field),
+        (Beside::Text(_), _) if !matches!(operation, b"COMP" | b"LOKUP") => {
+            Sentence::of_two("% beside %", constant, Word::of(operation))
+        }
+        (Beside::Text(_), Figure::Blanks) => return Ok(Instead::Literal(1)),
+        (Beside::Text(length), Figure::Zeros) if length <= LITERAL => {
+            return Ok(Instead::Literal(length));
+        }
+        (Beside::Text(_), Figure::Zeros) => {
+            Sentence::of("*ZERO beside a text of more than 8 characters")
+        }
+    };
+    Err(why)
 }
 
 /// Returns the field that replaces a figurative constant, created for the first card that needs it.
@@ -145,16 +211,19 @@ fn field(
     figure: Figure,
     number: usize,
 ) -> Result<Word, RuleStop> {
-    if let Some(name) = fields.of(figure) {
+    let (known, stem, template): (Option<Word>, &[u8], &[u8]) = match figure {
+        Figure::Blanks => (fields.blanks, b"BL$", BLANKS),
+        Figure::Zeros => (fields.zeros, b"ZE$", ZEROS),
+    };
+    if let Some(name) = known {
         return Ok(name);
     }
-    let (stem, template): (&[u8], &[u8]) = match figure {
-        Figure::Blanks => (b"BL$", BLANKS),
-        Figure::Zeros => (b"ZE$", ZEROS),
-    };
     let name = fresh_name(&editor.view()?, stem, number)?;
     let never = calculation(template, &[name], number);
     insert_at(editor, Place::DetailFront, &[never], number)?;
-    fields.keep(figure, name);
+    match figure {
+        Figure::Blanks => fields.blanks = Some(name),
+        Figure::Zeros => fields.zeros = Some(name),
+    }
     Ok(name)
 }

@@ -2,7 +2,6 @@
 #![tactic(auto)]
 
 mod date_rule;
-mod figure;
 mod figure_rule;
 mod movea;
 mod movea_rule;

@@ -23,8 +23,16 @@ pub(crate) struct Entries {
 }
 
 impl Entries {
-    fn characters(self) -> usize {
-        self.count.saturating_mul(self.length)
+    /// Returns those that a field's characters fill, or all of them if they are shorter.
+    fn filled_by(self, characters: usize) -> Result<Entries, Sentence> {
+        let moved = characters.min(self.count.saturating_mul(self.length));
+        if self.length == 0 || moved % self.length != 0 {
+            return Err(Sentence::of("MOVEA ends within an entry"));
+        }
+        Ok(Entries {
+            count: moved / self.length,
+            ..self
+        })
     }
 }
 
@@ -40,17 +48,9 @@ pub(crate) enum Moves {
         count: usize,
     },
     /// Into entries, through work fields.
-    Into {
-        to: usize,
-        count: usize,
-        length: usize,
-    },
+    Into(Entries),
     /// Out of entries, through work fields.
-    OutOf {
-        from: usize,
-        count: usize,
-        length: usize,
-    },
+    OutOf(Entries),
 }
 
 /// Returns what a MOVEA becomes. `is_same`: both sides are the same array.
@@ -62,16 +62,10 @@ pub(crate) fn moves_of(from: Side, to: Side, is_same: bool) -> Result<Moves, Sen
     match (from, to) {
         (Side::Field(_), Side::Field(_)) => Ok(Moves::Left),
         (Side::Array(from), Side::Array(to)) => entry_to_entry(from, to, is_same),
-        (Side::Field(characters), Side::Array(to)) => Ok(Moves::Into {
-            to: to.first,
-            count: whole_entries(characters, to)?,
-            length: to.length,
-        }),
-        (Side::Array(from), Side::Field(characters)) => Ok(Moves::OutOf {
-            from: from.first,
-            count: whole_entries(characters, from)?,
-            length: from.length,
-        }),
+        (Side::Field(characters), Side::Array(to)) => Ok(Moves::Into(to.filled_by(characters)?)),
+        (Side::Array(from), Side::Field(characters)) => {
+            Ok(Moves::OutOf(from.filled_by(characters)?))
+        }
     }
 }
 
@@ -87,14 +81,4 @@ fn entry_to_entry(from: Entries, to: Entries, is_same: bool) -> Result<Moves, Se
             count: from.count.min(to.count),
         })
     }
-}
-
-/// Returns how many entries the field's characters fill, or all entries if the array is the
-/// shorter side.
-fn whole_entries(characters: usize, array: Entries) -> Result<usize, Sentence> {
-    let moved = characters.min(array.characters());
-    if array.length == 0 || moved % array.length != 0 {
-        return Err(Sentence::of("MOVEA ends within an entry"));
-    }
-    Ok(moved / array.length)
 }

@@ -1,6 +1,6 @@
 //! MOVEA.
 
-use crate::figure::is_literal;
+use crate::figure_rule::is_literal;
 use crate::movea::{Entries, Moves, Side, moves_of};
 use crate::now::{Now, replace};
 use rpg_fit_deck::{Card, Editor, Seen, Sentence, View, Word};
@@ -10,25 +10,30 @@ use rpg_fit_words::{
 };
 
 /// Rewrites MOVEA as moves of single entries.
-///
-/// # Errors
-///
-/// A MOVEA can't be done entry by entry, a name or an indicator is needed and none is free, or memory runs out.
 pub fn moves(editor: &mut Editor) -> Done {
     let found = groups_now(editor)?;
+    let Some(first) = found.first() else {
+        return Ok(());
+    };
     let mut free = FreeIndicators::new();
+    let mut now = Now::of(editor, first.last)?;
     for group in found.iter() {
         if group.operation() == b"MOVEA".as_slice() {
-            rewrite_group(editor, &mut free, group)?;
+            now.turn(group.last);
+            rewrite_group(editor, &mut free, group, &mut now)?;
         }
     }
     Ok(())
 }
 
 /// Rewrites a MOVEA. One whose operands can't be read stays, for the compiler to report.
-fn rewrite_group(editor: &mut Editor, free: &mut FreeIndicators, group: &Group) -> Done {
-    let mut now = Now::of(editor, group.last)?;
-    match meaning(&now)? {
+fn rewrite_group(
+    editor: &mut Editor,
+    free: &mut FreeIndicators,
+    group: &Group,
+    now: &mut Now,
+) -> Done {
+    match meaning(now)? {
         None => Ok(()),
         Some(Moves::Left) => {
             let card = now.seen.card.with(28, 32, b"MOVEL");
@@ -36,8 +41,8 @@ fn rewrite_group(editor: &mut Editor, free: &mut FreeIndicators, group: &Group) 
             Ok(())
         }
         Some(moves) => {
-            make_rooms(editor, &mut now)?;
-            move_entries(editor, free, group, &now, moves)
+            make_rooms(editor, now)?;
+            move_entries(editor, free, group, now, moves)
         }
     }
 }
@@ -100,17 +105,25 @@ fn move_entries(
     editor: &mut Editor,
     free: &mut FreeIndicators,
     group: &Group,
-    now: &Now,
+    now: &mut Now,
     moves: Moves,
 ) -> Done {
-    let work = work_prefix(&now.view, now.seen.number)?;
+    let work = match moves {
+        Moves::Into(_) | Moves::OutOf(_) => work_prefix(&now.view, now.seen.number)?,
+        _ => Word::empty(),
+    };
     let under = under_flag(&now.view, group, free, false)?;
     let plan = Plan::of(&now.seen, &under, work);
     let mut cards = under.before;
     plan.push_moves(&mut cards, moves);
     let count = cards.as_slice().len();
     let remark = Sentence::counted("MOVEA is % calculation", "MOVEA is % calculations", count);
-    replace(editor, group, &cards, remark)
+    replace(editor, group, &cards, remark)?;
+    if work.len() > 0 {
+        now.look(editor)
+    } else {
+        Ok(())
+    }
 }
 
 /// Gives the arrays of a MOVEA names with room for an index, in alphabetical order.
@@ -179,12 +192,8 @@ impl Plan {
             Moves::EntryToEntry { from, to, count } => {
                 self.push_entry_to_entry(cards, from, to, count);
             }
-            Moves::Into { to, count, length } => self.push_into(cards, to, count, length),
-            Moves::OutOf {
-                from,
-                count,
-                length,
-            } => self.push_out_of(cards, from, count, length),
+            Moves::Into(to) => self.push_into(cards, to),
+            Moves::OutOf(from) => self.push_out_of(cards, from),
         }
     }
 
@@ -198,25 +207,26 @@ impl Plan {
     }
 
     /// Appends, for each entry, a MOVEL of everything up to its end to a work field, and a MOVE of that to the entry.
-    fn push_into(&self, cards: &mut List<NewCard>, to: usize, count: usize, length: usize) {
-        for place in 0..count {
+    fn push_into(&self, cards: &mut List<NewCard>, to: Entries) {
+        for place in 0..to.count {
             let number = place.saturating_add(1);
             let work = self.work_field(number);
-            let to = numbered(self.to, to.saturating_add(place));
-            cards.push(self.to_work(b"MOVEL", work, number.saturating_mul(length)));
-            let out = self.from(b"MOVE", work).with(43, 48, to.text());
+            let entry = numbered(self.to, to.first.saturating_add(place));
+            cards.push(self.to_work(b"MOVEL", work, number.saturating_mul(to.length)));
+            let out = self.from(b"MOVE", work).with(43, 48, entry.text());
             cards.push(out.with(49, 52, b""));
         }
     }
 
     /// Appends, for each entry from the last one down, a MOVE of it to the end of a work field, and a MOVEL of that to the result. The
     /// first of them keeps the length that the card gives the result.
-    fn push_out_of(&self, cards: &mut List<NewCard>, from: usize, count: usize, length: usize) {
-        for place in 0..count {
-            let number = count.saturating_sub(place);
+    fn push_out_of(&self, cards: &mut List<NewCard>, from: Entries) {
+        for place in 0..from.count {
+            let number = from.count.saturating_sub(place);
             let work = self.work_field(number);
-            let last = numbered(self.from, from.saturating_add(number).saturating_sub(1));
-            let into = self.to_work(b"MOVE", work, number.saturating_mul(length));
+            let last = from.first.saturating_add(number).saturating_sub(1);
+            let last = numbered(self.from, last);
+            let into = self.to_work(b"MOVE", work, number.saturating_mul(from.length));
             cards.push(into.with(33, 42, last.text()));
             let out = self.from(b"MOVEL", work);
             cards.push(if place == 0 {

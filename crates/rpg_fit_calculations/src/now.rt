@@ -1,9 +1,9 @@
-//! A calculation in its present form, and cards that replace it.
+//! The calculations of a deck, one after another, and cards that replace one.
 
 use rpg_fit_deck::{Editor, Seen, Sentence, View, Word};
 use rpg_fit_words::{Done, Group, List, NewCard, RuleStop, put_cards, remove_cards, with_room};
 
-/// A deck in its present form, and the last card of one of its calculations, which other changes may have renamed.
+/// A deck, but for cards that replaced calculations, and the last card of the calculation that is next.
 #[derive(Drop)]
 pub(crate) struct Now {
     pub view: View,
@@ -11,23 +11,36 @@ pub(crate) struct Now {
 }
 
 impl Now {
-    /// Returns the present form of a calculation, given its last card as it was seen earlier.
+    /// Begins with a calculation.
     pub fn of(editor: &Editor, last: Seen) -> Result<Now, RuleStop> {
-        let view = editor.view()?;
-        let mut seen = last;
-        for card in view.cards.iter() {
+        Ok(Now {
+            view: editor.view()?,
+            seen: last,
+        })
+    }
+
+    /// Goes on to a calculation, given its last card as it was before arrays were renamed.
+    pub fn turn(&mut self, last: Seen) {
+        self.seen = last;
+        for card in self.view.cards.iter() {
             if card.at == last.at {
-                seen = *card;
+                self.seen = *card;
             }
         }
-        Ok(Now { view, seen })
+    }
+
+    /// Sees the names on cards that replaced calculations too.
+    pub fn look(&mut self, editor: &Editor) -> Done {
+        self.view = editor.view()?;
+        self.turn(self.seen);
+        Ok(())
     }
 
     /// Gives an array a name with room for a comma and an index.
     pub fn make_room(&mut self, editor: &mut Editor, array: Word, index: Word) -> Done {
         let name = with_room(editor, array.text(), index)?;
         if name.text() != array.text() {
-            *self = Now::of(editor, self.seen)?;
+            self.look(editor)?;
         }
         Ok(())
     }

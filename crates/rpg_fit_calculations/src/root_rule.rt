@@ -3,8 +3,8 @@
 use crate::now::{Now, replace};
 use rpg_fit_deck::{Card, Editor, Sentence, View, Word};
 use rpg_fit_words::{
-    Columns, Done, FreeIndicators, Group, Indicator, NewCard, Operand, RuleStop, array_of,
-    calculation, form_of, fresh_name, groups, under_flag,
+    Columns, Done, FreeIndicators, FreshNames, Group, Indicator, NewCard, Operand, RuleStop,
+    array_of, calculation, form_of, groups_now, under_flag,
 };
 
 /// The most digits of a number.
@@ -15,19 +15,43 @@ const MOST_DECIMALS: usize = 4;
 
 /// Replaces each SQRT by a loop. Its result is rounded.
 pub fn square_roots(editor: &mut Editor) -> Done {
-    let view = editor.view()?;
-    let found = groups(&view)?;
-    let mut free = FreeIndicators::new();
+    let found = groups_now(editor)?;
+    let Some(first) = found.first() else {
+        return Ok(());
+    };
+    let mut now = Now::of(editor, first.last)?;
+    let mut unused = Unused::new();
     for group in found.iter() {
-        if is_root(group) {
-            rewrite_root(editor, &mut free, group, found.as_slice())?;
+        if group.operation() == b"SQRT".as_slice() {
+            now.seen = group.last;
+            rewrite_root(editor, &mut unused, group, &now, found.as_slice())?;
         }
     }
     Ok(())
 }
 
-fn is_root(group: &Group) -> bool {
-    group.operation() == b"SQRT".as_slice()
+/// The indicators and names that no card has and no loop has got yet.
+#[derive(Clone, Copy)]
+struct Unused {
+    indicators: FreeIndicators,
+    squares: FreshNames,
+    roots: FreshNames,
+    nexts: FreshNames,
+    starts: FreshNames,
+    ends: FreshNames,
+}
+
+impl Unused {
+    fn new() -> Unused {
+        Unused {
+            indicators: FreeIndicators::new(),
+            squares: FreshNames::of(b"SQ#", 6),
+            roots: FreshNames::of(b"SG#", 6),
+            nexts: FreshNames::of(b"SH#", 6),
+            starts: FreshNames::of(b"STEP#", 6),
+            ends: FreshNames::of(b"ROOT#", 6),
+        }
+    }
 }
 
 /// Whether a calculation follows another one under the same conditions, both on a card of their own.
@@ -119,12 +143,12 @@ fn decimals_of(view: &View, card: &Card) -> Option<usize> {
 /// Replaces a SQRT. One whose operands nothing defines stays, for the compiler to report.
 fn rewrite_root(
     editor: &mut Editor,
-    free: &mut FreeIndicators,
+    unused: &mut Unused,
     group: &Group,
+    now: &Now,
     found: &[Group],
 ) -> Done {
-    let now = Now::of(editor, group.last)?;
-    check(&now, found)?;
+    check(now, found)?;
     let card = &now.seen.card;
     let (Some(digits), Some(decimals)) = (
         operand_digits(&now.view, Columns::Factor2.value(card)),
@@ -141,23 +165,23 @@ fn rewrite_root(
         let (length, decimals) = (Word::of_number(digits.length), Word::of_number(decimals));
         return Err(RuleStop::refused(now.seen.number, Sentence::of_two(why, length, decimals)));
     }
-    put_loop(editor, free, group, &now, length.max(2), decimals)
+    put_loop(editor, unused, group, now, length.max(2), decimals)
 }
 
 /// Replaces a SQRT by a loop over numbers of `length` digits.
 fn put_loop(
     editor: &mut Editor,
-    free: &mut FreeIndicators,
+    unused: &mut Unused,
     group: &Group,
     now: &Now,
     length: usize,
     decimals: usize,
 ) -> Done {
-    let under = under_flag(&now.view, group, free, true)?;
+    let under = under_flag(&now.view, group, &mut unused.indicators, true)?;
     let Some(flag) = under.flag else {
         return Ok(());
     };
-    let root = Root::of(now, free, under.level, flag, length)?;
+    let root = Root::of(now, unused, under.level, flag, length)?;
     let mut cards = under.before;
     cards.push_all(&root.begin(&now.seen.card, power(4, decimals.saturating_mul(2))));
     cards.push_all(&root.check(&now.seen.card));
@@ -204,7 +228,7 @@ struct Root {
 impl Root {
     fn of(
         now: &Now,
-        free: &mut FreeIndicators,
+        unused: &mut Unused,
         level: Indicator,
         flag: Indicator,
         length: usize,
@@ -213,12 +237,12 @@ impl Root {
         Ok(Root {
             level,
             flag,
-            square: fresh_name(&now.view, b"SQ#", number)?,
-            root: fresh_name(&now.view, b"SG#", number)?,
-            next: fresh_name(&now.view, b"SH#", number)?,
-            again: fresh_name(&now.view, b"STEP#", number)?,
-            done: fresh_name(&now.view, b"ROOT#", number)?,
-            goes_on: free.take(&now.view, number)?,
+            square: unused.squares.take(&now.view, number)?,
+            root: unused.roots.take(&now.view, number)?,
+            next: unused.nexts.take(&now.view, number)?,
+            again: unused.starts.take(&now.view, number)?,
+            done: unused.ends.take(&now.view, number)?,
+            goes_on: unused.indicators.take(&now.view, number)?,
             length,
             number,
         })

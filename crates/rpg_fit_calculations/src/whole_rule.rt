@@ -3,58 +3,79 @@
 use crate::now::{Now, replace};
 use rpg_fit_deck::{Card, Editor, Sentence, View, Word};
 use rpg_fit_words::{
-    Columns, Done, FreeIndicators, FreshNames, Group, Indicator, NewCard, Operand, RuleStop,
-    array_of, calculation, entry, fresh_name, groups, under_flag,
+    Array, Columns, Done, FreeIndicators, FreshNames, Group, Indicator, NewCard, Operand, RuleStop,
+    array_of, calculation, entry, fresh_name, groups_now, under_flag,
 };
 
 /// The least number of entries for which the calculations are a loop.
 const LOOP_FROM: usize = 31;
 
 /// Rewrites calculations with whole arrays as calculations with their entries.
-///
-/// # Errors
-///
-/// A calculation can't be done entry by entry, a name or an indicator is needed and none is free, or memory runs out.
 pub fn whole_calculations(editor: &mut Editor) -> Done {
-    let view = editor.view()?;
-    let found = groups(&view)?;
+    let found = groups_now(editor)?;
+    let Some(first) = found.first() else {
+        return Ok(());
+    };
     let mut free = FreeIndicators::new();
+    let mut now = Now::of(editor, first.last)?;
     for (place, group) in found.iter().enumerate() {
-        if has_whole_array(&view, group) {
+        if !is_left(group.operation()) {
+            now.turn(group.last);
             let next = found.get(place.saturating_add(1));
-            rewrite_group(editor, &mut free, group, next)?;
+            rewrite_group(editor, &mut free, group, &mut now, next)?;
         }
     }
     Ok(())
 }
 
-/// Operations that accept whole arrays, or name labels and subroutines.
-const LEFT: [&[u8]; 7] = [
-    b"LOKUP", b"XFOOT", b"GOTO", b"EXSR", b"TAG", b"BEGSR", b"ENDSR",
-];
+/// Whether an operation accepts whole arrays, or names labels or subroutines.
+fn is_left(operation: &[u8]) -> bool {
+    matches!(operation, b"LOKUP" | b"XFOOT" | b"GOTO" | b"EXSR")
+        || matches!(operation, b"TAG" | b"BEGSR" | b"ENDSR")
+}
 
-/// Operations that do the same to a whole array as to each of its entries.
-const BY_ENTRY: [&[u8]; 8] = [
-    b"ADD", b"SUB", b"MULT", b"DIV", b"Z-ADD", b"Z-SUB", b"MOVE", b"MOVEL",
-];
+/// Whether an operation does the same to a whole array as to each of its entries.
+fn is_by_entry(operation: &[u8]) -> bool {
+    matches!(operation, b"ADD" | b"SUB" | b"MULT" | b"DIV")
+        || matches!(operation, b"Z-ADD" | b"Z-SUB" | b"MOVE" | b"MOVEL")
+}
 
-fn is_one_of(operation: &[u8], operations: &[&[u8]]) -> bool {
-    for one in operations {
-        if *one == operation {
-            return true;
+/// The whole arrays of a calculation.
+#[derive(Clone, Copy)]
+struct Wholes {
+    factor1: Option<Array>,
+    factor2: Option<Array>,
+    result: Option<Array>,
+}
+
+impl Wholes {
+    fn of(view: &View, card: &Card) -> Wholes {
+        Wholes {
+            factor1: array_of(view, Columns::Factor1.value(card)),
+            factor2: array_of(view, Columns::Factor2.value(card)),
+            result: array_of(view, Columns::Result.value(card)),
         }
     }
-    false
-}
 
-/// Whether an operand is a whole array.
-fn is_whole(view: &View, text: &[u8]) -> bool {
-    array_of(view, text).is_some()
-}
+    /// Returns the array in columns.
+    fn at(&self, columns: Columns) -> Option<Array> {
+        match columns {
+            Columns::Factor1 => self.factor1,
+            Columns::Factor2 => self.factor2,
+            Columns::Result => self.result,
+        }
+    }
 
-/// Whether a calculation has a whole array that must be rewritten.
-fn has_whole_array(view: &View, group: &Group) -> bool {
-    !is_one_of(group.operation(), &LEFT) && least_entries(view, &group.last.card).is_some()
+    /// Returns the least number of entries, or None if there is no array.
+    fn least_entries(&self) -> Option<usize> {
+        let mut least = None;
+        for columns in &Columns::ALL {
+            if let Some(array) = self.at(*columns) {
+                least = Some(array.entries.min(least.unwrap_or(array.entries)));
+            }
+        }
+        least
+    }
 }
 
 /// Whether an operand is an entry of an array.
@@ -64,22 +85,28 @@ fn is_entry_of(text: &[u8], array: &[u8]) -> bool {
 
 /// Rejects an operation that can't be done entry by entry, a result that isn't a whole array or is a factor by one of its entries, and
 /// resulting indicators.
-fn check(now: &Now, next: Option<&Group>) -> Done {
+fn check(now: &Now, wholes: &Wholes, next: Option<&Group>) -> Done {
     let card = &now.seen.card;
     let number = now.seen.number;
     let operation = card.value(28, 32);
     let array = Columns::Result.value(card);
-    if !is_one_of(operation, &BY_ENTRY) {
+    if !is_by_entry(operation) {
         let why = "a whole array beside %";
         return Err(RuleStop::about(number, why, Word::of(operation)));
     }
-    if !is_whole(&now.view, array) {
+    if wholes.result.is_none() {
         return Err(RuleStop::because(number, "a whole array into a field"));
     }
     if !card.is_blank(54, 59) {
         return Err(RuleStop::because(number, "resulting indicators of a whole array"));
     }
-    check_next(next)?;
+    match next {
+        Some(group) if matches!(group.operation(), b"MVR") => {
+            let why = "MVR after a DIV of whole arrays";
+            return Err(RuleStop::because(group.last.number, why));
+        }
+        _ => {}
+    }
     if is_entry_of(Columns::Factor1.value(card), array)
         || is_entry_of(Columns::Factor2.value(card), array)
     {
@@ -89,70 +116,45 @@ fn check(now: &Now, next: Option<&Group>) -> Done {
     Ok(())
 }
 
-/// Rejects MVR as the next calculation.
-fn check_next(next: Option<&Group>) -> Done {
-    match next {
-        Some(group) if matches!(group.operation(), b"MVR") => {
-            let why = "MVR after a DIV of whole arrays";
-            Err(RuleStop::because(group.last.number, why))
-        }
-        _ => Ok(()),
-    }
-}
-
-/// Returns the least number of entries of a calculation's whole arrays, or None if it has none.
-fn least_entries(view: &View, card: &Card) -> Option<usize> {
-    let mut least = None;
-    for columns in &Columns::ALL {
-        if let Some(array) = array_of(view, columns.value(card)) {
-            least = Some(array.entries.min(least.unwrap_or(array.entries)));
-        }
-    }
-    least
-}
-
-/// Rewrites a calculation with whole arrays.
+/// Rewrites a calculation, if it has whole arrays.
 fn rewrite_group(
     editor: &mut Editor,
     free: &mut FreeIndicators,
     group: &Group,
+    now: &mut Now,
     next: Option<&Group>,
 ) -> Done {
-    let mut now = Now::of(editor, group.last)?;
-    check(&now, next)?;
-    match least_entries(&now.view, &now.seen.card) {
-        None | Some(0) => Ok(()),
-        Some(entries) if entries < LOOP_FROM => by_entry(editor, free, group, &mut now, entries),
-        Some(entries) => by_loop(editor, free, group, &mut now, entries),
+    let wholes = Wholes::of(&now.view, &now.seen.card);
+    let Some(entries) = wholes.least_entries() else {
+        return Ok(());
+    };
+    check(now, &wholes, next)?;
+    match entries {
+        0 => Ok(()),
+        _ if entries < LOOP_FROM => by_entry(editor, free, group, now, &wholes, entries),
+        _ => by_loop(editor, free, group, now, &wholes, entries),
     }
 }
 
 /// Gives the whole arrays of a calculation names with room for a comma and an index.
-fn make_rooms(editor: &mut Editor, now: &mut Now, index: Word) -> Done {
+fn make_rooms(editor: &mut Editor, now: &mut Now, wholes: &Wholes, index: Word) -> Done {
     for columns in &Columns::ALL {
-        let name = Word::of(columns.value(&now.seen.card));
-        if is_whole(&now.view, name.text()) {
+        if wholes.at(*columns).is_some() {
+            let name = Word::of(columns.value(&now.seen.card));
             now.make_room(editor, name, index)?;
         }
     }
     Ok(())
 }
 
-/// Returns a card with an index for the whole array in columns, if there is one.
-fn indexed(view: &View, card: Card, columns: Columns, index: Word) -> Card {
-    let name = columns.value(&card);
-    if is_whole(view, name) {
-        columns.put(card, entry(Word::of(name), index).text())
-    } else {
-        card
-    }
-}
-
 /// Returns the calculation of an entry, with an index for each whole array.
-fn entry_card(now: &Now, base: NewCard, index: Word) -> NewCard {
+fn entry_card(wholes: &Wholes, base: NewCard, index: Word) -> NewCard {
     let mut card = base.card;
     for columns in &Columns::ALL {
-        card = indexed(&now.view, card, *columns, index);
+        if wholes.at(*columns).is_some() {
+            let array = Word::of(columns.value(&card));
+            card = columns.put(card, entry(array, index).text());
+        }
     }
     NewCard {
         card,
@@ -166,15 +168,16 @@ fn by_entry(
     free: &mut FreeIndicators,
     group: &Group,
     now: &mut Now,
+    wholes: &Wholes,
     entries: usize,
 ) -> Done {
-    make_rooms(editor, now, Word::of_number(entries))?;
+    make_rooms(editor, now, wholes, Word::of_number(entries))?;
     let under = under_flag(&now.view, group, free, false)?;
     let base = base_of(now, under.level).with(9, 17, under.conditions.text());
     let mut cards = under.before;
     for place in 0..entries {
         let index = Word::of_number(place.saturating_add(1));
-        cards.push(entry_card(now, base, index));
+        cards.push(entry_card(wholes, base, index));
     }
     let (one, several) = (
         "whole arrays: % calculation",
@@ -198,10 +201,11 @@ fn by_loop(
     free: &mut FreeIndicators,
     group: &Group,
     now: &mut Now,
+    wholes: &Wholes,
     entries: usize,
 ) -> Done {
     let index = FreshNames::of(b"X#", 2).take(&now.view, now.seen.number)?;
-    make_rooms(editor, now, index)?;
+    make_rooms(editor, now, wholes, index)?;
     let under = under_flag(&now.view, group, free, true)?;
     let Some(flag) = under.flag else {
         return Ok(());
@@ -209,12 +213,13 @@ fn by_loop(
     let frame = Loop::of(now, under.level, flag, index)?;
     let mut cards = under.before;
     cards.push_all(&frame.begin());
-    cards.push(entry_card(now, frame.base, index));
+    cards.push(entry_card(wholes, frame.base, index));
     cards.push_all(&frame.end(entries));
     let remark =
         "whole arrays: a loop of %; give --allowance more than 1000 where it is done often";
     let remark = Sentence::about(remark, Word::of_number(entries));
-    replace(editor, group, &cards, remark)
+    replace(editor, group, &cards, remark)?;
+    now.look(editor)
 }
 
 /// The parts of a loop around the calculation of an entry.

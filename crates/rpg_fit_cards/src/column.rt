@@ -1,6 +1,5 @@
 //! Blanks columns that have no meaning.
 
-use crate::cards::is_device;
 use crate::table_data::COLUMNS;
 use crate::wide::narrow_data;
 use rpg_fit_deck::{Card, Editor, Seen, Sentence, Word};
@@ -83,58 +82,57 @@ fn blank_extents(editor: &mut Editor, now: &mut Seen) -> Done {
     Ok(())
 }
 
-/// Blanks options of the header without a meaning for a job over files, and rejects others.
+/// Options of the header: the column, the characters that have no meaning for a job over files, and why any other one is rejected.
+const OPTIONS: [(usize, &[u8], &str); 4] = [
+    (37, b" IB", "37 has %"),
+    (48, b" 1S", "48 has %"),
+    (
+        40,
+        b" ",
+        "signs (40 has %): old numbers may come out with another last character",
+    ),
+    (
+        43,
+        b" ",
+        "files are translated (43 has %): translate the records beforehand",
+    ),
+];
+
+/// Blanks options of the header without a meaning, and rejects others.
 fn blank_options(editor: &mut Editor, now: &mut Seen) -> Done {
-    let card = now.card;
-    let why = if !matches!(card.column(37), b' ' | b'I' | b'B') {
-        Some((37, "37 has %"))
-    } else if !matches!(card.column(48), b' ' | b'1' | b'S') {
-        Some((48, "48 has %"))
-    } else if card.column(40) != b' ' {
-        Some((
-            40,
-            "signs (40 has %): old numbers may come out with another last character",
-        ))
-    } else if card.column(43) != b' ' {
-        Some((
-            43,
-            "files are translated (43 has %): translate the records beforehand",
-        ))
-    } else {
-        None
-    };
-    if let Some((column, why)) = why {
-        let option = Word::of(card.columns(column, column));
-        return Err(RuleStop::about(now.number, why, option));
+    for (column, meaningless, why) in &OPTIONS {
+        if !meaningless.contains(&now.card.column(*column)) {
+            let option = Word::of(now.card.columns(*column, *column));
+            return Err(RuleStop::about(now.number, *why, option));
+        }
     }
     blank(editor, now, 37, 37, "inquiry (37) blanked");
     blank(editor, now, 48, 48, "shared areas (48) blanked");
     Ok(())
 }
 
+/// Columns without a meaning, by the form of the card.
+const SPARES: [(u8, usize, usize, &str); 5] = [
+    (b'F', 47, 52, "the symbolic device (47 to 52) blanked"),
+    (b'F', 53, 53, "labels (53) blanked"),
+    (b'F', 70, 70, "the unit (70) blanked"),
+    (b'H', 15, 15, "debug (15) blanked"),
+    (b'H', 41, 41, "forms alignment (41) blanked"),
+];
+
 fn blank_spares(editor: &mut Editor, now: &mut Seen) {
-    match now.card.form() {
-        b'F' => {
-            let device = "the symbolic device (47 to 52) blanked";
-            blank(editor, now, 47, 52, device);
-            blank(editor, now, 53, 53, "labels (53) blanked");
-            blank(editor, now, 70, 70, "the unit (70) blanked");
+    for (form, first, last, sentence) in &SPARES {
+        if now.card.form() == *form {
+            blank(editor, now, *first, *last, *sentence);
         }
-        b'H' => {
-            blank(editor, now, 15, 15, "debug (15) blanked");
-            blank(editor, now, 41, 41, "forms alignment (41) blanked");
-        }
-        _ => {}
     }
 }
 
 /// Whether a file has one record per block, by its device.
 fn has_one_record(card: &Card) -> bool {
-    matches!(card.value(40, 46), [b'P', b'R', b'I', b'N', b'T', ..])
-        || is_device(card, b"MFCU1")
-        || is_device(card, b"MFCU2")
-        || is_device(card, b"READ40")
-        || is_device(card, b"READER")
+    let device = card.value(40, 46);
+    matches!(device, [b'P', b'R', b'I', b'N', b'T', ..])
+        || matches!(device, b"MFCU1" | b"MFCU2" | b"READ40" | b"READER")
 }
 
 fn put_record_length(editor: &mut Editor, now: &mut Seen) {

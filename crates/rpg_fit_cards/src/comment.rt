@@ -3,8 +3,6 @@
 use rpg_fit_deck::{Card, Editor, Seen, Sentence};
 use rpg_fit_words::{Done, Group, groups_now};
 
-const DIRECTIVES: [&[u8]; 3] = [b"/TITLE", b"/EJECT", b"/SPACE"];
-
 /// Turns directives for the listing into comments, and DEBUG with the cards of its conditions.
 pub fn comments(editor: &mut Editor) -> Done {
     put_directives(editor)?;
@@ -12,13 +10,7 @@ pub fn comments(editor: &mut Editor) -> Done {
 }
 
 fn is_directive(card: &Card) -> bool {
-    let found = card.columns(7, 12);
-    for word in &DIRECTIVES {
-        if found == *word {
-            return true;
-        }
-    }
-    false
+    matches!(card.columns(7, 12), b"/TITLE" | b"/EJECT" | b"/SPACE")
 }
 
 fn make_comment(editor: &mut Editor, seen: &Seen, with: usize) {

@@ -1,10 +1,8 @@
 //! Merges several disk files into one.
 
-use crate::cards::is_printer;
-use crate::outputs::{OutputCard, OutputRole, output_cards};
 use rpg_fit_deck::{Card, Editor, Seen, Sentence, View, Word};
 use rpg_fit_terms::address_after;
-use rpg_fit_words::{Done, List, is_card};
+use rpg_fit_words::{Done, Line, List, is_card, lines};
 
 /// A disk file that is written.
 #[derive(Clone, Copy)]
@@ -32,29 +30,27 @@ pub fn disks(editor: &mut Editor) -> Done {
 fn join_disks(editor: &mut Editor, view: &View, disks: &[Disk]) -> Done {
     if let [first, others @ ..] = disks {
         if !others.is_empty() {
-            let outputs = output_cards(view);
             report_disks(editor, disks);
-            move_outputs(editor, view, disks, first, outputs.checked()?);
+            for line in lines(view)?.iter() {
+                move_line(editor, view, disks, first, line);
+            }
             join_files(editor, first, others);
         }
     }
     Ok(())
 }
 
-/// Moves the fields of all disk files' lines one to the right, and inserts the letter of its file in column 1 of each
-/// line.
-fn move_outputs(
-    editor: &mut Editor,
-    view: &View,
-    disks: &[Disk],
-    first: &Disk,
-    outputs: &[OutputCard],
-) {
-    for (place, output) in outputs.iter().enumerate() {
-        move_output(editor, disks, first, output);
-        if ends_conditions(output, outputs.get(place.saturating_add(1))) {
-            put_letter(editor, view, disks, output);
-        }
+/// Puts its file on a line. One of a disk file goes to the first of them, with the letter of its own in column 1, and its fields
+/// move one to the right.
+fn move_line(editor: &mut Editor, view: &View, disks: &[Disk], first: &Disk, line: &Line) {
+    let Some(disk) = disk_of(disks, line.file.text()) else {
+        put_file(editor, line, line.file.text(), first);
+        return;
+    };
+    put_file(editor, line, first.name(), disk);
+    put_letter(editor, view, line, disk);
+    for field in line.fields.iter() {
+        move_field(editor, field, disk);
     }
 }
 
@@ -80,7 +76,9 @@ fn written_disks(view: &View) -> List<Disk> {
 
 /// Whether a card describes a file that is written, but not the printer.
 fn is_disk(seen: &Seen) -> bool {
-    is_card(seen, b'F') && seen.card.column(15) == b'O' && !is_printer(&seen.card)
+    is_card(seen, b'F')
+        && seen.card.column(15) == b'O'
+        && seen.card.value(40, 46) != b"PRINTER".as_slice()
 }
 
 fn report_disks(editor: &mut Editor, disks: &[Disk]) {
@@ -109,22 +107,11 @@ fn disk_of<'a>(disks: &'a [Disk], file: &[u8]) -> Option<&'a Disk> {
     None
 }
 
-/// Puts the file's name on the card of a line, and moves a field of a disk file one to the right.
-fn move_output(editor: &mut Editor, disks: &[Disk], first: &Disk, output: &OutputCard) {
-    let disk = disk_of(disks, output.file.text());
-    match (output.role, disk) {
-        (OutputRole::Line, Some(disk)) => put_file(editor, output, first.name(), disk),
-        (OutputRole::Line, None) => put_file(editor, output, output.file.text(), first),
-        (OutputRole::Field, Some(disk)) => move_field(editor, &output.seen, disk),
-        _ => {}
-    }
-}
-
 /// Puts a file's name on the card of a line, as part of the change of a disk file.
-fn put_file(editor: &mut Editor, line: &OutputCard, name: &[u8], with: &Disk) {
-    let card = line.seen.card;
-    if card.value(7, 14) != name {
-        editor.change(line.seen.at, card.with(7, 14, name), with.seen.number);
+fn put_file(editor: &mut Editor, line: &Line, name: &[u8], with: &Disk) {
+    let head = &line.head;
+    if head.card.value(7, 14) != name {
+        editor.change(head.at, head.card.with(7, 14, name), with.seen.number);
     }
 }
 
@@ -137,24 +124,14 @@ fn move_field(editor: &mut Editor, field: &Seen, disk: &Disk) {
     }
 }
 
-/// Whether a card is the last one of a line before its fields. `next`: the output card after it.
-fn ends_conditions(output: &OutputCard, next: Option<&OutputCard>) -> bool {
-    let continues = match next {
-        Some(next) => matches!(next.role, OutputRole::And | OutputRole::Or),
-        None => false,
-    };
-    output.role != OutputRole::Field && !continues
-}
-
 /// Inserts the letter of its file into a line.
-fn put_letter(editor: &mut Editor, view: &View, disks: &[Disk], output: &OutputCard) {
-    if let Some(disk) = disk_of(disks, output.file.text()) {
-        let card = Card::of_form(b'O')
-            .with_right(40, 43, b"1")
-            .with(45, 47, &[b'\'', disk.letter, b'\'']);
-        let at = address_after(view, output.seen.at);
-        editor.insert_copy(at, card, output.line, disk.seen.number);
-    }
+fn put_letter(editor: &mut Editor, view: &View, line: &Line, disk: &Disk) {
+    let card = Card::of_form(b'O')
+        .with_right(40, 43, b"1")
+        .with(45, 47, &[b'\'', disk.letter, b'\'']);
+    let last = line.more.last().unwrap_or(&line.head);
+    let at = address_after(view, last.at);
+    editor.insert_copy(at, card, line.head.number, disk.seen.number);
 }
 
 /// Returns the length of the longest record.

@@ -1,10 +1,10 @@
 //! Removes L cards.
 
-use crate::cards::first_condition;
-use crate::outputs::{OutputRole, output_role};
 use crate::settings::Settings;
 use rpg_fit_deck::{Card, Editor, Seen, Sentence, View, Word};
-use rpg_fit_words::{Conjunction, Done, Indicator, RuleStop, is_card, printer_of};
+use rpg_fit_words::{
+    Done, Indicator, Line, List, RuleStop, UseKind, indicator_uses, is_card, lines, printer_of,
+};
 
 /// The lines of a page, and the line at which it overflows.
 const LINES: usize = 66;
@@ -23,41 +23,48 @@ struct FormUse {
 /// Removes L cards for the standard form, and others if no form must keep its length.
 pub fn forms(editor: &mut Editor, settings: &Settings) -> Done {
     let view = editor.view()?;
+    let forms = form_cards(&view);
+    if forms.checked()?.is_empty() {
+        return Ok(());
+    }
     let form_use = FormUse {
-        overflow: tested_overflow(&view),
-        skips: has_skip(&view),
+        overflow: tested_overflow(&view)?,
+        skips: have_skip(lines(&view)?.as_slice()),
     };
-    for seen in &view.cards {
-        if is_card(seen, b'L') {
-            take_out(editor, &view, &form_use, settings.keeps_forms, seen)?;
-        }
+    for seen in forms.as_slice() {
+        take_out(editor, &view, &form_use, settings.keeps_forms, seen)?;
     }
     Ok(())
 }
 
-/// Returns the overflow indicator of the printer, if a condition tests it.
-fn tested_overflow(view: &View) -> Option<Indicator> {
-    let overflow = printer_of(view)?.overflow;
+fn form_cards(view: &View) -> List<Seen> {
+    let mut found = List::new(view.alloc);
     for seen in &view.cards {
-        if !overflow.is_blank() && tests(&seen.card, overflow) {
-            return Some(overflow);
+        if is_card(seen, b'L') {
+            found.push(*seen);
         }
     }
-    None
+    found
 }
 
-/// Whether a condition of a card tests an indicator.
-fn tests(card: &Card, indicator: Indicator) -> bool {
-    matches!(card.form(), b'C' | b'O')
-        && !card.is_comment()
-        && Conjunction::at(card, first_condition(card.form())).tests(indicator)
+/// Returns the overflow indicator of the printer, if a condition tests it.
+fn tested_overflow(view: &View) -> Result<Option<Indicator>, RuleStop> {
+    let Some(printer) = printer_of(view) else {
+        return Ok(None);
+    };
+    let uses = indicator_uses(view);
+    for one in uses.checked()? {
+        if one.indicator == printer.overflow && matches!(one.kind, UseKind::Asked) {
+            return Ok(Some(printer.overflow));
+        }
+    }
+    Ok(None)
 }
 
-/// Whether the card of a line skips.
-fn has_skip(view: &View) -> bool {
-    for seen in &view.cards {
-        let card = &seen.card;
-        if is_card(seen, b'O') && output_role(card) == OutputRole::Line && skips(card) {
+/// Whether one of some lines skips.
+fn have_skip(lines: &[Line]) -> bool {
+    for line in lines {
+        if skips(&line.head.card) {
             return true;
         }
     }

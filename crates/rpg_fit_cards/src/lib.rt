@@ -1,14 +1,12 @@
 //! Rules for old decks that rewrite single cards: job control, comments, columns, switches, forms, table files, page counters and disk files.
 #![tactic(auto)]
 
-mod cards;
 mod column;
 mod comment;
 mod disk;
 mod form;
 mod job;
 mod numbered_page;
-mod outputs;
 mod settings;
 mod switch;
 mod table;

@@ -41,30 +41,12 @@ impl TableShape {
 
     /// Returns how many records have all entries.
     pub fn records(&self) -> usize {
-        let mut records: usize = 0;
-        let mut held: usize = 0;
-        for _ in 0..self.entries {
-            if held >= self.entries {
-                break;
-            }
-            held = held.saturating_add(self.per_record);
-            records = records.saturating_add(1);
-        }
-        records
+        self.entries.div_ceil(self.per_record.max(1))
     }
 
     /// Returns how many entries a data card gets.
     pub fn per_card(&self) -> usize {
-        let mut fit: usize = 0;
-        let mut columns = self.width;
-        for _ in 0..self.per_record.min(COLUMNS) {
-            if columns > COLUMNS {
-                break;
-            }
-            fit = fit.saturating_add(1);
-            columns = columns.saturating_add(self.width);
-        }
-        fit
+        self.per_record.min(COLUMNS / self.width.max(1))
     }
 
     /// Returns why records can't be its data, with the name of their file.

@@ -1,7 +1,7 @@
 //! The F cards of a deck.
 
 use rpg_fit_deck::{Card, Seen, View};
-use rpg_fit_words::{List, is_card};
+use rpg_fit_words::{List, Operand, is_card};
 
 /// Returns the name of an F card's file.
 pub(crate) fn name_of(file: &Seen) -> &[u8] {
@@ -38,4 +38,14 @@ pub(crate) fn files_printed(view: &View) -> List<Seen> {
         }
     }
     found
+}
+
+/// Returns the name that a field prints, without its index.
+pub(crate) fn base_of(field: &Seen) -> &[u8] {
+    Operand::of(field.card.value(32, 37)).name
+}
+
+/// Whether a field counts pages.
+pub(crate) fn is_page(field: &Seen) -> bool {
+    matches!(base_of(field), [b'P', b'A', b'G', b'E', ..])
 }

@@ -3,6 +3,7 @@
 
 mod end_of_file;
 mod file;
+mod joined_line;
 mod other_printer;
 mod printer;
 mod record_text;

@@ -1,6 +1,6 @@
 //! The lines of a printer whose deck isn't wanted.
 
-use crate::file::name_of;
+use crate::file::{base_of, is_page, name_of};
 use rpg_fit_deck::{Address, Card, Editor, Seen, Sentence, Word};
 use rpg_fit_terms::is_name_on;
 use rpg_fit_words::{
@@ -14,16 +14,6 @@ pub(crate) struct OtherPrinter {
     file: Seen,
     overflow: Indicator,
     deck: DeckLines,
-}
-
-/// Returns the name that a field prints, without its index.
-fn base_of(field: &Seen) -> &[u8] {
-    Operand::of(field.card.value(32, 37)).name
-}
-
-/// Whether a field counts pages.
-fn is_page(field: &Seen) -> bool {
-    matches!(base_of(field), [b'P', b'A', b'G', b'E', ..])
 }
 
 impl OtherPrinter {

@@ -48,12 +48,8 @@ fn kept_of<'a>(files: &'a [Seen], wanted: Option<&[u8]>) -> Option<&'a Seen> {
 
 /// Returns why a deck with several printers is rejected if no argument names one.
 fn several(files: &[Seen]) -> Sentence {
-    let mut words = [
-        Word::of_number(files.len()),
-        Word::empty(),
-        Word::empty(),
-        Word::empty(),
-    ];
+    let mut words = [Word::empty(); 4];
+    words[0] = Word::of_number(files.len());
     for (place, file) in files.iter().enumerate() {
         if let Some(word) = words.get_mut(place.saturating_add(1)) {
             *word = Word::of(name_of(file));

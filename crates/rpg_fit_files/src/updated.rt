@@ -1,6 +1,7 @@
 //! Combined files, and files that are updated in place: their records go to a new file.
 
 use crate::file::{files_read, name_of};
+use crate::joined_line::{check_joined, join_lines};
 use crate::record_text::RecordText;
 use crate::updated_line::write_lines;
 use rpg_fit_deck::{Card, Editor, Seen, Sentence, View, Word};
@@ -8,7 +9,7 @@ use rpg_fit_terms::address_after;
 use rpg_fit_words::{
     Conjunction, DeckLines, Done, FreeIndicators, Indicator, IndicatorUse, Line, List, NewCard,
     RecordType, RuleStop, UseKind, indicator_uses, is_card, is_put_first, name_files, name_types,
-    put_cards, record_types,
+    printer_of, put_cards, record_types,
 };
 
 /// LR, which ends the job.
@@ -33,6 +34,13 @@ pub(crate) struct Put {
     /// The number of its line's first card.
     pub line: usize,
     pub condition: Conjunction,
+}
+
+/// The first cards of two lines that may be for one record.
+#[derive(Clone, Copy)]
+pub(crate) struct Both {
+    pub earlier: usize,
+    pub later: usize,
 }
 
 /// A file whose records are written back, and the deck before that.
@@ -156,12 +164,31 @@ fn write_back(editor: &mut Editor, free: &mut FreeIndicators, file: &Seen) -> Do
         deck,
     };
     updated.check_indicators()?;
-    updated.check_lines()?;
-    let puts = updated.puts();
+    let lines = updated.lines();
+    lines.check()?;
+    put_back(editor, free, &updated, lines.as_slice(), length)
+}
+
+/// Writes the records of a file to a new one by its lines.
+fn put_back(
+    editor: &mut Editor,
+    free: &mut FreeIndicators,
+    updated: &Updated,
+    lines: &[&Line],
+    length: usize,
+) -> Done {
+    updated.check_lines(lines)?;
+    let puts = puts_of(updated, lines);
     let puts = puts.checked()?;
-    updated.check_apart(puts)?;
+    let both = updated.both(puts);
+    if let Some(both) = &both {
+        check_joined(updated, lines, both)?;
+    }
     updated.put_files(editor, length)?;
-    write_lines(editor, &updated, puts)
+    match both {
+        Some(_) => join_lines(editor, free, updated, lines),
+        None => write_lines(editor, updated, lines, puts),
+    }
 }
 
 impl Updated {
@@ -177,6 +204,34 @@ impl Updated {
     /// Whether a line is for the file.
     pub fn has(&self, line: &Line) -> bool {
         line.file.text() == name_of(&self.file)
+    }
+
+    /// Returns the lines for the file, in order.
+    fn lines(&self) -> List<&Line> {
+        let mut found = List::new(self.deck.view.alloc);
+        for line in self.deck.lines.iter() {
+            if self.has(line) {
+                found.push(line);
+            }
+        }
+        found
+    }
+
+    /// Returns the overflow indicator of the deck, which may be blank.
+    pub fn overflow(&self) -> Indicator {
+        match printer_of(&self.deck.view) {
+            Some(printer) => printer.overflow,
+            None => Indicator::BLANK,
+        }
+    }
+
+    /// Returns the card of a detail line for the new file, derived from the card with a number.
+    pub fn new_line(&self, number: usize) -> NewCard {
+        let card = Card::of_form(b'O').with(7, 14, self.new.text());
+        NewCard {
+            card: card.with(15, 15, b"D"),
+            number,
+        }
     }
 
     /// Rejects an indicator of its types that anything else turns on or off.
@@ -234,12 +289,10 @@ impl Updated {
     }
 
     /// Rejects lines that aren't for the record that was read.
-    fn check_lines(&self) -> Done {
+    fn check_lines(&self, lines: &[&Line]) -> Done {
         let is_alone = self.is_alone();
-        for line in self.deck.lines.iter() {
-            if self.has(line) {
-                self.check_line(line, is_alone)?;
-            }
+        for line in lines {
+            self.check_line(line, is_alone)?;
         }
         Ok(())
     }
@@ -294,31 +347,17 @@ impl Updated {
         wants_two || one.clashes_with(other)
     }
 
-    /// Returns the alternatives of its lines.
-    fn puts(&self) -> List<Put> {
-        let mut found = List::new(self.deck.view.alloc);
-        for line in self.deck.lines.iter() {
-            if self.has(line) {
-                push_puts(&mut found, line);
-            }
-        }
-        found
-    }
-
-    /// Rejects two lines that may be for one record.
-    fn check_apart(&self, puts: &[Put]) -> Done {
+    /// Returns the first two alternatives of different lines that may hold together.
+    fn both(&self, puts: &[Put]) -> Option<Both> {
         for (place, put) in puts.iter().enumerate() {
             if let Some(earlier) = self.earlier(puts.get(..place).unwrap_or(&[]), put) {
-                let why = Sentence::of_three(
-                    "two lines may change one record of % (cards % and %)",
-                    self.name(),
-                    Word::of_number(earlier.line),
-                    Word::of_number(put.line),
-                );
-                return Err(RuleStop::refused(put.line, why));
+                return Some(Both {
+                    earlier: earlier.line,
+                    later: put.line,
+                });
             }
         }
-        Ok(())
+        None
     }
 
     /// Returns the first alternative of another line that may hold together with one.
@@ -357,12 +396,16 @@ impl Updated {
     }
 }
 
-/// Appends the alternatives of a line.
-fn push_puts(found: &mut List<Put>, line: &Line) {
-    for alternative in line.alternatives.iter() {
-        found.push(Put {
-            line: line.head.number,
-            condition: alternative.condition,
-        });
+/// Returns the alternatives of some lines.
+fn puts_of(updated: &Updated, lines: &[&Line]) -> List<Put> {
+    let mut found = List::new(updated.deck.view.alloc);
+    for line in lines {
+        for alternative in line.alternatives.iter() {
+            found.push(Put {
+                line: line.head.number,
+                condition: alternative.condition,
+            });
+        }
     }
+    found
 }

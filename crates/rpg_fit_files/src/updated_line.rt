@@ -1,24 +1,27 @@
 //! Lines that each write a record of their own to the new file, and those that no line changes.
 
 use crate::updated::{Put, Updated};
-use rpg_fit_deck::{Address, Card, Editor, Sentence, View, Word};
+use rpg_fit_deck::{Address, Editor, Seen, Sentence, View, Word};
 use rpg_fit_terms::address_after;
 use rpg_fit_words::{
-    Apart, Conjunction, Done, Indicator, Line, List, NewCard, RuleStop, Term, is_card, printer_of,
-    push_conditions, put_cards,
+    Apart, Conjunction, Done, Indicator, Line, List, RuleStop, Term, is_card, push_conditions,
+    put_cards,
 };
 
 /// Writes each line of a file to the new one, after the whole record, and the records that no line changes.
-pub(crate) fn write_lines(editor: &mut Editor, updated: &Updated, puts: &[Put]) -> Done {
+pub(crate) fn write_lines(
+    editor: &mut Editor,
+    updated: &Updated,
+    lines: &[&Line],
+    puts: &[Put],
+) -> Done {
     let rest = unchanged(updated, puts)?;
     let rest = rest.checked()?;
-    for line in updated.deck.lines.iter() {
-        if updated.has(line) {
-            write_line(editor, updated, line)?;
-        }
+    for line in lines {
+        write_line(editor, updated, line)?;
     }
     if !rest.is_empty() {
-        write_rest(editor, updated, rest)?;
+        write_rest(editor, updated, lines.last(), rest)?;
     }
     editor.report(updated.file.number, remark(updated, rest.len()));
     Ok(())
@@ -41,15 +44,11 @@ fn remark(updated: &Updated, rest: usize) -> Sentence {
 
 /// Returns the conditions for records that no line changes.
 fn unchanged(updated: &Updated, puts: &[Put]) -> Result<List<Conjunction>, RuleStop> {
-    let view = &updated.deck.view;
     let apart = Apart {
-        overflow: match printer_of(view) {
-            Some(printer) => printer.overflow,
-            None => Indicator::BLANK,
-        },
+        overflow: updated.overflow(),
         card: updated.file.number,
     };
-    let mut found = List::new(view.alloc);
+    let mut found = List::new(updated.deck.view.alloc);
     for indicator in updated.indicators.checked()? {
         let left = left_of(updated, &apart, puts, *indicator)?;
         push_possible(&mut found, updated, left.checked()?);
@@ -102,39 +101,30 @@ fn write_line(editor: &mut Editor, updated: &Updated, line: &Line) -> Done {
     put_cards(editor, following, cards.checked()?, updated.file.number)
 }
 
-/// Writes the records under some conditions to the new file as they are.
-fn write_rest(editor: &mut Editor, updated: &Updated, conditions: &[Conjunction]) -> Done {
-    let head = NewCard {
-        card: Card::of_form(b'O')
-            .with(7, 14, updated.new.text())
-            .with(15, 15, b"D"),
-        number: updated.file.number,
-    };
+/// Writes the records under some conditions to the new file as they are, after its last line.
+fn write_rest(
+    editor: &mut Editor,
+    updated: &Updated,
+    last: Option<&&Line>,
+    conditions: &[Conjunction],
+) -> Done {
+    let (view, number) = (&updated.deck.view, updated.file.number);
     let mut cards = List::new(editor.alloc());
-    push_conditions(&mut cards, head, conditions)?;
-    updated.record.push_fields(&mut cards, updated.file.number);
-    put_cards(
-        editor,
-        after_lines(updated),
-        cards.checked()?,
-        updated.file.number,
-    )
+    push_conditions(&mut cards, updated.new_line(number), conditions)?;
+    updated.record.push_fields(&mut cards, number);
+    let following = match last {
+        Some(line) => address_after(view, last_card(line).at),
+        None => before_output(view),
+    };
+    put_cards(editor, following, cards.checked()?, number)
 }
 
-/// Returns the address after the last line of a file, or before the first output card.
-fn after_lines(updated: &Updated) -> Address {
-    let view = &updated.deck.view;
-    let mut found = before_output(view);
-    for line in updated.deck.lines.iter() {
-        if updated.has(line) {
-            let last = match line.fields.last() {
-                Some(field) => field,
-                None => line.more.last().unwrap_or(&line.head),
-            };
-            found = address_after(view, last.at);
-        }
+/// Returns the last card of a line.
+fn last_card(line: &Line) -> &Seen {
+    match line.fields.last() {
+        Some(field) => field,
+        None => line.more.last().unwrap_or(&line.head),
     }
-    found
 }
 
 /// Returns the address of the first output card, or that after all cards.

@@ -1,6 +1,7 @@
 //! Rules for old decks about their records: codes by zone and digit, and data structures.
 #![tactic(auto)]
 
+mod put_together;
 mod structure;
 mod taken_apart;
 mod zone;

@@ -1,5 +1,6 @@
 //! Data structures over input fields.
 
+use crate::put_together::put_together;
 use crate::taken_apart::TakenApart;
 use rpg_fit_deck::{Editor, Seen, Sentence, View, Word};
 use rpg_fit_terms::is_name_on;
@@ -41,6 +42,11 @@ impl Span {
     pub fn length(&self) -> usize {
         self.last.saturating_add(1).saturating_sub(self.first)
     }
+
+    /// Whether it has all columns of another one.
+    pub fn has(&self, other: Span) -> bool {
+        self.first <= other.first && other.last <= self.last
+    }
 }
 
 /// A subfield of a structure.
@@ -73,7 +79,7 @@ pub(crate) struct Structure<'a> {
 }
 
 /// Returns the name on an I card.
-pub(crate) fn name_on(field: &Seen) -> &[u8] {
+fn name_on(field: &Seen) -> &[u8] {
     field.card.value(53, 58)
 }
 
@@ -116,6 +122,14 @@ impl Structure<'_> {
         self.kind.head.number
     }
 
+    /// Returns its columns.
+    pub fn span(&self) -> Span {
+        Span {
+            first: 1,
+            last: self.end,
+        }
+    }
+
     /// Returns the input fields of all record types with a name.
     pub fn inputs(&self, name: &[u8]) -> List<Seen> {
         let mut found = List::new(self.view.alloc);
@@ -129,7 +143,12 @@ impl Structure<'_> {
 
     /// Whether a record type reads a field.
     pub fn is_read(&self, name: &[u8]) -> bool {
-        !self.inputs(name).is_empty()
+        for kind in self.types.iter() {
+            if !is_structure(&kind.head.card) && reads(kind, name) {
+                return true;
+            }
+        }
+        false
     }
 
     /// Rejects a field that is changed.
@@ -181,6 +200,16 @@ impl Structure<'_> {
         remove_cards(editor, self.kind.more.as_slice(), self.number());
         remove_cards(editor, self.kind.fields.as_slice(), self.number());
     }
+}
+
+/// Whether a type has a field with a name.
+pub(crate) fn reads(kind: &RecordType, name: &[u8]) -> bool {
+    for field in kind.fields.iter() {
+        if name_on(field) == name {
+            return true;
+        }
+    }
+    false
 }
 
 /// Appends a type's fields with a name.
@@ -262,14 +291,10 @@ fn replace_filled(editor: &mut Editor, structure: &Structure) -> Done {
             let why = Sentence::of_two("% and % are both read", structure.name, other.name);
             return Err(RuleStop::refused(structure.number(), why));
         }
-        let whole = Span {
-            first: 1,
-            last: structure.end,
-        };
         let apart = TakenApart {
             structure,
             parent: structure.name,
-            span: whole,
+            span: structure.span(),
             decimals: b' ',
         };
         return apart.replace(editor);
@@ -288,10 +313,6 @@ fn replace_filled(editor: &mut Editor, structure: &Structure) -> Done {
             };
             apart.replace(editor)
         }
-        _ => {
-            let why =
-                "several of its fields are read, or its name is used: put it together by MOVE and MOVEL";
-            Err(RuleStop::because(structure.number(), why))
-        }
+        pieces => put_together(editor, structure, pieces),
     }
 }

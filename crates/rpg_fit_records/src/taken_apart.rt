@@ -59,7 +59,7 @@ impl TakenApart<'_> {
         if self.is_parent(subfield) {
             return Ok(());
         }
-        if subfield.span.first < self.span.first || subfield.span.last > self.span.last {
+        if !self.span.has(subfield.span) {
             let why = Sentence::of_two("% doesn't lie within %", name, self.parent);
             return Err(RuleStop::refused(card, why));
         }

@@ -31,20 +31,11 @@ const DIGITS: [&[u8]; 16] = [
 /// Returns the group that has a character.
 fn group_with(groups: &[&'static [u8]], character: u8) -> Option<&'static [u8]> {
     for group in groups {
-        if has(group, character) {
+        if group.contains(&character) {
             return Some(group);
         }
     }
     None
-}
-
-fn has(group: &[u8], character: u8) -> bool {
-    for one in group {
-        if *one == character {
-            return true;
-        }
-    }
-    false
 }
 
 /// Returns the characters with the zone of a character; None for a sign, whose zone a card reader doesn't tell.

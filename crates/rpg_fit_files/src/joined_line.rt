@@ -1,0 +1,174 @@
+//! Lines of which several may be for one record: all of them become one line.
+
+use crate::file::{base_of, is_page};
+use crate::updated::{Both, Updated};
+use rpg_fit_deck::{Editor, Seen, Sentence, Word};
+use rpg_fit_words::{
+    Conjunction, Done, FreeIndicators, Indicator, Line, List, NewCard, Place, RuleStop,
+    calculation, insert_at, push_conditioned, push_conditions, put_cards,
+};
+
+/// Rejects lines that one line can't stand for. `both`: two that may be for one record.
+pub(crate) fn check_joined(updated: &Updated, lines: &[&Line], both: &Both) -> Done {
+    for line in lines {
+        check_fields(updated, line, both)?;
+        check_overflow(updated, line)?;
+    }
+    check_between(updated, lines)
+}
+
+/// Writes all lines of a file as one: the whole record, and over it each line's fields, under an indicator of its own that the line's
+/// conditions turn on.
+pub(crate) fn join_lines(
+    editor: &mut Editor,
+    free: &mut FreeIndicators,
+    updated: &Updated,
+    lines: &[&Line],
+) -> Done {
+    let mut joined = Joined {
+        calculations: List::new(editor.alloc()),
+        fields: List::new(editor.alloc()),
+    };
+    for line in lines {
+        let flag = free.take(&updated.deck.view, line.head.number)?;
+        joined.push(editor, line, flag)?;
+    }
+    joined.put(editor, updated, lines)
+}
+
+/// Rejects fields that are blanked or counted, or leave no room for another condition.
+fn check_fields(updated: &Updated, line: &Line, both: &Both) -> Done {
+    for field in line.fields.iter() {
+        if !may_be_joined(field) {
+            let why =
+                "two lines may change one record of % (cards % and %), and this field is blanked, is PAGE or *PLACE or has three conditions";
+            let (first, second) = (Word::of_number(both.earlier), Word::of_number(both.later));
+            let why = Sentence::of_three(why, updated.name(), first, second);
+            return Err(RuleStop::refused(field.number, why));
+        }
+    }
+    Ok(())
+}
+
+/// Whether a field may be put out with one condition more.
+fn may_be_joined(field: &Seen) -> bool {
+    let card = &field.card;
+    let is_counted = is_page(field) || base_of(field) == b"*PLACE".as_slice();
+    !is_counted && card.column(39) != b'B' && Conjunction::at(card, 23).len() < 3
+}
+
+/// Rejects a field that a line of another file blanks between them.
+fn check_between(updated: &Updated, lines: &[&Line]) -> Done {
+    let mut blanked: Option<&Seen> = None;
+    let mut is_between = false;
+    for line in updated.deck.lines.iter() {
+        if !updated.has(line) {
+            if is_between && line.time.is_detail() {
+                blanked = blanked.or(blanked_on(line, lines));
+            }
+        } else if let Some(field) = blanked {
+            let why = "two lines may change one record of %, and % is blanked between them";
+            let why = Sentence::of_two(why, updated.name(), Word::of(base_of(field)));
+            return Err(RuleStop::refused(field.number, why));
+        } else {
+            is_between = true;
+        }
+    }
+    Ok(())
+}
+
+/// Returns the first field that a line blanks and one of some lines has.
+fn blanked_on<'a>(line: &'a Line, lines: &[&Line]) -> Option<&'a Seen> {
+    for field in line.fields.iter() {
+        if field.card.column(39) == b'B' && have_field(lines, base_of(field)) {
+            return Some(field);
+        }
+    }
+    None
+}
+
+fn have_field(lines: &[&Line], name: &[u8]) -> bool {
+    for line in lines {
+        for field in line.fields.iter() {
+            if base_of(field) == name {
+                return true;
+            }
+        }
+    }
+    false
+}
+
+/// Rejects a line that tests overflow.
+fn check_overflow(updated: &Updated, line: &Line) -> Done {
+    let overflow = updated.overflow();
+    for alternative in line.alternatives.iter() {
+        if !overflow.is_blank() && alternative.condition.tests(overflow) {
+            let why = "two lines may change one record of %, and one asks for %";
+            let why = Sentence::of_two(why, updated.name(), overflow.word());
+            return Err(RuleStop::refused(line.head.number, why));
+        }
+    }
+    Ok(())
+}
+
+/// The lines so far.
+#[derive(Drop)]
+struct Joined {
+    /// The calculations that turn their indicators on.
+    calculations: List<NewCard>,
+    fields: List<NewCard>,
+}
+
+impl Joined {
+    /// Appends a line, with its indicator.
+    fn push(&mut self, editor: &Editor, line: &Line, flag: Indicator) -> Done {
+        let mut conditions = List::new(editor.alloc());
+        for alternative in line.alternatives.iter() {
+            conditions.push(alternative.condition);
+        }
+        let number = line.head.number;
+        let on = calculation(b"||SETON||||%", &[flag.word()], number);
+        let off = calculation(b"||SETOF||||%", &[flag.word()], number);
+        self.calculations.push(off);
+        let conditions = conditions.checked()?;
+        push_conditioned(&mut self.calculations, Indicator::BLANK, conditions, on)?;
+        self.push_fields(line, flag);
+        Ok(())
+    }
+
+    /// Appends a line's fields under its indicator.
+    fn push_fields(&mut self, line: &Line, flag: Indicator) {
+        for field in line.fields.iter() {
+            let condition = Conjunction::on(flag).and_all(&Conjunction::at(&field.card, 23));
+            let card = NewCard::copy(field).with(23, 31, condition.columns(0).text());
+            self.fields.push(card);
+        }
+    }
+
+    /// Replaces the lines by one, and reports that.
+    fn put(&self, editor: &mut Editor, updated: &Updated, lines: &[&Line]) -> Done {
+        let Some(first) = lines.first() else {
+            return Ok(());
+        };
+        let with = updated.file.number;
+        let mut conditions = List::new(editor.alloc());
+        for indicator in updated.indicators.checked()? {
+            conditions.push(Conjunction::on(*indicator));
+        }
+        let mut cards = List::new(editor.alloc());
+        let head = updated.new_line(first.head.number);
+        push_conditions(&mut cards, head, conditions.checked()?)?;
+        updated.record.push_fields(&mut cards, first.head.number);
+        cards.append(&self.fields);
+        put_cards(editor, first.head.at, cards.checked()?, with)?;
+        for line in lines {
+            line.remove(editor, with);
+        }
+        insert_at(editor, Place::DetailEnd, self.calculations.checked()?, with)?;
+        let text = "% is read, and % gets its records as they are after the job; % lines are one";
+        let lines = Word::of_number(lines.len());
+        let sentence = Sentence::of_three(text, updated.name(), updated.new, lines);
+        editor.report(with, sentence);
+        Ok(())
+    }
+}
