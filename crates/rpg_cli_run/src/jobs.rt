@@ -4,7 +4,7 @@ ghost use Rattle.rpg_engine.specs.Devices.{CanCountFaults};
 
 use crate::halting::{LastInput, LastInputs};
 use crate::looking::run_as_asked;
-use rpg_cli_answers::{Answer, CommandStop, Listener, Reasons, named};
+use rpg_cli_answers::{Answer, CommandStop, Listener, Reasons, file_of, named};
 use rpg_cli_files::{LineTarget, RecordSource, file_bytes};
 use rpg_cli_halts::HaltedSource;
 use rpg_cli_jobs::{
@@ -54,7 +54,7 @@ impl<'a> Runnable<'a> {
         match self {
             Runnable::Object(_) => None,
             Runnable::Source(source) => Some(HaltedSource {
-                path: source.path,
+                file: source.file,
                 text: source.compiled.text(),
                 rows: &source.rows,
             }),
@@ -243,8 +243,8 @@ fn report_refused<L: Listener>(
     listener: &mut L,
 ) {
     if let Answer::Object(fault) = answer {
-        let path = request.file(FileArgument::Object);
-        report_object(alloc, path, object, fault, listener);
+        let file = file_of(request, FileArgument::Object);
+        report_object(alloc, file, object, fault, listener);
     } else if let Ok(program) = decode_object(alloc, object) {
         report_wanted(alloc, request, &program, answer, listener);
     }
