@@ -40,6 +40,11 @@ impl<'a> Draft<'a> {
         Draft::new(alloc, Level::Note, Some(place), None)
     }
 
+    /// Returns the path of the file that it is about.
+    pub fn path(&self) -> Option<&'a str> {
+        Some(self.place?.file.path)
+    }
+
     /// Returns an empty text, for a remark.
     pub fn text(&self) -> TextWriter {
         TextWriter::new(self.alloc)

@@ -204,13 +204,15 @@ impl<'a> HaltContext<'a> {
     }
 
     /// Writes what was wrong.
-    fn write_halt(self, out: &mut TextWriter) {
+    fn write_halt(self, draft: &mut Draft<'_>) {
         match self.found {
-            RecordProblem::Byte(place, text) => write_byte_cause(out, text, place),
-            RecordProblem::TooLong(length, text) => write_too_long(out, text, length),
-            RecordProblem::Lower(lower) => write_lower(out, lower),
+            RecordProblem::Byte(place, text) => write_byte_cause(draft, text, place),
+            RecordProblem::TooLong(length, text) => {
+                write_too_long(&mut draft.message, text, length)
+            }
+            RecordProblem::Lower(lower) => write_lower(&mut draft.message, lower),
             RecordProblem::Input(_, _) | RecordProblem::Nothing => {
-                out.write_str(self.topic().sentence());
+                draft.message.write_str(self.topic().sentence());
             }
         }
     }
@@ -305,7 +307,7 @@ pub fn halt_diagnostic<'a>(
     };
     let topic = Some(context.topic());
     let mut draft = Draft::new(alloc, Level::Error, Some(context.place()), topic);
-    context.write_halt(&mut draft.message);
+    context.write_halt(&mut draft);
     context.write_place(&mut draft.message);
     if let Some(source) = source {
         let bad = match found {

@@ -9,6 +9,7 @@ mod note;
 mod order;
 mod shorthand;
 mod unmarked;
+mod whole;
 
 pub use bytes::{is_object, write_byte_cause};
 pub use card_lines::CardLines;

@@ -5,6 +5,7 @@ use crate::card_lines::CardLines;
 use crate::order::{LaterCard, later_card, write_order};
 use crate::shorthand::write_shorthand;
 use crate::unmarked::write_unmarked;
+use crate::whole::{DeckSlip, Slip};
 use rpg_card_index::IndexedCards;
 use rpg_cli_causes::{NearNames, Root, SourceCards, root_of, write_cause};
 use rpg_cli_columns::{character_at, write_bad_columns, write_form_type};
@@ -34,6 +35,10 @@ pub fn source_diagnostics<'a>(
         source,
     };
     let mut out = Diagnostics::new(alloc);
+    if let (Some(slip), Some(first)) = (DeckSlip::of(source, faults), listed.first()) {
+        told.add_slip(&mut out, slip, topic_of(first.code));
+        return out;
+    }
     if told.add_listed(&mut out, judged, listed).is_err() {
         out.lose();
     }
@@ -69,6 +74,19 @@ struct Told<'a> {
 }
 
 impl<'a> Told<'a> {
+    /// Adds a slip that stands for the faults of all cards, and how many cards have it.
+    fn add_slip(self, out: &mut Diagnostics<'a>, slip: DeckSlip, topic: Topic) {
+        let line = CardLines::of(self.source).line_of(slip.first);
+        let place = self.file.card(slip.first, Some(slip.columns()), line);
+        let mut draft = Draft::new(self.alloc, Level::Error, Some(place), Some(topic));
+        slip.write(&mut draft);
+        out.push(draft.finish());
+        if !matches!(slip.slip, Slip::Free) {
+            let note = Draft::note(self.alloc, self.file.whole());
+            out.push(note.filled("{} cards can't be read", &[slip.cards.into()]));
+        }
+    }
+
     /// Adds the listed faults.
     fn add_listed(
         self,
@@ -319,7 +337,7 @@ fn write_unread(
 ) {
     match (code, fault.columns) {
         (SheetCode::S1, _) => write_long_line(&mut draft.message, line),
-        (SheetCode::S2, _) => write_bad_byte(&mut draft.message, line),
+        (SheetCode::S2, _) => write_bad_byte(draft, line),
         (SheetCode::S3, _) => {
             write_form_type(draft, line);
             write_shorthand(&mut draft.message, source.text, fault.card, line);
@@ -334,9 +352,9 @@ fn write_unread(
     }
 }
 
-fn write_bad_byte(out: &mut TextWriter, line: &[u8]) {
+fn write_bad_byte(draft: &mut Draft<'_>, line: &[u8]) {
     if let Some((column, _)) = first_bad(line) {
-        write_byte_cause(out, line, usize::from(column.saturating_sub(1)));
+        write_byte_cause(draft, line, usize::from(column.saturating_sub(1)));
     }
 }
 
