@@ -32,8 +32,8 @@ MOST_TOLD = 20
 
 def told_of(text):
     """The pairs that are reported one by one, and how many faults there are in all."""
-    pairs = [(int(card or 0), code) for card, code in re.findall(r"^[^:\n]+(?::(\d+))?(?::\d+)?: ([SF]\d+): ", text, re.M)]
-    last = re.search(r": (?:(\d+) faults?|(\d+) cards can't be read|(this card) can't be read)[^\n]*\n\Z", text)
+    pairs = [(int(card or 0), code) for card, code in re.findall(r"^[^:\n]+:(\d+):\d+: error: .* \[([SF]\d+)\]$", text, re.M)]
+    last = re.search(r": note: (?:(\d+) faults?|(\d+) cards can't be read|(this card) can't be read)[^\n]*\n\Z", text)
     count = 0 if last is None else 1 if last[3] else int(last[1] or last[2])
     return pairs, count
 

@@ -94,8 +94,8 @@ def require(holds, why):
 def check_sentences(room, answer):
     """Each sentence names a card of the old deck, and there are as many as changes, or one for a deck that is rejected."""
     lines = room.text("deck").split("\n")
-    named = [(int(card), code) for card, code in re.findall(r"^deck:(\d+): (A\d+|note): ", answer.errors, re.M)]
-    changes = [it for it in named if it[1] != "note"]
+    named = [(int(card), code) for card, code in re.findall(r"^deck:(\d+):\d+: (?:note|error): .*?(?: \[(A\d+)\])?$", answer.errors, re.M)]
+    changes = [it for it in named if it[1]]
     is_good = all(1 <= card <= len(lines) and lines[card - 1].strip() for card, _ in named)
     require(is_good, f"a sentence names no card of the deck\n{answer.errors}")
     wanted = f"changes {len(changes)}" if answer.status == 0 else "".join(f"card {card}: {code}" for card, code in changes)

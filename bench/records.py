@@ -11,6 +11,7 @@ with something that has no place must be refused, each for its reason. All 256 b
 
 import os
 import random
+import re
 import subprocess
 import sys
 import tempfile
@@ -229,7 +230,7 @@ def compare_damaged(done, folder, count):
         Path(folder, "deck").write_text(layout.deck(), encoding="ascii")
         Path(folder, "LINES").write_text(lines[0] + damaged.rstrip(" ") + "\n" + lines[2], encoding="ascii")
         ran = rpg2(folder, "LINES", "REFUSED", "--to", "deck")
-        if ran.stdout != "record 2: refused\n" or not ran.stderr.startswith(f"LINES: line 2: {told}") or Path(folder, "REFUSED").exists():
+        if ran.stdout != "record 2: refused\n" or not re.match(rf"LINES:2:\d+: error: {re.escape(told)}", ran.stderr) or Path(folder, "REFUSED").exists():
             wrong.append(f"{ran.stdout}{ran.stderr} wanted {told}")
     done.same(f"{count} damaged lines", wrong, [])
 

@@ -58,7 +58,7 @@ COMMANDS = {
 # The commands that are interrupted for ever: each kind of reader and writer of files.
 PATIENT = ("run", "keep", "records", "compile")
 # What is said of an output that is new, though the command failed.
-NEW = ("replaced by what this run wrote", "made by this run")
+NEW = ("was replaced by what this run wrote", "was made by this run")
 # The commands whose files are as they were, or whole.
 WHOLE = ("compile", "fit", "records", "records back")
 ERRORS = {
@@ -142,7 +142,7 @@ def is_first_part(command, file, found, wanted):
         return whole.startswith(data) or whole.startswith(data[: data.rstrip(b"\n").rfind(b"\n") + 1])
     if data in (OLD, OLD_OBJECT):
         return True
-    role = b"(--disk FILE)" if file == "d" else b"(PRINT)"
+    role = b"--disk FILE can't be written" if file == "d" else b"PRINT can't be written"
     return whole.startswith(data) and not (told and role in found.diagnostics and int(told[1]) != len(data))
 
 
@@ -150,7 +150,7 @@ def is_told_new(found, file):
     """Whether a message says that a file is new, though the command failed."""
     if b"standard output can't be written" in found.diagnostics:
         return True
-    return any(f"{file} ({it}): {what}\n".encode() in found.diagnostics for it in ("PRINT", "OUT") for what in NEW)
+    return any(f"{file}: note: {it} {what}\n".encode() in found.diagnostics for it in ("PRINT", "OUT") for what in NEW)
 
 
 def what_is_wrong_beside(found, wanted, is_heard):
@@ -217,7 +217,7 @@ def tried(command):
     if command in WHOLE:
         count += 1
         found = outcome(command, ["-e", "inject=rename:error=EIO", "-e", "inject=unlink:error=EIO"])
-        if found.status != 1 or not found.beside or not all(f"{it}: it is left there".encode() in found.diagnostics for it in found.beside):
+        if found.status != 1 or not found.beside or not all(f"{it}: note: it is left there".encode() in found.diagnostics for it in found.beside):
             wrong += 1
             print(f"{command}: a file that can't be removed isn't named: status {found.status} {found.diagnostics!r}", flush=True)
     if command in PATIENT:

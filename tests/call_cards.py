@@ -6,7 +6,7 @@ from call import Call, escaped
 from call_sources import INPUT, LINE, MOVE, PRINT, TYPE, Desk, card, row_of, with_text
 from outcome import Outcome
 
-FAULT = re.compile(r"source:(\d+):(\d+): (S\d): .*\n(?: +\| .*\n *\d+ \| .*\n +\| +(\^+))?")
+FAULT = re.compile(r"source:(\d+):(\d+): error: .* \[(S\d)\]\n(?: +\| .*\n *\d+ \| .*\n +\| +(\^+))?")
 
 
 def columns_of(first: str, marks: str) -> str:

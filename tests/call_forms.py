@@ -109,7 +109,7 @@ def shown_names(desk: Desk, calls: list[Call]) -> list[Outcome]:
     source = [INPUT, PRINT, *tables, TYPE, *(it for it in defined if it[5] == "C")]
     listing = desk.listing(source)
     _, errors = desk.asked("check", "source", "--faults", "99")
-    faults = {(int(at), code) for at, code in re.findall(r"^source:(\d+):(?:\d+:)? (F\d+):", errors, re.M)}
+    faults = {(int(at), code) for at, code in re.findall(r"^source:(\d+):\d+: error: .* \[(F\d+)\]$", errors, re.M)}
     outcomes, cards = [], {"E": 3, "C": 4 + len(tables)}
     for call in calls:
         row = re.match(r"  \S+ +#(\d+) +(\S.*?)(?:   |  \d|  -|$)", row_of(listing, NAMES, call.words[1]))

@@ -23,9 +23,11 @@ SECONDS = 20
 
 Job = Callable[[], list[Outcome]]
 
-# A diagnostic that names a line: the file, the line, the column if there is one, the code and the message.
-DIAGNOSTIC = re.compile(r"([^ :]+):(\d+):(?:(\d+):)? ([SFWVAB]\d+|halt \d): (.+)")
-ERRORS, WARNINGS = "SFVBh", "W"
+# A diagnostic that names a line: the file, the line, the column, the level and the message.
+DIAGNOSTIC = re.compile(r"([^\s:]+):(\d+):(\d+): (error|warning|note): (.+)")
+
+# The matchers of gcc that Visual Studio Code has (`$gcc`, older and newer).
+GCC = [r"^(.*):(\d+):(\d+):\s+(?:fatal\s+)?(warning|error):\s+(.*)$", r"^(.*?):(\d+):(\d*):?\s+(?:fatal\s+)?(warning|error):\s+(.*)$"]
 
 # Deck of vim's case, and the entries of its list: type, line, column and the start of the text.
 DECK = [
@@ -37,9 +39,9 @@ DECK = [
     "     O                         ITEM      20",
 ]
 LISTS = {
-    "warned.rpg": (DECK, [("W", 5, 23, "indicator 02 is tested")]),
-    "unread.rpg": ([*DECK[:5], DECK[5].replace("20", "2 ")], [("E", 6, 40, "S5: the end position")]),
-    "unfiled.rpg": (DECK[1:], [("E", 1, 0, "F7: "), ("E", 2, 7, "F7: ")]),
+    "warned.rpg": (DECK, [("w", 5, 23, "indicator 02 is tested")]),
+    "unread.rpg": ([*DECK[:5], DECK[5].replace("20", "2 ")], [("e", 6, 40, "the end position"), ("n", 6, 40, "move \"2\"")]),
+    "unfiled.rpg": (DECK[1:], [("e", 1, 1, "no card"), ("e", 2, 7, "")]),
 }
 
 # What is typed, and all words that may stand in the last one's place.
@@ -78,29 +80,23 @@ def diagnostics() -> Iterator[tuple[str, re.Match]]:
                 yield path.name, found
 
 
-def read_by(matcher: dict, line: str) -> dict[str, str | None] | None:
-    """The parts of a line by one matcher of Visual Studio Code or GitHub."""
-    pattern = matcher["pattern"][0]
-    found = re.match(pattern["regexp"], line, re.ASCII)
-    return found and {part: found[pattern[part]] for part in ("file", "line", "column", "code", "message")}
+def of_github() -> list[str]:
+    """The pattern of the matcher for GitHub."""
+    matchers = json.loads((INSTALL / "editor" / "gcc-matcher.json").read_text(encoding="utf-8"))["problemMatcher"]
+    return [part["regexp"] for it in matchers for part in it["pattern"]]
 
 
-def severities(matchers: list[dict], line: str) -> dict[str, dict]:
-    return {it["severity"]: parts for it in matchers if (parts := read_by(it, line))}
-
-
-def wanted_by(found: re.Match) -> dict[str, dict]:
-    severity = "error" if found[4][0] in ERRORS else "warning" if found[4][0] in WARNINGS else None
-    parts = dict(zip(("file", "line", "column", "code", "message"), found.groups(), strict=True))
-    return {severity: parts} if severity else {}
-
-
-def matched(name: str) -> list[Outcome]:
-    """Whether the matchers of a file read each diagnostic, with its severity, and no line besides."""
-    matchers = json.loads((INSTALL / "editor" / name).read_text(encoding="utf-8"))["problemMatcher"]
+def matched(name: str, patterns: list[str]) -> list[Outcome]:
+    """Whether each pattern reads each error and warning, with its parts, and no line besides."""
     rows = list(diagnostics())
-    wrong = [(path, it[0]) for path, it in rows if severities(matchers, it[0]) != wanted_by(it)]
-    others = [it for it in ("card 9: S5", "no fault", "warned.rpg: 3 warnings", "error: unexpected argument '--x' found") if severities(matchers, it)]
+    wrong, others = [], []
+    for pattern in patterns:
+        rule = re.compile(pattern, re.ASCII)
+        for path, it in rows:
+            found = rule.match(it[0])
+            if (found and found.groups()) != (None if it[4] == "note" else it.groups()):
+                wrong.append((path, it[0]))
+        others += [it for it in ("card 9: S5", "no fault", "warned.rpg: note: 3 warnings", "error: unexpected argument '--x' found") if rule.match(it)]
     return [told(f"{name}, {len(rows)} lines", ([], []), (wrong, others))] if rows else [told(name, "diagnostics", "none")]
 
 
@@ -205,8 +201,8 @@ def read_by_shell(shell: str, name: str) -> list[Outcome]:
 
 
 def jobs_of(program: Program) -> Iterator[Job]:
-    for name in ("problem-matcher.json", "github-matcher.json"):
-        yield partial(matched, name)
+    yield partial(matched, "gcc-matcher.json", of_github())
+    yield partial(matched, "$gcc", GCC)
     tools = [("vim", partial(listed, program, it)) for it in LISTS] + [("vim", painted), ("bash", completed_by_bash)]
     tools += [("zsh", partial(read_by_shell, "zsh", "_rpg2")), ("fish", partial(read_by_shell, "fish", "rpg2.fish"))]
     for tool, job in tools:

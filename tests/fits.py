@@ -20,8 +20,8 @@ AT_ONCE = 10
 
 def reported(errors: str) -> str:
     """The sentences on standard error, each with its card: `CARD: CODE: SENTENCE`."""
-    lines = [re.fullmatch(r"deck:(\d+: A\d+: .*)", line) for line in errors.split("\n")]
-    return "".join(f"{it[1]}\n" for it in lines if it)
+    lines = [re.fullmatch(r"deck:(\d+):\d+: (?:note|error): (.*) \[(A\d+)\]", line) for line in errors.split("\n")]
+    return "".join(f"{it[1]}: {it[3]}: {it[2]}\n" for it in lines if it)
 
 
 def words_of(path: Path) -> list[str]:

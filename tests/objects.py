@@ -21,7 +21,7 @@ ANSWER = b'{"answer":'
 # How the text of clap begins, which is none of rpg2's own.
 CLAP = (b"error: ", b"\x1b")
 
-TYPES = {"string": str, "integer": int}
+TYPES = {"string": str, "integer": int, "object": dict, "array": list, "null": type(None)}
 
 
 @dataclass(frozen=True)
@@ -55,38 +55,59 @@ def printed(session: sessions.Session, command: sessions.Command) -> Printed:
     return Printed(ended.stdout, ended.stderr, ended.returncode)
 
 
-def fault_of_value(name: str, value: object, rule: dict) -> str | None:
-    """What is wrong with a member of an object."""
-    kind = rule.get("type")
-    if kind and (not isinstance(value, TYPES[kind]) or isinstance(value, bool)):
-        return f"{name} is no {kind}"
+def is_of(value: object, kind: str) -> bool:
+    return isinstance(value, TYPES[kind]) and not isinstance(value, bool)
+
+
+def fault_of_number_or_text(name: str, value: object, rule: dict) -> str | None:
+    """What is wrong with a value that has no parts."""
     if "enum" in rule and value not in rule["enum"]:
         return f"{name} is {value}"
-    if not rule.get("minimum", value) <= value <= rule.get("maximum", value):
+    if isinstance(value, int) and not rule.get("minimum", value) <= value <= rule.get("maximum", value):
         return f"{name} is {value}"
-    if "pattern" in rule and not re.search(rule["pattern"], value):
-        return f"{name} is {value}"
+    if isinstance(value, str) and (not re.search(rule.get("pattern", ""), value) or len(value) < rule.get("minLength", 0)):
+        return f"{name} is {value!r}"
     return None
 
 
-def fault_of_object(line: bytes, rules: dict) -> str | None:
+def faults_of_members(name: str, value: dict, rule: dict, rules: dict) -> list[str]:
+    """What is wrong with the members of an object."""
+    known = rule.get("properties", {})
+    wanted = rule.get("required", []) + [it for first, needed in rule.get("dependentRequired", {}).items() if first in value for it in needed]
+    faults = [f"{name} has no {it}" for it in wanted if it not in value]
+    faults += [f"{name} has {it}" for it in value if it not in known]
+    for member, part in value.items():
+        faults += faults_of_value(member, part, known.get(member, {}), rules)
+    return faults
+
+
+def faults_of_value(name: str, value: object, rule: dict, rules: dict) -> list[str]:
+    """What is wrong with a value, by a rule of the schema."""
+    if "$ref" in rule:
+        rule = rules[rule["$ref"].rsplit("/", 1)[-1]]
+    kinds = rule.get("type", [])
+    if kinds and not any(is_of(value, it) for it in ([kinds] if isinstance(kinds, str) else kinds)):
+        return [f"{name} is no {kinds}"]
+    if isinstance(value, dict):
+        return faults_of_members(name, value, rule, rules)
+    if isinstance(value, list):
+        faults = [f"{name} has {len(value)} parts"] if len(value) > rule.get("maxItems", len(value)) else []
+        return faults + [it for part in value for it in faults_of_value(name, part, rule.get("items", {}), rules)]
+    fault = fault_of_number_or_text(name, value, rule)
+    return [fault] if fault else []
+
+
+def fault_of_object(line: bytes, name: str, rules: dict) -> str | None:
     """What is wrong with a line that should be an object by these rules."""
     try:
         found = json.loads(line)
     except ValueError as why:
         return f"{why}: {line!r}"
-    if not isinstance(found, dict):
-        return f"no object: {line!r}"
-    missing = [it for it in rules["required"] if it not in found]
-    unknown = [it for it in found if it not in rules["properties"]]
-    if missing or unknown:
-        return f"missing {missing}, unknown {unknown}: {line!r}"
-    faults = [fault_of_value(name, value, rules["properties"][name]) for name, value in found.items()]
-    return next((f"{it}: {line!r}" for it in faults if it), None)
+    return next((f"{it}: {line!r}" for it in faults_of_value(name, found, rules[name], rules)), None)
 
 
 def fault_of_answer(line: bytes, status: int, rules: dict) -> str | None:
-    fault = fault_of_object(line, rules)
+    fault = fault_of_object(line, "answer", rules)
     if fault:
         return fault
     given = json.loads(line)["status"]
@@ -107,8 +128,8 @@ def fault_of(came: Printed, rules: dict) -> str | None:
     answers = answers_in(came)
     if not answers and came.status != 0:
         return "no answer"
-    faults = [fault_of_object(it, rules["diagnostic"]) for it in told]
-    faults += [fault_of_answer(it, came.status, rules["answer"]) for it in answers]
+    faults = [fault_of_object(it, "diagnostic", rules) for it in told]
+    faults += [fault_of_answer(it, came.status, rules) for it in answers]
     return next(filter(None, faults), None)
 
 

@@ -16,4 +16,4 @@ def sentences() -> list[str]:
 def unshown() -> list[str]:
     """The sentences that no case and no session shows."""
     told = "\n".join(path.read_text(encoding="latin-1") for part in ("fit/*.told", "sessions/*.wanted") for path in sorted(HERE.glob(part)))
-    return [it for it in sentences() if not re.search(re.escape(it).replace("%", r"\S.*") + "$", told, re.M)]
+    return [it for it in sentences() if not re.search(re.escape(it).replace("%", r"\S.*") + r"(?: \[A\d+\])?$", told, re.M)]

@@ -2,12 +2,11 @@
 
 ghost use Rattle.rpg_cli_reports.specs.Saying.{PrintsALine};
 
-use rpg_cli_answers::{Answer, CommandStop, FormedListener, Listener, Reasons};
+use rpg_cli_answers::{Answer, CommandStop, Listener, Reasons};
 use rpg_cli_conversions::{fit_file, records_file};
 use rpg_cli_programs::{cards_file, check_files, compile_files, list_file, show_file, verify_file};
 use rpg_cli_reports::{
-    Outlet, StandardError, StandardStreams, conclude, explain, files_of, refuse, report_unwritten,
-    say,
+    Outlet, StandardError, StandardStreams, conclude, explain, refuse, report_unwritten, say,
 };
 use rpg_cli_run::{go_files, run_files};
 use rpg_cli_words::{
@@ -39,38 +38,13 @@ fn answer_to<R: Clock + Env + Files + Input + Print + AllocGlobal, L: Listener>(
     }
 }
 
-/// Runs a command, prints one line to `out`, and returns the exit status. If the arguments ask for JSON, diagnostics are objects.
+/// Runs a command, prints one line to `out`, and returns the exit status.
 fn obey<R: Clock + Env + Files + Input + Print + Eprint + AllocGlobal, W: Write, L: Listener>(
     rt: &R,
     request: &mut Request,
     out: &mut W,
     listener: &mut L,
 ) -> u8
-    ensures { PrintsALine (W.contents out.old) (W.contents out.new) result }
-{
-    match files_of(rt.alloc(), request) {
-        Ok(files) => {
-            let format = request.answer.format;
-            let mut listener = FormedListener::new(rt.alloc(), listener, files, format);
-            obey_as_asked(rt, request, out, &mut listener)
-        }
-        Err(_) => conclude(
-            rt.alloc(),
-            request,
-            &Answer::NoMemory,
-            Reasons::NONE,
-            out,
-            listener,
-        ),
-    }
-}
-
-/// Runs a command, prints one line to `out`, and returns the exit status.
-fn obey_as_asked<
-    R: Clock + Env + Files + Input + Print + Eprint + AllocGlobal,
-    W: Write,
-    L: Listener,
->(rt: &R, request: &mut Request, out: &mut W, listener: &mut L) -> u8
     ensures { PrintsALine (W.contents out.old) (W.contents out.new) result }
 {
     let alloc = rt.alloc();
@@ -91,7 +65,8 @@ fn obey_as_asked<
             refuse(rt, &refuse_unreplaced(alloc, unreplaced), out, listener)
         }
         Err(CommandStop::Unshown(reason)) => {
-            report_unwritten(Outlet::of(request), reason, listener);
+            report_unwritten(alloc, Outlet::of(request), reason, listener);
+            listener.end();
             1
         }
     }
@@ -122,19 +97,25 @@ fn run_on_streams<R: Clock + Env + Files + Input + Print + Eprint + AllocGlobal>
     arguments: &[String],
     has_colours: bool,
 ) -> u8 {
-    let mut listener = StandardStreams::new(rt, has_colours);
     match request_of(rt.alloc(), arguments) {
-        Err(refusal) => refuse(rt, &refusal, &mut io::writer(rt), &mut listener),
-        Ok(mut request) => obey_on_streams(rt, &mut request, &mut listener),
+        Err(refusal) => {
+            let mut listener = StandardStreams::new(rt, Format::Text, has_colours);
+            refuse(rt, &refusal, &mut io::writer(rt), &mut listener)
+        }
+        Ok(mut request) => {
+            let mut listener = StandardStreams::new(rt, request.answer.format, has_colours);
+            obey_on_streams(rt, &mut request, &mut listener)
+        }
     }
 }
 
 /// Rejects arguments that can't be read, since one isn't UTF-8 or memory ran out.
 fn refuse_arguments<R: Print + Eprint + AllocGlobal>(rt: &R, error: &Error) -> u8 {
     let mut out = io::writer(rt);
-    let mut listener = StandardStreams::new(rt, false);
+    let mut listener = StandardStreams::new(rt, Format::Text, false);
     if error.kind() == ErrorKind::OutOfMemory {
         say(
+            rt.alloc(),
             &mut out,
             Outlet::STANDARD_OUTPUT,
             Format::Text,

@@ -1,22 +1,33 @@
 //! The diagnostics for an output that is written in place, and for one that a command replaced before it failed.
 
-use rpg_cli_files::{Listener, Opened, Pending, Replaces, report_message};
+use rpg_cli_diagnostics::{Diagnostic, Draft, FileName};
+use rpg_cli_files::{Listener, Opened, Pending, Replaces, remark_made, tell_made};
 use rpg_cli_text::TextWriter;
 use rpg_cli_words::{FileArgument, Request};
 use std::alloc::{AllocError, Global};
 
-fn in_place_message(
+/// Returns a file of an argument as diagnostics name it.
+pub fn file_at(argument: FileArgument, path: &str) -> FileName<'_> {
+    FileName {
+        path,
+        role: argument.name(),
+    }
+}
+
+/// Returns the file that an argument names.
+pub fn file_of<'a>(request: &Request<'a>, argument: FileArgument) -> FileName<'a> {
+    file_at(argument, request.file(argument))
+}
+
+fn in_place_note<'a>(
     alloc: Global,
-    argument: FileArgument,
-    path: &str,
+    file: FileName<'a>,
     why: &str,
-) -> Result<String, AllocError> {
-    let mut out = TextWriter::new(alloc);
-    out.fill(
-        "{}: note: {} is written in place: {}\n",
-        &[path.as_bytes().into(), argument.name().into(), why.into()],
-    );
-    out.finish()
+) -> Result<Diagnostic<'a>, AllocError> {
+    Draft::note(alloc, file.whole()).filled(
+        "{} is written in place: {}",
+        &[file.role.into(), why.into()],
+    )
 }
 
 /// Reports an output that is written in place, if its old contents were to be kept.
@@ -28,8 +39,10 @@ pub fn report_in_place<F, L: Listener>(
     listener: &mut L,
 ) {
     if let Some(why) = file.in_place() {
-        let path = request.file(argument);
-        report_message(listener, in_place_message(alloc, argument, path, why));
+        tell_made(
+            listener,
+            in_place_note(alloc, file_of(request, argument), why),
+        );
     }
 }
 
@@ -39,12 +52,11 @@ fn placed_message(
     file: &Pending<'_>,
 ) -> Result<String, AllocError> {
     let mut out = TextWriter::new(alloc);
-    let place = file.place().as_bytes();
-    out.fill("{} ({}): ", &[place.into(), argument.name().into()]);
-    out.write_str(match file.replaces() {
-        Replaces::Nothing => "made by this run\n",
-        Replaces::File => "replaced by what this run wrote\n",
-    });
+    let sentence = match file.replaces() {
+        Replaces::Nothing => "{} was made by this run",
+        Replaces::File => "{} was replaced by what this run wrote",
+    };
+    out.fill_one(sentence, argument.name());
     out.finish()
 }
 
@@ -56,6 +68,7 @@ pub fn report_placed<L: Listener>(
     listener: &mut L,
 ) {
     if let Some(file) = file {
-        report_message(listener, placed_message(alloc, argument, file));
+        let name = file_at(argument, file.place());
+        remark_made(listener, name, placed_message(alloc, argument, file));
     }
 }

@@ -25,30 +25,34 @@ fn unread(name: &[u8]) -> Option<&'static str> {
 /// How many similar names are listed.
 const MOST: usize = 3;
 
-/// Writes which defined names are similar to a name.
+/// Asks whether one of the defined names that are similar to a name is meant.
 fn write_near_names(out: &mut TextWriter, spot: Spot<'_>, name: &[u8]) {
     let mut from = 0;
-    let mut end = "";
-    for count in 0..MOST {
+    let mut is_first = true;
+    let mut waiting: Option<&[u8]> = None;
+    for _ in 0..MOST {
         let place = spot.near.next(NameKind::Field, name, from);
         let Some(near) = spot.near.at(place) else {
             break;
         };
-        out.write_str(if count == 0 { " (" } else { ", " });
-        out.write_shown(near.name.as_slice());
-        end = if count == 0 {
-            " is defined)"
-        } else {
-            " are defined)"
-        };
+        if let Some(earlier) = waiting {
+            out.write_str(if is_first { ": is " } else { ", " });
+            out.write_shown(earlier);
+            is_first = false;
+        }
+        waiting = Some(near.name.as_slice());
         from = place.saturating_add(1);
     }
-    out.write_str(end);
+    if let Some(last) = waiting {
+        out.write_str(if is_first { ": is " } else { " or " });
+        out.write_shown(last);
+        out.write_str(" meant?");
+    }
 }
 
 /// F1: which name no card defines, and which defined names are similar.
 pub(crate) fn write_undefined(out: &mut TextWriter, spot: Spot<'_>, name: &[u8]) {
-    out.fill_one("{} is used, and no card defines it", name);
+    out.fill_one("no card defines {}", name);
     match unread(name) {
         Some(sentence) => out.write_str(sentence),
         None => write_near_names(out, spot, name),

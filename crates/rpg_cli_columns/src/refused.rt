@@ -4,8 +4,9 @@ use crate::card::CardKind;
 use crate::operations::write_near_operations;
 use crate::pattern::{character_at, write_columns};
 use crate::range::{Range, WantedRange, range_of};
-use crate::shift::{write_form_type_shift, write_shift};
-use crate::unread::{feature_at, has_number_after};
+use crate::shift::{add_card_move, add_moves};
+use crate::unread::{Unread, feature_at, has_number_after};
+use rpg_cli_diagnostics::Draft;
 use rpg_cli_text::TextWriter;
 use rpg_sheet::ColumnFault;
 
@@ -15,15 +16,28 @@ const FORM_TYPE: ColumnFault = ColumnFault { column: 6, last: 6 };
 /// What is added if there is a small letter.
 const CAPITALS: &str = ", and letters are capitals";
 
+/// Writes what a feature is, and adds how to do without it.
+fn write_feature(draft: &mut Draft<'_>, feature: Unread) {
+    draft.message.write_shown(feature.what);
+    if let Some(way) = feature.way {
+        let mut remark = draft.text();
+        remark.write_shown(way);
+        draft.remark(remark);
+    }
+}
+
 /// Writes what is wrong with column 6: a directive, a sheet that isn't supported, a card in the wrong columns, or a comment.
-pub fn write_form_type(out: &mut TextWriter, line: &[u8]) {
+pub fn write_form_type(draft: &mut Draft<'_>, line: &[u8]) {
     let form = character_at(line, 6);
     let found = [form];
-    out.fill("column 6 has \"{}\": ", &[found.as_slice().into()]);
+    draft
+        .message
+        .fill_one("column 6 has \"{}\": ", found.as_slice());
     if let Some(feature) = feature_at(line, FORM_TYPE) {
-        out.write_shown(feature.sentence);
+        write_feature(draft, feature);
         return;
     }
+    let out = &mut draft.message;
     out.write_str("a form type is H, F, E, I, C or O");
     if form.is_ascii_lowercase() {
         out.write_str(CAPITALS);
@@ -31,7 +45,7 @@ pub fn write_form_type(out: &mut TextWriter, line: &[u8]) {
     if is_starred(line) {
         out.write_str("; a comment has * in column 7");
     }
-    write_form_type_shift(out, line);
+    add_card_move(draft, line);
 }
 
 /// Whether a card begins with an asterisk, as if it were a comment.
@@ -47,27 +61,27 @@ fn is_starred(line: &[u8]) -> bool {
 const NUMBER_AFTER: &str =
     "columns 73 to 80 look like a card number: only 75 to 80 are free; `cut -c1-72` takes the numbers away";
 
-/// Writes which columns have a bad value: what they hold, what that is in RPG II or what they may hold, and whether the text is in the
-/// wrong columns.
-pub fn write_bad_columns(out: &mut TextWriter, line: &[u8], columns: ColumnFault) {
+/// Writes which columns have a bad value: what they hold, and what that is in RPG II or what they may hold. Adds the workaround, and which
+/// text is in the wrong columns.
+pub fn write_bad_columns(draft: &mut Draft<'_>, line: &[u8], columns: ColumnFault) {
     let range = range_of(CardKind::of(line), WantedRange::Columns(columns));
-    write_columns_found(out, line, columns, range);
+    write_columns_found(&mut draft.message, line, columns, range);
     if has_number_after(line, columns) {
-        out.write_str(NUMBER_AFTER);
+        draft.message.write_str(NUMBER_AFTER);
         return;
     }
     match feature_at(line, columns) {
         Some(feature) => {
-            out.write_shown(feature.sentence);
+            write_feature(draft, feature);
             if feature.is_any {
-                write_shift(out, line, columns, 1);
+                add_moves(draft, line, columns, 1);
             }
         }
         None => {
-            write_wanted(out, line, columns, range);
-            write_near_operations(out, line, columns);
-            write_overlong(out, line, columns);
-            write_shift(out, line, columns, 2);
+            write_wanted(&mut draft.message, line, columns, range);
+            write_near_operations(&mut draft.message, line, columns);
+            write_overlong(&mut draft.message, line, columns);
+            add_moves(draft, line, columns, 2);
         }
     }
 }

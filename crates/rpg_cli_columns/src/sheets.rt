@@ -116,10 +116,8 @@ pub(crate) fn sentence_of(letter: u8) -> &'static str {
         b'N' => {
             "a name begins in the first column with a letter, $, # or @, and has only these and digits in it"
         }
-        b'#' => "a number has digits alone and ends in the last column",
-        b'B' => {
-            "a number has digits alone and ends in the last column, or the columns are blank"
-        }
+        b'#' => "only digits, right-aligned",
+        b'B' => "only digits, right-aligned, or blank",
         b'D' => "a digit, or blank",
         b'I' => {
             "an indicator is 01 to 99, L0 to L9, LR, MR, 1P, OA to OG, OV or H1 to H9, or the columns are blank"

@@ -3,7 +3,7 @@
 use crate::card::CardKind;
 use crate::pattern::{character_at, write_columns};
 use crate::range::{WantedRange, range_of};
-use rpg_cli_text::TextWriter;
+use rpg_cli_diagnostics::Draft;
 use rpg_sheet::{Card, ColumnFault};
 use rpg_text::has_only_characters;
 
@@ -172,8 +172,22 @@ fn rest_from(line: &[u8], first: usize) -> Run {
     Run { first, last }
 }
 
-/// Writes the shift of a text, or of the whole card, that makes the card readable, if exactly one does.
-fn write_run_shift(out: &mut TextWriter, line: &[u8], run: Run, by: usize, is_card: bool) -> bool {
+/// Adds that a text is to be moved, or the whole card.
+fn add_move(draft: &mut Draft<'_>, line: &[u8], run: Run, by: Move, is_card: bool) {
+    let mut remark = draft.text();
+    if is_card {
+        remark.write_str("move the card");
+    } else {
+        remark.write_str("move \"");
+        write_columns(&mut remark, line, run.first, run.last);
+        remark.write_char('"');
+    }
+    remark.fill_one(" {}", by.words());
+    draft.remark(remark);
+}
+
+/// Adds the shift of a text, or of the whole card, that makes the card readable, if exactly one does.
+fn add_run_move(draft: &mut Draft<'_>, line: &[u8], run: Run, by: usize, is_card: bool) -> bool {
     let right = helps_run(line, run, Move::right(by), is_card);
     let left = helps_run(line, run, Move::left(by), is_card);
     if right == left {
@@ -184,16 +198,7 @@ fn write_run_shift(out: &mut TextWriter, line: &[u8], run: Run, by: usize, is_ca
     } else {
         Move::left(by)
     };
-    if is_card {
-        out.fill(
-            "; moved {} the whole card can be read",
-            &[only.words().into()],
-        );
-    } else {
-        out.write_str("; \"");
-        write_columns(out, line, run.first, run.last);
-        out.fill("\" moved {} can be read", &[only.words().into()]);
-    }
+    add_move(draft, line, run, only, is_card);
     true
 }
 
@@ -203,12 +208,12 @@ fn begins_word(line: &[u8], first: usize, column: usize) -> bool {
         && (column == first || character_at(line, column.saturating_sub(1)) == b' ')
 }
 
-/// Like `write_run_shift`, for each text that the rejected columns have a part of.
-fn write_words_shift(out: &mut TextWriter, line: &[u8], refused: ColumnFault, by: usize) -> bool {
+/// Like `add_run_move`, for each text that the rejected columns have a part of.
+fn add_word_move(draft: &mut Draft<'_>, line: &[u8], refused: ColumnFault, by: usize) -> bool {
     let first = usize::from(refused.column);
     for column in first..=usize::from(refused.last) {
         if begins_word(line, first, column)
-            && write_run_shift(out, line, word_at(line, column), by, false)
+            && add_run_move(draft, line, word_at(line, column), by, false)
         {
             return true;
         }
@@ -216,41 +221,38 @@ fn write_words_shift(out: &mut TextWriter, line: &[u8], refused: ColumnFault, by
     false
 }
 
-/// Writes which text, or whether the whole card, can be read after a shift by a column or, at most, a few. Writes nothing if no shift
-/// helps, or both ways do.
-pub(crate) fn write_shift(out: &mut TextWriter, line: &[u8], refused: ColumnFault, most: usize) {
+/// Adds which text, or whether the whole card, can be read after a shift by a column or, at most, a few. Adds nothing if no shift helps, or
+/// both ways do.
+pub(crate) fn add_moves(draft: &mut Draft<'_>, line: &[u8], refused: ColumnFault, most: usize) {
     for by in 1..=most {
-        if write_words_shift(out, line, refused, by) {
+        if add_word_move(draft, line, refused, by) {
             return;
         }
         if let Some(first) = first_filled(line) {
-            if write_run_shift(out, line, rest_from(line, first), by, true) {
+            if add_run_move(draft, line, rest_from(line, first), by, true) {
                 return;
             }
         }
     }
 }
 
-/// Writes where the form type is, if a shift brings it into its column and makes the card readable.
-fn write_form_type_from(out: &mut TextWriter, line: &[u8], by: Move) -> bool {
+/// Adds that a card is to be moved, if that brings a form type into its column and makes the card readable.
+fn add_card_move_by(draft: &mut Draft<'_>, line: &[u8], by: Move) -> bool {
     let column = by.source_of(FORM_TYPE);
+    let run = rest_from(line, column);
     let is_in_word = character_at(line, column.saturating_sub(1)).is_ascii_alphabetic();
-    if is_in_word || !helps(line, rest_from(line, column), by) {
+    if is_in_word || !helps(line, run, by) {
         return false;
     }
-    let form = char::from(character_at(line, column));
-    out.fill(
-        "; {} stands in column {}: moved {} the card can be read",
-        &[form.into(), column.into(), by.words().into()],
-    );
+    add_move(draft, line, run, by, true);
     true
 }
 
-/// Writes where the form type of a card is, if the card can be read after a shift.
-pub(crate) fn write_form_type_shift(out: &mut TextWriter, line: &[u8]) {
+/// Adds where a card is to be moved, if it can be read after a shift.
+pub(crate) fn add_card_move(draft: &mut Draft<'_>, line: &[u8]) {
     for by in 1..=2 {
-        if write_form_type_from(out, line, Move::right(by))
-            || write_form_type_from(out, line, Move::left(by))
+        if add_card_move_by(draft, line, Move::right(by))
+            || add_card_move_by(draft, line, Move::left(by))
         {
             return;
         }

@@ -18,11 +18,34 @@ const NO_SHEET: u8 = b'?';
 /// Where the pattern of a place begins in its line, after a blank, the letter of the card and the columns.
 const PATTERN: usize = 9;
 
-/// A feature of RPG II: what it is, with the workaround, and whether it applies whatever its columns hold.
+/// A feature of RPG II that isn't supported.
 #[derive(Clone, Copy)]
 pub(crate) struct Unread {
-    pub sentence: &'static [u8],
+    pub what: &'static [u8],
+    /// How to do without it, if it can be done.
+    pub way: Option<&'static [u8]>,
+    /// Whether it applies whatever its columns hold.
     pub is_any: bool,
+}
+
+impl Unread {
+    /// Returns the feature of a line of the table, and whether it applies whatever its columns hold.
+    fn of(line: &'static [u8], is_any: bool) -> Unread {
+        for (place, byte) in line.iter().enumerate() {
+            if *byte == b'|' {
+                return Unread {
+                    what: line.get(..place).unwrap_or(line),
+                    way: line.get(place.saturating_add(1)..),
+                    is_any,
+                };
+            }
+        }
+        Unread {
+            what: line,
+            way: None,
+            is_any,
+        }
+    }
 }
 
 /// Whether rejected columns of a card are those of a place and match its pattern.
@@ -43,10 +66,7 @@ fn first_at(letter: u8, line: &[u8], columns: ColumnFault) -> Option<Unread> {
         if character_at(row, 1) != b' ' {
             sentence = row;
         } else if fits(row, letter, line, columns) {
-            return Some(Unread {
-                sentence,
-                is_any: row.len() < PATTERN,
-            });
+            return Some(Unread::of(sentence, row.len() < PATTERN));
         }
     }
     None

@@ -1,125 +1,163 @@
 //! The changes of a deck, one by one, and why a deck can't be rewritten.
 
-use crate::sentence::{write_card, write_sentence};
-use rpg_cli_messages::{CardLines, write_picture};
-use rpg_cli_text::{Piece, TextWriter};
-use rpg_fit::{Card, Fitted, FittedDeck, Note, Refusal, Remark, Rule, What};
+use crate::sentence::write_sentence;
+use rpg_cli_diagnostics::{At, Columns, Diagnostic, Draft, FileName, Level, Place};
+use rpg_cli_files::{Listener, tell_made};
+use rpg_cli_messages::CardLines;
+use rpg_cli_text::{TextWriter, Topic};
+use rpg_fit::{Card, Fitted, FittedDeck, Note, Refusal, Rule, Sentence, What};
 use std::alloc::{AllocError, Global};
 
 /// The columns of a card.
 const COLUMNS: usize = 80;
 
-/// Returns the messages about the changes of the deck `path`: for each card the changes, and the card with a mark under the columns that
-/// changed; then the notes on cards that didn't change.
-pub(crate) fn change_messages(
+/// Reports the changes of a deck: for each card the changes, the last with the card and a mark under the columns that changed; then the
+/// notes on cards that didn't change.
+pub(crate) fn report_changes<L: Listener>(
     alloc: Global,
-    path: &str,
+    file: FileName<'_>,
     source: &[u8],
     fit: &FittedDeck,
-) -> Result<String, AllocError> {
-    let mut out = TextWriter::new(alloc);
+    listener: &mut L,
+) {
     let mut lines = CardLines::of(source);
     let cards = u16::try_from(fit.fitted.cards).unwrap_or(u16::MAX);
     for card in 1..=cards {
-        if write_changes(&mut out, path, &fit.fitted, usize::from(card)) {
+        if has_change(&fit.fitted, usize::from(card)) {
             let line = lines.line_of(card);
-            write_picture(&mut out, card, line, None);
-            write_marks(&mut out, &fit.fitted, usize::from(card), line);
+            report_card(alloc, file, line, &fit.fitted, card, listener);
         }
     }
-    write_notes(&mut out, path, source, fit.notes.as_slice());
-    out.finish()
-}
-
-/// Writes the code of a rule: `A6: `.
-fn write_rule(out: &mut TextWriter, rule: Rule) {
-    out.fill("A{}: ", &[Piece::from(rule.number())]);
-}
-
-/// Writes the changes of a card. Returns whether there are any.
-fn write_changes(out: &mut TextWriter, path: &str, fitted: &Fitted, card: usize) -> bool {
-    let mut is_changed = false;
-    for remarks in fitted.remarks(card) {
-        is_changed = write_change(out, path, card, remarks) || is_changed;
-    }
-    is_changed
-}
-
-/// Writes a change; nothing if the card changes along with another one.
-fn write_change(out: &mut TextWriter, path: &str, card: usize, remarks: &Remark) -> bool {
-    match &remarks.what {
-        What::Change(sentence) => {
-            write_card(out, path, card);
-            write_rule(out, remarks.rule);
-            write_sentence(out, sentence);
-            out.write_char('\n');
-            true
-        }
-        What::With(_) => false,
+    for note in fit.notes.as_slice() {
+        tell_made(listener, note_of(alloc, file, source, note));
     }
 }
 
-/// Whether a column of a card changed.
-fn is_changed(old: &Card, new: &Card, column: usize) -> bool {
-    old.column(column) != new.column(column)
+/// Whether a card has a change of its own.
+fn has_change(fitted: &Fitted, card: usize) -> bool {
+    count_changes(fitted, card) > 0
 }
 
-/// Whether any column of a card changed.
-fn is_any_changed(old: &Card, new: &Card) -> bool {
-    for column in 1..=COLUMNS {
-        if is_changed(old, new, column) {
-            return true;
+/// Counts the changes of a card; those along with another card don't count.
+fn count_changes(fitted: &Fitted, card: usize) -> usize {
+    let mut count = 0usize;
+    for remark in fitted.remarks(card) {
+        if let What::Change(_) = &remark.what {
+            count = count.saturating_add(1);
         }
     }
-    false
+    count
 }
 
-/// Writes marks under the columns of a card that changed.
-fn write_marks(out: &mut TextWriter, fitted: &Fitted, card: usize, line: &[u8]) {
-    let Some(new) = fitted.replacement(card) else {
-        return;
-    };
-    let old = Card::of(line);
-    if is_any_changed(&old, &new) {
-        out.write_str("      | ");
-        for column in 1..=COLUMNS {
-            let is_marked = is_changed(&old, &new, column);
-            out.write_char(if is_marked { '^' } else { ' ' });
-        }
-        out.end_line();
-    }
-}
-
-fn write_notes(out: &mut TextWriter, path: &str, source: &[u8], notes: &[Note]) {
-    for note in notes {
-        write_card(out, path, note.card);
-        out.fill("note: {}\n", &[Piece::Word(note.text)]);
-        write_source_card(out, source, note.card);
-    }
-}
-
-/// Writes a card of a source.
-fn write_source_card(out: &mut TextWriter, source: &[u8], card: usize) {
-    let number = u16::try_from(card).unwrap_or(u16::MAX);
-    let line = CardLines::of(source).line_of(number);
-    write_picture(out, number, line, None);
-}
-
-/// Returns the message about why the deck `path` can't be rewritten.
-pub(crate) fn refusal_message(
+/// Reports the changes of a card. The last one shows the card.
+fn report_card<L: Listener>(
     alloc: Global,
-    path: &str,
-    source: &[u8],
+    file: FileName<'_>,
+    line: &[u8],
+    fitted: &Fitted,
+    card: u16,
+    listener: &mut L,
+) {
+    let new = fitted.replacement(usize::from(card));
+    let place = changed_place(file, line, card, &new);
+    let mut left = count_changes(fitted, usize::from(card));
+    for remark in fitted.remarks(usize::from(card)) {
+        if let What::Change(sentence) = &remark.what {
+            left = left.saturating_sub(1);
+            let place = if left == 0 {
+                place
+            } else {
+                place.without_picture()
+            };
+            tell_made(listener, change(alloc, place, remark.rule, sentence));
+        }
+    }
+}
+
+/// Returns a rule's topic.
+fn topic_of(rule: Rule) -> Topic {
+    Topic::Rewriting(usize::from(rule.number()))
+}
+
+/// Returns the note on a change.
+fn change<'a>(
+    alloc: Global,
+    place: Place<'a>,
+    rule: Rule,
+    sentence: &Sentence,
+) -> Result<Diagnostic<'a>, AllocError> {
+    let mut draft = Draft::new(alloc, Level::Note, Some(place), Some(topic_of(rule)));
+    write_sentence(&mut draft.message, sentence);
+    draft.finish()
+}
+
+/// Returns the columns from the first to the last that changed.
+fn changed_columns(old: &Card, new: &Card) -> Option<Columns> {
+    let mut columns: Option<Columns> = None;
+    for column in 1..=COLUMNS {
+        if old.column(column) != new.column(column) {
+            let first = match columns {
+                Some(columns) => columns.first,
+                None => column,
+            };
+            columns = Some(Columns {
+                first,
+                last: column,
+            });
+        }
+    }
+    columns
+}
+
+/// Returns a card that is replaced or removed, with the columns that changed.
+fn changed_place<'a>(
+    file: FileName<'a>,
+    line: &'a [u8],
+    card: u16,
+    new: &'a Option<Card>,
+) -> Place<'a> {
+    let Some(new) = new else {
+        return file.card(card, None, line);
+    };
+    let place = file.card(card, changed_columns(&Card::of(line), new), line);
+    match place.at {
+        At::Line(line) => Place {
+            at: At::Line(line.changed_to(new.text())),
+            ..place
+        },
+        _ => place,
+    }
+}
+
+/// Returns a card of a source.
+fn source_card<'a>(file: FileName<'a>, source: &'a [u8], card: usize) -> Place<'a> {
+    let number = u16::try_from(card).unwrap_or(u16::MAX);
+    file.card(number, None, CardLines::of(source).line_of(number))
+}
+
+/// Returns a note on a card that didn't change.
+fn note_of<'a>(
+    alloc: Global,
+    file: FileName<'a>,
+    source: &'a [u8],
+    note: &Note,
+) -> Result<Diagnostic<'a>, AllocError> {
+    Draft::note(alloc, source_card(file, source, note.card)).filled("{}", &[note.text.into()])
+}
+
+/// Returns the diagnostic for a deck that can't be rewritten.
+pub(crate) fn refusal_diagnostic<'a>(
+    alloc: Global,
+    file: FileName<'a>,
+    source: &'a [u8],
     refusal: &Refusal,
-) -> Result<String, AllocError> {
-    let mut out = TextWriter::new(alloc);
-    write_card(&mut out, path, refusal.card);
-    write_rule(&mut out, refusal.rule);
-    out.write_str("can't be rewritten: ");
-    write_sentence(&mut out, &refusal.why);
-    out.write_char('\n');
-    write_source_card(&mut out, source, refusal.card);
-    out.finish()
+) -> Result<Diagnostic<'a>, AllocError> {
+    let place = source_card(file, source, refusal.card);
+    let topic = topic_of(refusal.rule);
+    let mut draft = Draft::new(alloc, Level::Error, Some(place), Some(topic));
+    draft.message.write_str("can't be rewritten: ");
+    write_sentence(&mut draft.message, &refusal.why);
+    draft.finish()
 }
 
 /// Writes a number with a comma before each three of its digits, except the first.
@@ -133,28 +171,32 @@ fn write_grouped(out: &mut TextWriter, digits: &str) {
     }
 }
 
-/// Returns the message that the deck `path` has too many cards: `card` is the first over the limit.
-pub(crate) fn long_deck_message(
+/// Begins a fault of a deck with too many cards.
+fn too_many(alloc: Global, place: Place<'_>) -> Draft<'_> {
+    Draft::new(alloc, Level::Error, Some(place), Some(Topic::Sheet(6)))
+}
+
+/// Returns the diagnostic for a deck that has too many cards: `card` is the first over the limit.
+pub(crate) fn long_deck_diagnostic(
     alloc: Global,
-    path: &str,
+    file: FileName<'_>,
     cards: usize,
     card: u16,
-) -> Result<String, AllocError> {
+) -> Result<Diagnostic<'_>, AllocError> {
     let mut digits = TextWriter::new(alloc);
     digits.fill_one("{}", cards);
     let digits = digits.finish()?;
-    let mut out = TextWriter::new(alloc);
-    write_card(&mut out, path, usize::from(card));
-    out.write_str("S6: the deck has ");
-    write_grouped(&mut out, digits.as_str());
-    out.write_str(" cards, and 2,000 are the most\n");
-    out.finish()
+    let mut draft = too_many(alloc, file.line(card.into()));
+    draft.message.write_str("the deck has ");
+    write_grouped(&mut draft.message, digits.as_str());
+    draft.message.write_str(" cards, and 2,000 are the most");
+    draft.finish()
 }
 
-/// Returns the message that the new deck would have too many cards.
-pub(crate) fn too_many_message(alloc: Global, path: &str) -> Result<String, AllocError> {
-    let mut out = TextWriter::new(alloc);
-    out.write_shown(path.as_bytes());
-    out.write_str(": S6: the new deck would have more than 2,000 cards\n");
-    out.finish()
+/// Returns the diagnostic for a new deck that would have too many cards.
+pub(crate) fn too_many_diagnostic(
+    alloc: Global,
+    file: FileName<'_>,
+) -> Result<Diagnostic<'_>, AllocError> {
+    too_many(alloc, file.whole()).filled("the new deck would have more than 2,000 cards", &[])
 }

@@ -1,13 +1,16 @@
 //! The command that rewrites an old deck.
 
-use crate::changes::{change_messages, long_deck_message, refusal_message, too_many_message};
-use crate::new_deck::new_deck_messages;
-use rpg_cli_answers::{
-    Answer, CommandStop, Listener, NamedFile, named, refuse_replacing, refuse_same_file,
-    report_message, report_refusal,
+use crate::changes::{
+    long_deck_diagnostic, refusal_diagnostic, report_changes, too_many_diagnostic,
 };
+use crate::new_deck::{new_deck_faults, origins};
+use rpg_cli_answers::{
+    Answer, CommandStop, Listener, NamedFile, file_of, named, refuse_replacing, refuse_same_file,
+    tell_all, tell_made,
+};
+use rpg_cli_diagnostics::FileName;
 use rpg_cli_files::{FileFault, Opened, Reason, file_bytes, lines, write_bytes};
-use rpg_cli_messages::{is_object, source_messages};
+use rpg_cli_messages::{is_object, source_diagnostics};
 use rpg_cli_words::{FileArgument, Request, is_standard};
 use rpg_faults::{CardFault, SourceCode, SourceFault, source_faults};
 use rpg_fit::{FitFault, FittedDeck, Settings, Switches, TableFile, fit};
@@ -96,12 +99,13 @@ fn refuse_long<L: Listener>(
     listener: &mut L,
 ) -> Answer {
     let cards = count_lines(source);
-    let message = if cards > usize::from(MOST_CARDS) {
-        long_deck_message(alloc, request.source(), cards, PAST_LIMIT)
+    let file = file_of(request, FileArgument::Source);
+    let told = if cards > usize::from(MOST_CARDS) {
+        long_deck_diagnostic(alloc, file, cards, PAST_LIMIT)
     } else {
-        too_many_message(alloc, request.source())
+        too_many_diagnostic(alloc, file)
     };
-    report_message(listener, message);
+    tell_made(listener, told);
     Answer::NewDeck(SourceFault::At {
         card: PAST_LIMIT,
         code: SourceCode::Sheet(SheetCode::S6),
@@ -119,8 +123,8 @@ fn refuse<L: Listener>(
 ) -> Answer {
     match fault {
         FitFault::Refused(refusal) => {
-            let message = refusal_message(alloc, request.source(), source, refusal);
-            report_refusal(listener, message);
+            let file = file_of(request, FileArgument::Source);
+            tell_made(listener, refusal_diagnostic(alloc, file, source, refusal));
             Answer::FitRefused {
                 card: refusal.card as u64,
                 rule: refusal.rule.number(),
@@ -184,10 +188,14 @@ fn report_fit<L: Listener>(
     fit: &FittedDeck,
     listener: &mut L,
 ) {
-    let changes = change_messages(alloc, request.source(), source, fit);
-    report_message(listener, changes);
-    let faults = new_deck_messages(alloc, request.new_name(), request.source(), fit);
-    report_message(listener, faults);
+    let old = file_of(request, FileArgument::Source);
+    let new = FileName {
+        path: request.new_name(),
+        role: FileArgument::Fitted.name(),
+    };
+    report_changes(alloc, old, source, fit, listener);
+    tell_all(listener, &new_deck_faults(alloc, new, fit));
+    tell_all(listener, &origins(alloc, new, old, fit));
 }
 
 /// Returns the first of a deck's faults.
@@ -218,8 +226,11 @@ fn refuse_object<L: Listener>(
     listener: &mut L,
 ) -> Result<Answer, Answer> {
     let judged = source_faults(alloc, object)?;
-    let messages = source_messages(alloc, request.source(), object, &judged, 1);
-    report_message(listener, messages);
+    let file = file_of(request, FileArgument::Source);
+    tell_all(
+        listener,
+        &source_diagnostics(alloc, file, object, &judged, 1),
+    );
     match first_fault(&judged.faults) {
         None => Ok(Answer::Faultless),
         Some(fault) => Err(Answer::Source(fault)),

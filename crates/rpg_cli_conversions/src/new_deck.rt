@@ -1,35 +1,34 @@
 //! The faults of a new deck, by its cards and by the cards of the old one.
 
-use crate::sentence::write_card;
-use rpg_cli_messages::source_messages;
-use rpg_cli_text::{Piece, TextWriter};
+use rpg_cli_diagnostics::{Diagnostics, Draft, FileName};
+use rpg_cli_messages::source_diagnostics;
 use rpg_fit::FittedDeck;
-use std::alloc::{AllocError, Global};
+use std::alloc::Global;
 
 /// The most faults that are listed.
 const MOST: u16 = 20;
 
-/// Returns the messages about the faults of the new deck `new_path`, and for each of its cards with a fault the card of the source `path`.
-/// Empty if it has no faults.
-pub(crate) fn new_deck_messages(
+/// Returns the faults of the new deck, as for any source. None if it has no faults.
+pub(crate) fn new_deck_faults<'a>(
     alloc: Global,
-    new_path: &str,
-    path: &str,
-    fit: &FittedDeck,
-) -> Result<String, AllocError> {
-    let mut out = TextWriter::new(alloc);
+    new: FileName<'a>,
+    fit: &'a FittedDeck,
+) -> Diagnostics<'a> {
     if fit.judged.faults.is_empty() {
-        return out.finish();
+        return Diagnostics::new(alloc);
     }
-    let new = fit.fitted.new.as_slice();
-    let messages = source_messages(alloc, new_path, new, &fit.judged, MOST)?;
-    out.write_str(messages.as_str());
-    write_origins(&mut out, new_path, path, fit);
-    out.finish()
+    let deck = fit.fitted.new.as_slice();
+    source_diagnostics(alloc, new, deck, &fit.judged, MOST)
 }
 
-/// Writes which cards of the source the cards with faults come from.
-fn write_origins(out: &mut TextWriter, new_path: &str, path: &str, fit: &FittedDeck) {
+/// Returns for each card of the new deck with a fault the card of the source that it comes from.
+pub(crate) fn origins<'a>(
+    alloc: Global,
+    new: FileName<'a>,
+    source: FileName<'a>,
+    fit: &FittedDeck,
+) -> Diagnostics<'a> {
+    let mut out = Diagnostics::new(alloc);
     let mut last = 0;
     for fault in fit.judged.faults.iter().take(usize::from(MOST)) {
         let card = usize::from(fault.card);
@@ -37,11 +36,11 @@ fn write_origins(out: &mut TextWriter, new_path: &str, path: &str, fit: &FittedD
             continue;
         }
         last = card;
-        if let Some(source) = fit.fitted.source_card(card) {
-            write_card(out, new_path, card);
-            out.write_str("note: it comes from ");
-            out.write_shown(path.as_bytes());
-            out.fill(":{}\n", &[Piece::from(source)]);
+        if let Some(from) = fit.fitted.source_card(card) {
+            let path = source.path.as_bytes();
+            let draft = Draft::note(alloc, new.line(u64::from(fault.card)));
+            out.push(draft.filled("it comes from {}:{}", &[path.into(), from.into()]));
         }
     }
+    out
 }

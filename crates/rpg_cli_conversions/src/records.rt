@@ -1,15 +1,15 @@
 //! The command that converts records to lines, and such lines to records.
 
-use crate::refused::{RefusedRecord, deck_message, record_message};
+use crate::refused::{RefusedRecord, deck_diagnostic, record_diagnostic};
 use rpg_cli_answers::{
-    Answer, CommandStop, Listener, NamedFile, named, refuse_replacing, refuse_same_file,
-    report_in_place, report_placed, report_refusal,
+    Answer, CommandStop, Listener, NamedFile, file_of, named, refuse_replacing, refuse_same_file,
+    report_in_place, report_placed, tell_made,
 };
 use rpg_cli_files::{
     FileFault, KeptFile, LineTarget, Opened, Pending, Reason, RecordSource, file_bytes, input_file,
     kept_file, lines, records,
 };
-use rpg_cli_messages::{is_object, object_message};
+use rpg_cli_messages::{is_object, object_diagnostic};
 use rpg_cli_words::{
     FileArgument, RecordFraming, RecordsWay, Request, SameFile, Shared, is_standard,
 };
@@ -50,13 +50,13 @@ fn layout<L: Listener>(
     match layout_of(alloc, source, deck_arguments) {
         Ok(layout) => Ok(layout),
         Err(fault) => {
-            let path = request.file(request.deck_argument());
-            let message = if is_object(source) {
-                object_message(alloc, path)
+            let file = file_of(request, request.deck_argument());
+            let told = if is_object(source) {
+                object_diagnostic(alloc, file)
             } else {
-                deck_message(alloc, path, fault)
+                deck_diagnostic(alloc, file, fault)
             };
-            report_refusal(listener, message);
+            tell_made(listener, told);
             Err(refusal(fault))
         }
     }
@@ -234,8 +234,8 @@ fn early_answer<L: Listener>(
                 offset,
                 fault,
             };
-            let message = record_message(alloc, request.file(FileArgument::In), refused);
-            report_refusal(listener, message);
+            let file = file_of(request, FileArgument::In);
+            tell_made(listener, record_diagnostic(alloc, file, refused));
             Answer::RecordRefused { number }
         }
         ConversionFault::Read => Answer::File {

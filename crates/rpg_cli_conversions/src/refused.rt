@@ -1,5 +1,6 @@
 //! The diagnostics for a deck or a record that is rejected.
 
+use rpg_cli_diagnostics::{At, Columns, Diagnostic, Draft, FileName, Place};
 use rpg_cli_text::TextWriter;
 use rpg_cli_words::RecordsWay;
 use rpg_record_decks::{CardFault, DeckFault};
@@ -54,24 +55,25 @@ fn write_card_fault(out: &mut TextWriter, fault: CardFault) {
     }
 }
 
-/// Returns what is wrong with the deck `path`.
-pub(crate) fn deck_message(
+/// Returns the diagnostic for a deck.
+pub(crate) fn deck_diagnostic(
     alloc: Global,
-    path: &str,
+    file: FileName<'_>,
     fault: DeckFault,
-) -> Result<String, AllocError> {
-    let mut out = TextWriter::new(alloc);
-    out.write_shown(path.as_bytes());
+) -> Result<Diagnostic<'_>, AllocError> {
+    let place = match fault {
+        DeckFault::Card { number, .. } => file.line(number.into()),
+        DeckFault::NoFile | DeckFault::NoMemory => file.whole(),
+    };
+    let mut draft = Draft::error(alloc, place);
     match fault {
-        DeckFault::Card { number, fault } => {
-            out.fill(":{}: ", &[number.into()]);
-            write_card_fault(&mut out, fault);
-        }
-        DeckFault::NoFile => out.write_str(": no card describes such an input file"),
-        DeckFault::NoMemory => out.write_str(": no memory"),
+        DeckFault::Card { fault, .. } => write_card_fault(&mut draft.message, fault),
+        DeckFault::NoFile => draft
+            .message
+            .write_str("no card describes such an input file"),
+        DeckFault::NoMemory => draft.message.write_str("no memory"),
     }
-    out.write_char('\n');
-    out.finish()
+    draft.finish()
 }
 
 fn write_number_fault(out: &mut TextWriter, fault: NumberFault) {
@@ -197,20 +199,54 @@ pub(crate) struct RefusedRecord {
     pub fault: RecordFault,
 }
 
-/// Returns what is wrong with a record or a line of the file `path`.
-pub(crate) fn record_message(
-    alloc: Global,
-    path: &str,
-    refused: RefusedRecord,
-) -> Result<String, AllocError> {
-    let mut out = TextWriter::new(alloc);
-    out.write_shown(path.as_bytes());
-    let (number, offset) = (refused.number.into(), refused.offset.into());
-    match refused.way {
-        RecordsWay::ToLines => out.fill(": record {} at byte {}: ", &[number, offset]),
-        RecordsWay::ToRecords => out.fill(": line {}: ", &[number]),
+/// Returns the columns of a line that a fault is about, if it is about some.
+fn columns_of(fault: &RecordFault) -> Option<Columns> {
+    let (first, last) = match fault {
+        RecordFault::BadDigits { first, last, .. } => (*first, *last),
+        RecordFault::Taken { first, last, .. } => (usize::from(*first), usize::from(*last)),
+        RecordFault::NoPlace { column, .. } => (*column, *column),
+        RecordFault::NoCharacter { column, .. } => (*column, *column),
+        _ => return None,
+    };
+    Some(Columns { first, last })
+}
+
+impl RefusedRecord {
+    /// Returns where it is: a line of a text file, or a record at an offset.
+    fn place<'a>(&self, file: FileName<'a>) -> Place<'a> {
+        match self.way {
+            RecordsWay::ToLines => Place {
+                file,
+                at: At::Record {
+                    number: self.number,
+                    byte: self.offset,
+                },
+            },
+            RecordsWay::ToRecords => file.unshown(self.number, columns_of(&self.fault), &[]),
+        }
     }
-    write_record_fault(&mut out, refused.fault);
-    out.write_char('\n');
-    out.finish()
+}
+
+/// Returns the diagnostic for a record or a line of a file. A text has no place for a record, so the message has it.
+pub(crate) fn record_diagnostic(
+    alloc: Global,
+    file: FileName<'_>,
+    refused: RefusedRecord,
+) -> Result<Diagnostic<'_>, AllocError> {
+    let mut draft = Draft::error(alloc, refused.place(file));
+    let out = &mut draft.message;
+    match (refused.way, refused.fault) {
+        (RecordsWay::ToRecords, RecordFault::NoType) => out.write_str("this line is of no type"),
+        (RecordsWay::ToRecords, fault) => write_record_fault(out, fault),
+        (RecordsWay::ToLines, RecordFault::NoType) => out.fill_two(
+            "record {} at byte {} is of no type",
+            refused.number,
+            refused.offset,
+        ),
+        (RecordsWay::ToLines, fault) => {
+            out.fill_two("record {} at byte {}: ", refused.number, refused.offset);
+            write_record_fault(out, fault);
+        }
+    }
+    draft.finish()
 }

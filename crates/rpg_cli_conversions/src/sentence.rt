@@ -1,6 +1,6 @@
 //! Sentences about cards.
 
-use rpg_cli_text::{Piece, TextWriter};
+use rpg_cli_text::TextWriter;
 use rpg_fit::Sentence;
 
 /// Writes a sentence with a word in place of each `%`.
@@ -13,10 +13,4 @@ pub(crate) fn write_sentence(out: &mut TextWriter, sentence: &Sentence) {
             out.write_shown(word.text());
         }
     }
-}
-
-/// Writes the place of a card: `PATH:CARD: `.
-pub(crate) fn write_card(out: &mut TextWriter, path: &str, card: usize) {
-    out.write_shown(path.as_bytes());
-    out.fill(":{}: ", &[Piece::from(card)]);
 }

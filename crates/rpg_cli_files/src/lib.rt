@@ -16,7 +16,7 @@ pub use files::{
     FileFault, FileIdentity, begins_with, file_bytes, flush_device, identity, identity_at,
     input_file, output_file,
 };
-pub use listener::{Listener, report_message, report_refusal};
+pub use listener::{Listener, remark_made, tell_all, tell_made};
 pub use patience::Patient;
 pub use pending::{KeptFile, Pending, kept_file};
 pub use reason::Reason;

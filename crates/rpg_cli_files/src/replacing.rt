@@ -1,10 +1,10 @@
 //! A file that is written completely before it replaces the existing one.
 
 use crate::files::{FileFault, beside_fault, output_fault};
-use crate::listener::{Listener, report_message};
+use crate::listener::{Listener, tell_made};
 use crate::reason::Reason;
 use crate::sending::send_bytes;
-use rpg_cli_text::TextWriter;
+use rpg_cli_diagnostics::{Diagnostic, Draft, FileName};
 use std::alloc::{AllocError, Global};
 use std::fs::{self, File, Metadata, OpenFile};
 use std::io::{ErrorKind, Write};
@@ -163,27 +163,27 @@ fn numbered_beside<R: Files + AllocGlobal>(
 }
 
 const LEFT: &str =
-    "{}: note: {}.0.new was left by a run that was killed, or another run writes it: remove it if none runs\n";
+    "{}.0.new was left by a run that was killed, or another run writes it: remove it if none runs";
 
 const SEVERAL_LEFT: &str =
-    "{}: note: {}.0.new to {}.{}.new were left by runs that were killed, or other runs write them: remove them if none runs\n";
+    "{}.0.new to {}.{}.new were left by runs that were killed, or other runs write them: remove them if none runs";
 
-/// Returns the message that files of other runs are beside a file, so many of them.
-fn taken_message(alloc: Global, path: &str, count: u32) -> Result<String, AllocError> {
-    let mut out = TextWriter::new(alloc);
-    let (path, last) = (path.as_bytes(), u64::from(count.saturating_sub(1)));
+/// Begins a note on a file, whose argument isn't known.
+fn note(alloc: Global, path: &str) -> Draft<'_> {
+    Draft::note(alloc, FileName { path, role: "" }.whole())
+}
+
+/// Returns the note that files of other runs are beside a file, so many of them.
+fn taken_note(alloc: Global, path: &str, count: u32) -> Result<Diagnostic<'_>, AllocError> {
+    let (name, last) = (path.as_bytes(), u64::from(count.saturating_sub(1)));
     let sentence = if count == 1 { LEFT } else { SEVERAL_LEFT };
-    out.fill(
-        sentence,
-        &[path.into(), path.into(), path.into(), last.into()],
-    );
-    out.finish()
+    note(alloc, path).filled(sentence, &[name.into(), name.into(), last.into()])
 }
 
 /// Reports the names beside a file that other runs have taken, so many of them.
 pub(crate) fn report_taken<L: Listener>(alloc: Global, path: &str, count: u32, listener: &mut L) {
     if count > 0 {
-        report_message(listener, taken_message(alloc, path, count));
+        tell_made(listener, taken_note(alloc, path, count));
     }
 }
 
@@ -201,14 +201,12 @@ fn new_beside<R: Files + AllocGlobal>(
     Err(FileFault::Beside(Reason::Taken))
 }
 
-/// Returns the message that a new file can't be removed.
-fn left_message(alloc: Global, path: &str, reason: Reason) -> Result<String, AllocError> {
-    let mut out = TextWriter::new(alloc);
-    out.fill(
-        "{}: it is left there, since it can't be removed: {}\n",
-        &[path.as_bytes().into(), reason.text().into()],
-    );
-    out.finish()
+/// Returns the note that a new file can't be removed.
+fn left_note(alloc: Global, path: &str, reason: Reason) -> Result<Diagnostic<'_>, AllocError> {
+    note(alloc, path).filled(
+        "it is left there, since it can't be removed: {}",
+        &[reason.text().into()],
+    )
 }
 
 /// Removes a new file, if it is there. Reports one that can't be removed.
@@ -220,7 +218,7 @@ pub(crate) fn remove_new<R: Files + AllocGlobal, L: Listener>(
     if let Err(error) = fs::remove_file(rt, path) {
         if error.kind() != ErrorKind::NotFound {
             let reason = Reason::of(error.kind());
-            report_message(listener, left_message(rt.alloc(), path, reason));
+            tell_made(listener, left_note(rt.alloc(), path, reason));
         }
     }
 }

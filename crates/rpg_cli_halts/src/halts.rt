@@ -4,7 +4,8 @@ use crate::columns::{BadInput, bad_columns, columns_of};
 use crate::held::{HaltedRecord, Lower};
 use crate::lines::write_indexed_fields;
 use crate::record::{bad_byte, write_too_long};
-use crate::source::{HaltedSource, write_source};
+use crate::source::{HaltedSource, add_source};
+use rpg_cli_diagnostics::{Columns, Diagnostic, Draft, FileName, Level, Place as FilePlace};
 use rpg_cli_messages::write_byte_cause;
 use rpg_cli_refusals::write_instruction_at;
 use rpg_cli_text::{TextWriter, Topic};
@@ -62,9 +63,9 @@ impl HaltedCycle {
 /// The names of a job's input files.
 #[derive(Clone, Copy)]
 pub struct InputNames<'a> {
-    pub primary: &'a str,
+    pub primary: FileName<'a>,
     /// The name of the secondary file, if the arguments name one. A program without such a file doesn't read it.
-    pub secondary: Option<&'a str>,
+    pub secondary: Option<FileName<'a>>,
 }
 
 /// Whether a program has a secondary file.
@@ -74,7 +75,7 @@ fn has_two_files(program: &Verified) -> bool {
 
 impl<'a> InputNames<'a> {
     /// Returns the name of an input file.
-    fn of(self, file: InputFile) -> &'a str {
+    fn of(self, file: InputFile) -> FileName<'a> {
         match (file, self.secondary) {
             (InputFile::Secondary, Some(secondary)) => secondary,
             (InputFile::Primary, _) | (InputFile::Secondary, None) => self.primary,
@@ -132,16 +133,22 @@ impl<'a> RecordProblem<'a> {
         }
     }
 
-    /// Returns the first column that it is about, counted from 1.
-    fn column(self) -> Option<usize> {
-        match self {
-            RecordProblem::Nothing => None,
-            RecordProblem::Input(bad, _) => Some(usize::from(bad.input.from)),
-            RecordProblem::Byte(before, _) | RecordProblem::TooLong(before, _) => Some(
-                before.saturating_add(1),
+    /// Returns the columns that it is about, and the text of the record.
+    fn columns(self) -> Option<(Columns, &'a [u8])> {
+        let (first, last, text) = match self {
+            RecordProblem::Nothing => return None,
+            RecordProblem::Input(bad, text) => (
+                usize::from(bad.input.from),
+                usize::from(bad.input.to),
+                text,
             ),
-            RecordProblem::Lower(lower) => Some(lower.column),
-        }
+            RecordProblem::Byte(before, text) | RecordProblem::TooLong(before, text) => {
+                let column = before.saturating_add(1);
+                (column, column, text)
+            }
+            RecordProblem::Lower(lower) => (lower.column, lower.column, lower.text),
+        };
+        Some((Columns { first, last }, text))
     }
 }
 
@@ -176,39 +183,42 @@ fn write_lower(out: &mut TextWriter, lower: Lower<'_>) {
     }
 }
 
-impl HaltContext<'_> {
-    /// Writes the name of the record's file, or of all input files if it isn't known.
-    fn write_names(self, out: &mut TextWriter) {
-        let InputNames { primary, secondary } = self.names;
-        match (self.record, secondary) {
-            (Some((file, _)), _) => out.write_shown(self.names.of(file).as_bytes()),
-            (None, Some(secondary)) if has_two_files(self.program) => out.fill(
-                "{} and {}",
-                &[primary.as_bytes().into(), secondary.as_bytes().into()],
-            ),
-            (None, _) => out.write_shown(primary.as_bytes()),
+impl<'a> HaltContext<'a> {
+    /// Returns the record's file; the primary one if the record isn't known.
+    fn file(self) -> FileName<'a> {
+        match self.record {
+            Some((file, _)) => self.names.of(file),
+            None => self.names.primary,
         }
     }
 
-    /// Writes where it halted, with record and column if they are known, and what was wrong.
-    fn write_halt(self, out: &mut TextWriter) {
-        let halt = self.halted.halt;
-        self.write_names(out);
-        if let Some((_, record)) = self.record {
-            out.fill(":{}", &[record.into()]);
-        }
-        if let Some(column) = self.found.column() {
-            out.fill(":{}", &[column.into()]);
-        }
-        out.fill(": halt {}: ", &[halt.number().into()]);
-        match self.found {
-            RecordProblem::Byte(place, text) => write_byte_cause(out, text, place),
-            RecordProblem::TooLong(length, text) => write_too_long(out, text, length),
-            RecordProblem::Lower(lower) => write_lower(out, lower),
-            RecordProblem::Input(_, _) | RecordProblem::Nothing => {
-                out.write_str(Topic::Halt(usize::from(halt.number())).sentence());
+    /// Returns where it halted: the record and its columns, if they are known.
+    fn place(self) -> FilePlace<'a> {
+        match (self.record, self.found.columns()) {
+            (None, _) => self.file().whole(),
+            (Some((_, number)), None) => self.file().line(number),
+            (Some((_, number)), Some((columns, text))) => {
+                self.file().unshown(number, Some(columns), text)
             }
         }
+    }
+
+    /// Writes what was wrong.
+    fn write_halt(self, draft: &mut Draft<'_>) {
+        match self.found {
+            RecordProblem::Byte(place, text) => write_byte_cause(draft, text, place),
+            RecordProblem::TooLong(length, text) => {
+                write_too_long(&mut draft.message, text, length)
+            }
+            RecordProblem::Lower(lower) => write_lower(&mut draft.message, lower),
+            RecordProblem::Input(_, _) | RecordProblem::Nothing => {
+                draft.message.write_str(self.topic().sentence());
+            }
+        }
+    }
+
+    fn topic(self) -> Topic {
+        Topic::Halt(usize::from(self.halted.halt.number()))
     }
 
     /// Writes which instruction halted; if none did, which columns of the record, or which output fields it may have been.
@@ -225,24 +235,37 @@ impl HaltContext<'_> {
         }
     }
 
-    /// Writes which record it was, or what the cycle does, and how many cycles were complete.
+    /// Writes which record it was, or what the cycle does.
     fn write_cycle(self, out: &mut TextWriter) {
         let cycle = self.halted.cycles;
         let before = cycle.saturating_sub(1);
-        let (sentence, first) = match (self.record, self.halted.halt, before) {
-            (Some((_, record)), Halt::IndicatorOn, _) => ("record {} was the last one", record),
-            (Some((_, record)), _, _) => ("it was record {}", record),
-            (None, _, _) if has_two_files(self.program) => ("it was cycle {}", cycle),
-            (None, _, 0) => ("it was the first cycle, which reads record 1", cycle),
-            (None, _, _) => (BETWEEN, cycle),
-        };
+        match (self.record, self.halted.halt, self.names.secondary) {
+            (Some((_, record)), Halt::IndicatorOn, _) => {
+                out.fill_one("record {} was the last one", record)
+            }
+            (Some((_, record)), _, _) => out.fill_one("it was record {}", record),
+            (None, _, Some(secondary)) if has_two_files(self.program) => out.fill_three(
+                "it was cycle {} over {} and {}",
+                cycle,
+                self.names.primary.path.as_bytes(),
+                secondary.path.as_bytes(),
+            ),
+            (None, _, _) if before == 0 => {
+                out.write_str("it was the first cycle, which reads record 1")
+            }
+            (None, _, _) => out.fill_three(BETWEEN, cycle, before, cycle),
+        }
+    }
+
+    /// Writes what is kept of the cycles before.
+    fn write_kept(self, out: &mut TextWriter) {
+        let before = self.halted.cycles.saturating_sub(1);
         let end = match before {
-            0 => "; no cycle was done before\n",
-            1 => "; 1 cycle was done before, and its output stays\n",
-            _ => "; {} cycles were done before, and their output stays\n",
+            0 => "; there was no cycle before it",
+            1 => "; the output of the 1 cycle before it is kept",
+            _ => "; the output of the {} cycles before it is kept",
         };
-        out.fill(sentence, &[first.into(), before.into(), cycle.into()]);
-        out.fill(end, &[before.into()]);
+        out.fill_one(end, before);
     }
 }
 
@@ -261,14 +284,14 @@ fn place_of(
 
 /// Returns the diagnostic for a halt of a job by this program over the records of these files. The record shows what was wrong with it and,
 /// of two files, which it came from; the program's source shows which card it was.
-pub fn halt_message(
+pub fn halt_diagnostic<'a>(
     alloc: Global,
-    names: InputNames<'_>,
-    program: &Verified,
+    names: InputNames<'a>,
+    program: &'a Verified,
     halted: HaltedCycle,
-    record: Option<&HaltedRecord<'_>>,
-    source: Option<HaltedSource<'_>>,
-) -> Result<String, AllocError> {
+    record: Option<&'a HaltedRecord<'_>>,
+    source: Option<HaltedSource<'a>>,
+) -> Result<Diagnostic<'a>, AllocError> {
     let found = match record {
         Some(record) => RecordProblem::of(program, halted, record).unwrap_or(
             RecordProblem::Nothing,
@@ -282,19 +305,20 @@ pub fn halt_message(
         record: place_of(program, halted, record),
         found,
     };
-    let mut out = TextWriter::new(alloc);
-    context.write_halt(&mut out);
-    context.write_place(&mut out);
-    out.write_char('\n');
+    let topic = Some(context.topic());
+    let mut draft = Draft::new(alloc, Level::Error, Some(context.place()), topic);
+    context.write_halt(&mut draft);
+    context.write_place(&mut draft.message);
     if let Some(source) = source {
         let bad = match found {
             RecordProblem::Input(bad, _) => Some(bad),
             _ => None,
         };
-        write_source(&mut out, program, halted, bad, source);
+        add_source(&mut draft, program, halted, bad, source);
     }
-    context.write_names(&mut out);
-    out.write_str(": ");
-    context.write_cycle(&mut out);
-    out.finish()
+    let mut remark = draft.text();
+    context.write_cycle(&mut remark);
+    context.write_kept(&mut remark);
+    draft.add(Some(context.file().whole()), remark);
+    draft.finish()
 }

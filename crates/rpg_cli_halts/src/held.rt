@@ -42,6 +42,8 @@ pub struct HaltedRecord<'a> {
 pub(crate) struct Lower<'a> {
     /// The column in which its first match field begins, from 1.
     pub column: usize,
+    /// The text of the record.
+    pub text: &'a [u8],
     pub value: &'a [u8],
     pub before: &'a [u8],
     /// The number of the record with the higher value, if it is known.
@@ -177,6 +179,7 @@ impl<'a> HaltedRecord<'a> {
         let own = program.program().rows().types.get(self.row?)?;
         Some(Lower {
             column: first_column(&own.matches),
+            text: self.text,
             value: &self.kept.value.bytes,
             before: self.before,
             follows: self.follows,

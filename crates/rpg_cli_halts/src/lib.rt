@@ -8,6 +8,6 @@ mod lines;
 mod record;
 mod source;
 
-pub use halts::{HaltedCycle, InputNames, halt_message};
+pub use halts::{HaltedCycle, InputNames, halt_diagnostic};
 pub use held::{HaltedRecord, LastRead};
 pub use source::HaltedSource;

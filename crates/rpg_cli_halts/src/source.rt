@@ -3,7 +3,8 @@
 
 use crate::columns::BadInput;
 use crate::halts::HaltedCycle;
-use rpg_cli_messages::{CardLines, write_picture};
+use rpg_cli_diagnostics::{Columns, Draft, FileName};
+use rpg_cli_messages::CardLines;
 use rpg_cli_show_fields::{SourceRows, write_card_operand};
 use rpg_cli_text::TextWriter;
 use rpg_program::Program;
@@ -18,22 +19,20 @@ use rpg_verify::Verified;
 /// The source of the program that halted: its name, its text, and the cards of its rows.
 #[derive(Clone, Copy)]
 pub struct HaltedSource<'a> {
-    pub path: &'a str,
+    pub file: FileName<'a>,
     pub text: &'a [u8],
     pub rows: &'a SourceRows,
 }
 
-impl HaltedSource<'_> {
-    /// Begins a line about a card.
-    fn write_card(self, out: &mut TextWriter, card: u16) {
-        out.fill("{}:{}: ", &[self.path.as_bytes().into(), card.into()]);
+impl<'a> HaltedSource<'a> {
+    fn line_of(self, card: u16) -> &'a [u8] {
+        CardLines::of(self.text).line_of(card)
     }
 
-    /// Ends the line about a card, and writes the card.
-    fn show_card(self, out: &mut TextWriter, card: u16) {
-        out.write_char('\n');
-        let line = CardLines::of(self.text).line_of(card);
-        write_picture(out, card, line, None);
+    /// Adds a remark on a card, which is shown.
+    fn add(self, draft: &mut Draft<'a>, card: u16, columns: Option<Columns>, remark: TextWriter) {
+        let place = self.file.card(card, columns, self.line_of(card));
+        draft.add(Some(place), remark);
     }
 }
 
@@ -81,75 +80,86 @@ fn write_made_of(
     out.fill(sentence, &[target.into()]);
 }
 
-/// Writes the card of the instruction that halted.
-fn write_instruction(
-    out: &mut TextWriter,
+/// Adds the card of the instruction that halted.
+fn add_instruction<'a>(
+    draft: &mut Draft<'a>,
     program: &Program,
     place: usize,
-    source: HaltedSource<'_>,
+    source: HaltedSource<'a>,
 ) {
     let card = source.rows.place_card(place);
     if let (Some(placed), Some(card)) = (placed_at(program, place), card) {
-        source.write_card(out, card);
-        let line = CardLines::of(source.text).line_of(card);
-        write_made_of(out, program.rows(), source.rows, line, placed.instruction);
-        source.show_card(out, card);
+        let mut remark = draft.text();
+        let line = source.line_of(card);
+        write_made_of(
+            &mut remark,
+            program.rows(),
+            source.rows,
+            line,
+            placed.instruction,
+        );
+        source.add(draft, card, None, remark);
     }
 }
 
-/// Writes the card of the input field whose columns aren't a number.
-fn write_input(out: &mut TextWriter, bad: BadInput, source: HaltedSource<'_>) {
+/// The columns of an input card that have those of its field.
+const FIELD_COLUMNS: Columns = Columns {
+    first: 44,
+    last: 51,
+};
+
+/// Adds the card of the input field whose columns aren't a number.
+fn add_input<'a>(draft: &mut Draft<'a>, bad: BadInput, source: HaltedSource<'a>) {
     let name = source.rows.field_name(bad.input.field);
     let card = source.rows.input_card(bad.row, bad.number);
     if let (Some(name), Some(card)) = (name, card) {
-        source.write_card(out, card);
-        out.write_shown(name);
-        out.write_str(" has these columns");
-        source.show_card(out, card);
+        let mut remark = draft.text();
+        remark.fill_one("{} has these columns", name);
+        source.add(draft, card, Some(FIELD_COLUMNS), remark);
     }
 }
 
-/// Writes the cards of a line's fields that have an index field.
-fn write_line(
-    out: &mut TextWriter,
+/// Adds the cards of a line's fields that have an index field.
+fn add_line<'a>(
+    draft: &mut Draft<'a>,
     rows: &Rows,
     number: usize,
     line: &Line,
-    source: HaltedSource<'_>,
+    source: HaltedSource<'a>,
 ) {
     for (at, field) in line.fields.iter().enumerate() {
         let card = source.rows.line_field_card(number, at);
         if let (Index::Field(_), Some(card)) = (field.operand.index, card) {
-            source.write_card(out, card);
-            write_card_operand(out, rows, source.rows, field.operand);
-            source.show_card(out, card);
+            let mut remark = draft.text();
+            write_card_operand(&mut remark, rows, source.rows, field.operand);
+            source.add(draft, card, None, remark);
         }
     }
 }
 
-/// Writes the cards of all line fields that have an index field.
-fn write_lines(out: &mut TextWriter, rows: &Rows, source: HaltedSource<'_>) {
+/// Adds the cards of all line fields that have an index field.
+fn add_lines<'a>(draft: &mut Draft<'a>, rows: &Rows, source: HaltedSource<'a>) {
     for (number, line) in rows.lines.iter().enumerate() {
-        write_line(out, rows, number, line, source);
+        add_line(draft, rows, number, line, source);
     }
 }
 
-/// Writes the card that a halt is about, or the cards that it may be about, and what they hold, by name.
-pub(crate) fn write_source(
-    out: &mut TextWriter,
+/// Adds the card that a halt is about, or the cards that it may be about, and what they hold, by name.
+pub(crate) fn add_source<'a>(
+    draft: &mut Draft<'a>,
     program: &Verified,
     halted: HaltedCycle,
     bad: Option<BadInput>,
-    source: HaltedSource<'_>,
+    source: HaltedSource<'a>,
 ) {
     let program = program.program();
     let rows = program.rows();
     match (halted.place, halted.halt, bad) {
         (Some(place), _, _) => {
-            write_instruction(out, program, usize::from(place.number), source);
+            add_instruction(draft, program, usize::from(place.number), source);
         }
-        (None, Halt::BadIndex, _) => write_lines(out, rows, source),
-        (None, _, Some(bad)) => write_input(out, bad, source),
+        (None, Halt::BadIndex, _) => add_lines(draft, rows, source),
+        (None, _, Some(bad)) => add_input(draft, bad, source),
         (None, _, None) => {}
     }
 }

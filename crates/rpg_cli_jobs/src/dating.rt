@@ -4,9 +4,9 @@ ghost use Rattle.std.specs.Prelude.{◌≡◌, IfErr, OnOk};
 ghost use Rattle.rpg_cli_jobs.specs.Dated.{HasDate};
 ghost use Rattle.rpg_cli_answers.specs.declared.answer.Answer.TheVariants as answers;
 
-use rpg_cli_answers::{Answer, Listener, report_message};
+use rpg_cli_answers::{Answer, Listener, tell_made};
+use rpg_cli_diagnostics::{Diagnostic, Draft, Level};
 use rpg_cli_show_fields::uses_date;
-use rpg_cli_text::TextWriter;
 use rpg_cli_values::{DateOrder, are_no_date};
 use rpg_cli_words::{DateArgument, Request};
 use rpg_engine::{Program, RunFault};
@@ -42,13 +42,11 @@ fn todays_digits<R: Clock + Env + Files + AllocGlobal>(
     }
 }
 
-fn odd_date_message(alloc: Global, text: &str) -> Result<String, AllocError> {
-    let mut out = TextWriter::new(alloc);
-    out.fill(
-        "--date {} isn't a calendar date: UDATE holds it as it is\n",
+fn odd_date_diagnostic(alloc: Global, text: &str) -> Result<Diagnostic<'static>, AllocError> {
+    Draft::new(alloc, Level::Warning, None, None).filled(
+        "--date {} isn't a calendar date: UDATE holds it as it is",
         &[text.into()],
-    );
-    out.finish()
+    )
 }
 
 /// Reads the clock if the arguments ask for today's date, and warns about six digits that aren't a calendar date.
@@ -63,7 +61,7 @@ pub fn settle_date<R: Clock + Env + Files + AllocGlobal, L: Listener>(
             request.set_today(todays_digits(rt, order)?);
         }
         Some(DateArgument::Written(text)) if are_no_date(text) => {
-            report_message(listener, odd_date_message(rt.alloc(), text));
+            tell_made(listener, odd_date_diagnostic(rt.alloc(), text));
         }
         _ => {}
     }

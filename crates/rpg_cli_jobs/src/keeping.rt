@@ -4,7 +4,7 @@ ghost use Rattle.std.specs.Prelude.{◌≡◌, IfErr};
 ghost use Rattle.rpg_cli_jobs.specs.Keeping.{IsOfFile, KeepsAnswer, disposition_of};
 
 use rpg_cli_answers::{
-    Answer, CommandStop, Listener, NamedFile, named, refuse_same_file, report_message,
+    Answer, CommandStop, Listener, NamedFile, file_at, named, refuse_same_file, remark_made,
     report_placed,
 };
 use rpg_cli_files::{FileFault, Pending, Replaces};
@@ -70,11 +70,11 @@ fn left_message(
     part: &str,
 ) -> Result<String, AllocError> {
     let mut out = TextWriter::new(alloc);
-    let place = file.place().as_bytes();
-    out.fill("{} ({}): ", &[place.into(), argument.name().into()]);
-    out.fill(
-        "{}; what this run wrote is in {}\n",
-        &[left_text(file).into(), part.as_bytes().into()],
+    out.fill_three(
+        "{} is {}; what this run wrote is in {}",
+        argument.name(),
+        left_text(file),
+        part.as_bytes(),
     );
     out.finish()
 }
@@ -89,7 +89,7 @@ fn leave_part<R: Files + AllocGlobal, L: Listener>(
     if let Some(pending) = file {
         let part = pending.leave_part(rt);
         let message = left_message(rt.alloc(), argument, pending, part);
-        report_message(listener, message);
+        remark_made(listener, file_at(argument, pending.place()), message);
     }
 }
 

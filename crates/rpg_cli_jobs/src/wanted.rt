@@ -1,7 +1,8 @@
 //! The files and the date that a program needs, and the diagnostics if the arguments don't name them.
 
 use crate::dating::has_date;
-use rpg_cli_answers::{Answer, Listener, report_message, report_refusal};
+use rpg_cli_answers::{Answer, Listener, file_of, tell_made};
+use rpg_cli_diagnostics::{Diagnostic, Draft, FileName};
 use rpg_cli_text::TextWriter;
 use rpg_cli_words::Request;
 use rpg_engine::{Program, has_disk_file, has_secondary_file};
@@ -42,44 +43,45 @@ impl<'a> WantedFiles<'a> {
     }
 }
 
-fn wanted_message(
-    alloc: Global,
-    path: &str,
-    program: &Program,
-    answer: Answer,
-) -> Result<String, AllocError> {
-    let mut out = TextWriter::new(alloc);
+fn write_wanted(out: &mut TextWriter, program: &Program, answer: Answer) {
     let rows = program.rows();
-    out.write_shown(path.as_bytes());
     match answer {
-        Answer::DiskFileWanted => out.fill(
-            " writes a disk file of {} columns: name it with --disk FILE\n",
-            &[rows.disk_length.into()],
+        Answer::DiskFileWanted => out.fill_one(
+            "the program writes a disk file of {} columns: name it with --disk FILE",
+            rows.disk_length,
         ),
         Answer::DateWanted => out.write_str(
-            " uses the date: give --date today, or six digits, as --date 112376\n",
+            "the program uses the date: give --date today, or six digits, as --date 112376",
         ),
-        _ => out.fill(
-            " reads a secondary file of {} columns: name it with --secondary FILE\n",
-            &[rows.secondary_length.into()],
+        _ => out.fill_one(
+            "the program reads a secondary file of {} columns: name it with --secondary FILE",
+            rows.secondary_length,
         ),
     }
-    out.finish()
 }
 
-fn limit_message(alloc: Global, path: &str, bound: u64, most: u64) -> Result<String, AllocError> {
-    let mut out = TextWriter::new(alloc);
+fn wanted_diagnostic<'a>(
+    alloc: Global,
+    file: FileName<'a>,
+    program: &Program,
+    answer: Answer,
+) -> Result<Diagnostic<'a>, AllocError> {
+    let mut draft = Draft::error(alloc, file.whole());
+    write_wanted(&mut draft.message, program, answer);
+    draft.finish()
+}
+
+fn limit_diagnostic(
+    alloc: Global,
+    file: FileName<'_>,
+    bound: u64,
+    most: u64,
+) -> Result<Diagnostic<'_>, AllocError> {
     let steps = if bound == 1 { "step" } else { "steps" };
-    out.fill(
-        "{}: a cycle may take {} {}, more than --most {}\n",
-        &[
-            path.as_bytes().into(),
-            bound.into(),
-            steps.into(),
-            most.into(),
-        ],
-    );
-    out.finish()
+    Draft::error(alloc, file.whole()).filled(
+        "a cycle may take {} {}, more than --most {}",
+        &[bound.into(), steps.into(), most.into()],
+    )
 }
 
 /// Reports which file or date a program needs but the arguments don't name, or that its bound is over their limit, if that is the answer.
@@ -90,13 +92,13 @@ pub fn report_wanted<L: Listener>(
     answer: Answer,
     listener: &mut L,
 ) {
-    let path = request.file(request.program());
+    let file = file_of(request, request.program());
     match (answer, request.most) {
         (Answer::DiskFileWanted | Answer::SecondaryFileWanted | Answer::DateWanted, _) => {
-            report_message(listener, wanted_message(alloc, path, program, answer))
+            tell_made(listener, wanted_diagnostic(alloc, file, program, answer))
         }
         (Answer::OverLimit { bound }, Some(most)) => {
-            report_refusal(listener, limit_message(alloc, path, bound, most))
+            tell_made(listener, limit_diagnostic(alloc, file, bound, most))
         }
         _ => {}
     }

@@ -1,10 +1,12 @@
 //! The cards of a source, with faults below them.
 
 use crate::chart::write_ruler;
-use rpg_cli_messages::{SourceCards, write_first, write_note};
+use rpg_cli_diagnostics::write_card as write_columns;
+use rpg_cli_messages::{SourceCards, write_note};
 use rpg_cli_text::TextWriter;
 use rpg_faults::CardFault;
 use rpg_text::trimmed;
+use std::alloc::{AllocError, Global};
 
 /// The columns before the first one of a card.
 const MARGIN: usize = 6;
@@ -14,44 +16,47 @@ fn write_card(out: &mut TextWriter, number: usize, line: &[u8]) {
     let text = trimmed(line);
     if !text.is_empty() {
         out.write_char(' ');
-        write_first(out, text);
+        write_columns(out, text);
     }
     out.write_char('\n');
 }
 
 /// Writes the faults of a card, the first of these. Returns the others.
 fn write_faults<'f>(
+    alloc: Global,
     out: &mut TextWriter,
     number: usize,
     line: &[u8],
     source: SourceCards<'_>,
     faults: &'f [CardFault],
-) -> &'f [CardFault] {
+) -> Result<&'f [CardFault], AllocError> {
     let mut rest = faults;
     for fault in faults {
         if usize::from(fault.card) != number {
             break;
         }
-        write_note(out, MARGIN, line, source, fault);
+        write_note(alloc, out, MARGIN, line, source, fault)?;
         rest = rest.get(1..).unwrap_or(&[]);
     }
-    rest
+    Ok(rest)
 }
 
 /// Writes the cards below a ruler. Faults come card by card, those of the whole source first.
 pub(crate) fn write_cards(
+    alloc: Global,
     out: &mut TextWriter,
     lines: &[&[u8]],
     source: SourceCards<'_>,
     faults: &[CardFault],
-) {
+) -> Result<(), AllocError> {
     out.write_str("\n card ");
     write_ruler(out, 80);
     out.write_char('\n');
-    let mut rest = write_faults(out, 0, &[], source, faults);
+    let mut rest = write_faults(alloc, out, 0, &[], source, faults)?;
     for (place, line) in lines.iter().enumerate() {
         let number = place.saturating_add(1);
         write_card(out, number, line);
-        rest = write_faults(out, number, line, source, rest);
+        rest = write_faults(alloc, out, number, line, source, rest)?;
     }
+    Ok(())
 }

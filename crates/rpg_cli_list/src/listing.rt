@@ -91,7 +91,7 @@ fn cards_text(
     write_head(&mut out, path, read.lines.len(), faults);
     let near = NearNames::of(alloc, &read.cards, faults)?;
     let known = SourceCards::of(&source, &near, text);
-    write_cards(&mut out, &read.lines, known, faults);
+    write_cards(alloc, &mut out, &read.lines, known, faults)?;
     write_contents(alloc, &mut out, &source, read.has_all_tables)?;
     out.finish()
 }

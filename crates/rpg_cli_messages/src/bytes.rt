@@ -1,5 +1,6 @@
 //! The probable causes of bytes that aren't characters, and of lines that are too long.
 
+use rpg_cli_diagnostics::Draft;
 use rpg_cli_text::TextWriter;
 use rpg_text::{is_blank, is_character};
 
@@ -32,9 +33,15 @@ fn cause_of(text: &[u8]) -> Option<&'static str> {
     }
 }
 
-/// Whether a text begins with the first two bytes of a non-ASCII letter in UTF-8.
-fn begins_letter(text: &[u8]) -> bool {
-    matches!(text, [0xc2..=0xf4, 0x80..=0xbf, ..])
+/// Returns the bytes of a letter of UTF-8 that isn't ASCII, if a text begins with one.
+fn letter_of(text: &[u8]) -> Option<&[u8]> {
+    let count = match text {
+        [0xc2..=0xdf, 0x80..=0xbf, ..] => 2,
+        [0xe0..=0xef, 0x80..=0xbf, ..] => 3,
+        [0xf0..=0xf4, 0x80..=0xbf, ..] => 4,
+        _ => return None,
+    };
+    Some(text.get(..count).unwrap_or(text))
 }
 
 /// Whether a byte is a blank, a letter or a digit of EBCDIC.
@@ -80,13 +87,39 @@ const HEX: &[u8; 16] = b"0123456789abcdef";
 
 const BAD_EBCDIC: &str = "byte {} isn't a character; {}";
 
-const BAD_LETTER: &str =
-    "byte {} begins a letter of UTF-8 that isn't ASCII: write one from blank to ~";
+/// How to write a file without such letters.
+const IN_ASCII: &str =
+    "LC_ALL=C.UTF-8 iconv -f UTF-8 -t ASCII//TRANSLIT {} > new.txt writes other characters for it";
 
 const BAD_BYTE: &str = "byte {} isn't a character: characters run from blank to ~";
 
+/// Writes the digits of bytes, with a blank before each.
+fn write_digits(out: &mut TextWriter, bytes: &[u8]) {
+    for byte in bytes {
+        out.write_char(' ');
+        out.write_char(char::from(HEX[usize::from(byte / 16)]));
+        out.write_char(char::from(HEX[usize::from(byte % 16)]));
+    }
+}
+
+/// Writes that a letter of UTF-8 isn't ASCII, and adds the command that writes others in the file.
+fn write_letter(draft: &mut Draft<'_>, letter: &[u8]) {
+    draft.message.write_str("bytes");
+    write_digits(&mut draft.message, letter);
+    draft
+        .message
+        .write_str(" are a letter of UTF-8 that isn't ASCII");
+    if let Some(path) = draft.path() {
+        if path != "-" {
+            let mut remark = draft.text();
+            remark.fill_one(IN_ASCII, path.as_bytes());
+            draft.remark(remark);
+        }
+    }
+}
+
 /// Writes the cause of a byte of a line that isn't a character, and how to fix it. Its place is counted from 0.
-pub fn write_byte_cause(out: &mut TextWriter, line: &[u8], place: usize) {
+pub fn write_byte_cause(draft: &mut Draft<'_>, line: &[u8], place: usize) {
     let rest = line.get(place..).unwrap_or(&[]);
     let byte = rest.first().copied().unwrap_or(0);
     let sentence = if looks_like_ebcdic(line) {
@@ -95,13 +128,16 @@ pub fn write_byte_cause(out: &mut TextWriter, line: &[u8], place: usize) {
         BAD_BYTE
     } else if let Some(cause) = cause_of(rest) {
         cause
-    } else if begins_letter(rest) {
-        BAD_LETTER
+    } else if let Some(letter) = letter_of(rest) {
+        write_letter(draft, letter);
+        return;
     } else {
         BAD_BYTE
     };
     let digits = [HEX[usize::from(byte / 16)], HEX[usize::from(byte % 16)]];
-    out.fill(sentence, &[digits.as_slice().into(), EBCDIC.into()]);
+    draft
+        .message
+        .fill(sentence, &[digits.as_slice().into(), EBCDIC.into()]);
 }
 
 const TOO_LONG: &str = "the line has {} characters, and a card has 80";

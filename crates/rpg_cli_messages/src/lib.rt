@@ -7,13 +7,14 @@ mod card_lines;
 mod message;
 mod note;
 mod order;
-mod picture;
 mod shorthand;
 mod unmarked;
+mod whole;
 
 pub use bytes::{is_object, write_byte_cause};
 pub use card_lines::CardLines;
-pub use message::{card_message, object_message, source_messages, write_place, write_reported};
+pub use message::{
+    card_diagnostic, marked, object_diagnostic, source_diagnostics, topic_of, write_reported,
+};
 pub use note::write_note;
-pub use picture::{write_first, write_picture};
 pub use rpg_cli_causes::{NearNames, SourceCards};

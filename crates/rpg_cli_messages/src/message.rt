@@ -3,81 +3,215 @@
 use crate::bytes::{is_object, write_byte_cause, write_long_line};
 use crate::card_lines::CardLines;
 use crate::order::{LaterCard, later_card, write_order};
-use crate::picture::write_picture;
 use crate::shorthand::write_shorthand;
 use crate::unmarked::write_unmarked;
+use crate::whole::{DeckSlip, Slip};
 use rpg_card_index::IndexedCards;
 use rpg_cli_causes::{NearNames, Root, SourceCards, root_of, write_cause};
 use rpg_cli_columns::{character_at, write_bad_columns, write_form_type};
-use rpg_cli_text::{TextWriter, sentence_of};
+use rpg_cli_diagnostics::{Columns, Diagnostic, Diagnostics, Draft, FileName, Level};
+use rpg_cli_text::{TextWriter, Topic};
 use rpg_faults::{CardFault, SourceCode, SourceFaults};
 use rpg_sheet::{ColumnFault, SheetCode};
 use rpg_text::{is_character, trimmed};
 use std::alloc::{AllocError, Global};
-use std::collections::HashSet;
+use std::collections::HashMap;
 
-/// Returns the diagnostics for the faults of the source `path`: for each a line `PATH:CARD:COLUMN: CODE: SENTENCE`, the card and a mark,
-/// for at most `most` faults, and for one if the source is an object program; then the number of faults.
-pub fn source_messages(
+/// Returns the diagnostics for the faults of a source, for at most `most` of them, and for one if the source is an object program; then the
+/// number of faults.
+pub fn source_diagnostics<'a>(
     alloc: Global,
-    path: &str,
-    source: &[u8],
+    file: FileName<'a>,
+    source: &'a [u8],
     judged: &SourceFaults,
     most: u16,
-) -> Result<String, AllocError> {
+) -> Diagnostics<'a> {
     let faults = judged.faults.as_slice();
     let most = if is_object(source) { most.min(1) } else { most };
     let listed = faults.get(..usize::from(most)).unwrap_or(faults);
-    let cards = IndexedCards::new(alloc, &judged.cards)?;
-    let near = NearNames::of(alloc, &judged.cards, listed)?;
-    let known = SourceCards::of(&cards, &near, source);
-    let mut out = TextWriter::new(alloc);
-    let mut mistakes = HashSet::new(alloc);
-    write_messages(&mut out, &mut mistakes, path, known, listed)?;
-    write_count(&mut out, path, faults, most);
-    out.finish()
+    let told = Told {
+        alloc,
+        file,
+        source,
+    };
+    let mut out = Diagnostics::new(alloc);
+    if let (Some(slip), Some(first)) = (DeckSlip::of(source, faults), listed.first()) {
+        told.add_slip(&mut out, slip, topic_of(first.code));
+        return out;
+    }
+    if told.add_listed(&mut out, judged, listed).is_err() {
+        out.lose();
+    }
+    out.push(told.count(faults, most));
+    out
 }
 
-/// Returns the diagnostic for a single fault of the source `path`, at which a command stops. It looks as it does among others.
-pub fn card_message(
+/// Returns the diagnostic for a single fault of a source, at which a command stops. It looks as it does among others.
+pub fn card_diagnostic<'a>(
     alloc: Global,
-    path: &str,
-    source: &[u8],
+    file: FileName<'a>,
+    source: &'a [u8],
     fault: &CardFault,
-) -> Result<String, AllocError> {
+) -> Result<Diagnostic<'a>, AllocError> {
     let cards = IndexedCards::new(alloc, &[])?;
     let near = NearNames::of(alloc, &[], &[])?;
     let known = SourceCards::of(&cards, &near, source);
-    let mut out = TextWriter::new(alloc);
+    let told = Told {
+        alloc,
+        file,
+        source,
+    };
     let line = CardLines::of(source).line_of(fault.card);
-    write_message(&mut out, path, line, known, fault);
-    out.finish()
+    told.fault(line, known, fault).finish()
 }
 
-/// Writes faults in the order of their cards, and notes the mistakes that caused them.
-fn write_messages(
-    out: &mut TextWriter,
-    mistakes: &mut HashSet<Mistake>,
-    path: &str,
-    source: SourceCards<'_>,
-    faults: &[CardFault],
-) -> Result<(), AllocError> {
-    let mut lines = CardLines::of(source.text);
-    for fault in faults {
-        let line = lines.line_of(fault.card);
-        match mistake_of(source, line, fault) {
-            Some(mistake) if mistakes.contains(&mistake) => write_follower(
-                out, path, line, fault, mistake,
-            ),
-            Some(mistake) => {
-                mistakes.insert(mistake)?;
-                write_message(out, path, line, source, fault);
-                write_mistaken_card(out, path, source.text, mistake);
-            }
-            None => write_message(out, path, line, source, fault),
+/// A source whose faults are reported: its name and its text.
+#[derive(Clone, Copy)]
+struct Told<'a> {
+    alloc: Global,
+    file: FileName<'a>,
+    source: &'a [u8],
+}
+
+impl<'a> Told<'a> {
+    /// Adds a slip that stands for the faults of all cards, and how many cards have it.
+    fn add_slip(self, out: &mut Diagnostics<'a>, slip: DeckSlip, topic: Topic) {
+        let line = CardLines::of(self.source).line_of(slip.first);
+        let place = self.file.card(slip.first, Some(slip.columns()), line);
+        let mut draft = Draft::new(self.alloc, Level::Error, Some(place), Some(topic));
+        slip.write(&mut draft);
+        out.push(draft.finish());
+        if !matches!(slip.slip, Slip::Free) {
+            let note = Draft::note(self.alloc, self.file.whole());
+            out.push(note.filled("{} cards can't be read", &[slip.cards.into()]));
         }
     }
-    Ok(())
+
+    /// Adds the listed faults.
+    fn add_listed(
+        self,
+        out: &mut Diagnostics<'a>,
+        judged: &SourceFaults,
+        listed: &[CardFault],
+    ) -> Result<(), AllocError> {
+        let cards = IndexedCards::new(self.alloc, &judged.cards)?;
+        let near = NearNames::of(self.alloc, &judged.cards, listed)?;
+        let known = SourceCards::of(&cards, &near, self.source);
+        self.add_faults(out, known, listed)
+    }
+
+    /// Adds faults in the order of their cards, and notes the mistakes that caused them.
+    fn add_faults(
+        self,
+        out: &mut Diagnostics<'a>,
+        known: SourceCards<'_>,
+        faults: &[CardFault],
+    ) -> Result<(), AllocError> {
+        let mut mistakes = HashMap::new(self.alloc);
+        let mut lines = CardLines::of(self.source);
+        for fault in faults {
+            let line = lines.line_of(fault.card);
+            let Some(mistake) = mistake_of(known, line, fault) else {
+                out.push(self.fault(line, known, fault).finish());
+                continue;
+            };
+            let first = mistakes.get(&mistake).copied();
+            let draft = match first {
+                Some(first) => self.follower(line, fault, mistake, first),
+                None => self.mistaken(line, known, fault, mistake),
+            };
+            out.push(draft.finish());
+            if first.is_none() {
+                mistakes.insert(mistake, fault.card)?;
+            }
+        }
+        Ok(())
+    }
+
+    /// Begins a fault: its place, with the card and a mark under its columns, and its code.
+    fn begin(self, line: &'a [u8], fault: &CardFault, is_shown: bool) -> Draft<'a> {
+        let columns = marked(columns_of(line, fault));
+        let place = self.file.card(fault.card, columns, line);
+        let place = if is_shown {
+            place
+        } else {
+            place.without_picture()
+        };
+        Draft::new(
+            self.alloc,
+            Level::Error,
+            Some(place),
+            Some(topic_of(fault.code)),
+        )
+    }
+
+    /// Returns a fault, with what is wrong.
+    fn fault(self, line: &'a [u8], known: SourceCards<'_>, fault: &CardFault) -> Draft<'a> {
+        let mut draft = self.begin(line, fault, true);
+        write_sentence(&mut draft, line, known, fault);
+        draft
+    }
+
+    /// Returns a fault whose cause is already reported, at the fault of this card.
+    fn follower(
+        self,
+        line: &'a [u8],
+        fault: &CardFault,
+        mistake: Mistake,
+        first: u16,
+    ) -> Draft<'a> {
+        let mut draft = self.begin(line, fault, false);
+        write_follower(&mut draft.message, mistake, first);
+        draft
+    }
+
+    /// Returns the first fault that a mistake causes, with the card of the mistake if it is another.
+    fn mistaken(
+        self,
+        line: &'a [u8],
+        known: SourceCards<'_>,
+        fault: &CardFault,
+        mistake: Mistake,
+    ) -> Draft<'a> {
+        let mut draft = self.fault(line, known, fault);
+        let Mistake::Root(Root::Text(card)) = mistake else {
+            return draft;
+        };
+        let line = CardLines::of(self.source).line_of(card);
+        if character_at(line, 6) == b'I' {
+            let mut remark = draft.text();
+            remark.write_str("a field without decimals is a text");
+            draft.add(
+                Some(self.file.card(card, marked(Some(DECIMALS)), line)),
+                remark,
+            );
+        }
+        draft
+    }
+
+    /// Returns the note on how many faults there are, and how many are shown.
+    fn count(self, faults: &[CardFault], most: u16) -> Result<Diagnostic<'a>, AllocError> {
+        let mut draft = Draft::note(self.alloc, self.file.whole());
+        write_count(&mut draft.message, faults, most);
+        draft.finish()
+    }
+}
+
+/// Returns the topic of a code.
+pub fn topic_of(code: SourceCode) -> Topic {
+    match code {
+        SourceCode::Sheet(code) => Topic::Sheet(usize::from(code.number())),
+        SourceCode::Fault(code) => Topic::Fault(usize::from(code.number())),
+    }
+}
+
+/// Returns the columns of a card as those of a diagnostic.
+pub fn marked(columns: Option<ColumnFault>) -> Option<Columns> {
+    let ColumnFault { column, last } = columns?;
+    Some(Columns {
+        first: usize::from(column),
+        last: usize::from(last),
+    })
 }
 
 /// A mistake that can cause several faults.
@@ -99,32 +233,24 @@ fn mistake_of(source: SourceCards<'_>, line: &[u8], fault: &CardFault) -> Option
     }
 }
 
-const LATER_SHEET: &str = "also follows from card {}, which is of a later sheet\n";
+const LATER_SHEET: &str = "also follows from card {}, which is of a later sheet";
 
-const TEXT: &str = "also follows from card {}, whose field is a text\n";
+const TEXT: &str = "also follows from card {}, whose field is a text";
 
-const LATER_TIME: &str = "also follows from card {}, which is of a later time\n";
+const LATER_TIME: &str = "also follows from card {}, which is of a later time";
 
-/// Writes a fault whose cause is already reported.
-fn write_follower(
-    out: &mut TextWriter,
-    path: &str,
-    line: &[u8],
-    fault: &CardFault,
-    mistake: Mistake,
-) {
-    let columns = columns_of(line, fault);
-    write_place(out, path, fault.card, columns, fault.code.text());
+/// Writes that a fault follows from a mistake that is already reported, at the fault of this card.
+fn write_follower(out: &mut TextWriter, mistake: Mistake, first: u16) {
     let (sentence, card) = match mistake {
         Mistake::Later(later) => (LATER_SHEET, later.card),
         Mistake::Root(Root::Text(card)) => (TEXT, card),
         Mistake::Root(Root::Later(card)) => (LATER_TIME, card),
         Mistake::Root(Root::Unknown(name)) => {
-            out.write_shown(trimmed(&name));
-            (" again\n", 0)
+            out.fill_two("no card defines {} (see card {})", trimmed(&name), first);
+            return;
         }
     };
-    out.fill(sentence, &[card.into()]);
+    out.fill_one(sentence, card);
 }
 
 /// The columns of an input field's decimals.
@@ -132,19 +258,6 @@ const DECIMALS: ColumnFault = ColumnFault {
     column: 52,
     last: 52,
 };
-
-/// Writes the card of a mistake, if the fault is on another.
-fn write_mistaken_card(out: &mut TextWriter, path: &str, source: &[u8], mistake: Mistake) {
-    let Mistake::Root(Root::Text(card)) = mistake else {
-        return;
-    };
-    let line = CardLines::of(source).line_of(card);
-    if character_at(line, 6) == b'I' {
-        write_place(out, path, card, Some(DECIMALS), "note");
-        out.write_str("a field without decimals is a text\n");
-        write_picture(out, card, line, Some(DECIMALS));
-    }
-}
 
 /// Returns the columns that a fault points at, if its code says which.
 pub(crate) fn columns_of(line: &[u8], fault: &CardFault) -> Option<ColumnFault> {
@@ -179,93 +292,69 @@ fn first_bad(line: &[u8]) -> Option<(u8, u8)> {
     None
 }
 
-fn write_message(
-    out: &mut TextWriter,
-    path: &str,
-    line: &[u8],
-    source: SourceCards<'_>,
-    fault: &CardFault,
-) {
-    let columns = columns_of(line, fault);
-    write_place(out, path, fault.card, columns, fault.code.text());
-    write_sentence(out, line, source, fault);
-    out.write_char('\n');
-    if fault.card > 0 {
-        write_picture(out, fault.card, line, columns);
-    }
-}
-
-/// Writes the place of a fault, and its code: `PATH:CARD:COLUMN: CODE: `. A fault of the source as a whole has card 0, and is at line 1.
-pub fn write_place(
-    out: &mut TextWriter,
-    path: &str,
-    card: u16,
-    columns: Option<ColumnFault>,
-    code: &str,
-) {
-    out.write_shown(path.as_bytes());
-    let line = card.max(1);
-    match columns {
-        Some(at) => out.fill(
-            ":{}:{}: {}: ",
-            &[line.into(), at.column.into(), code.into()],
-        ),
-        None => out.fill(":{}: {}: ", &[line.into(), code.into()]),
-    }
-}
-
 const OBJECT: &str =
     "this is an object program: run it with rpg2 run, or look at it with rpg2 show";
 
-/// Returns the diagnostic for an object program in place of the source `path`, for a command that reads shorthand, or only some cards.
-pub fn object_message(alloc: Global, path: &str) -> Result<String, AllocError> {
-    let mut out = TextWriter::new(alloc);
-    out.fill("{}:1: {}\n", &[path.as_bytes().into(), OBJECT.into()]);
-    out.finish()
+/// Returns the diagnostic for an object program in place of a source, for a command that reads shorthand, or only some cards.
+pub fn object_diagnostic(alloc: Global, file: FileName<'_>) -> Result<Diagnostic<'_>, AllocError> {
+    Draft::error(alloc, file.line(1)).filled(OBJECT, &[])
 }
 
 /// Writes what is wrong: the rule that is broken, and the numbers on the cards that break it. The first card of an object program is
 /// always at fault, and stands for all of it.
 pub(crate) fn write_sentence(
-    out: &mut TextWriter,
+    draft: &mut Draft<'_>,
     line: &[u8],
     source: SourceCards<'_>,
     fault: &CardFault,
 ) {
     if fault.card == 1 && is_object(source.text) {
-        out.write_str(OBJECT);
+        draft.message.write_str(OBJECT);
         return;
     }
-    match fault.code {
-        SourceCode::Fault(code) => {
-            if !write_cause(out, source, line, fault) {
-                out.write_str(sentence_of(code.text()));
+    let code = match fault.code {
+        SourceCode::Fault(_) => {
+            if !write_cause(&mut draft.message, source, line, fault) {
+                draft.message.write_str(topic_of(fault.code).sentence());
             }
+            return;
         }
-        SourceCode::Sheet(SheetCode::S1) => write_long_line(out, line),
-        SourceCode::Sheet(SheetCode::S2) => write_bad_byte(out, line),
-        SourceCode::Sheet(SheetCode::S3) => {
-            write_form_type(out, line);
-            write_shorthand(out, source.text, fault.card, line);
-            write_unmarked(out, source.text, fault.card);
-        }
-        SourceCode::Sheet(SheetCode::S4) => {
-            write_order(out, later_card(source.text, fault.card, line));
-            write_unmarked(out, source.text, fault.card);
-        }
-        SourceCode::Sheet(SheetCode::S5) => {
-            if let Some(columns) = fault.columns {
-                write_bad_columns(out, line, columns);
-                write_unmarked(out, source.text, fault.card);
-            }
-        }
-        SourceCode::Sheet(SheetCode::S6) => out.write_str("a source has at most 2,000 cards"),
+        SourceCode::Sheet(code) => code,
+    };
+    write_unread(draft, line, code, source, fault);
+    if matches!(code, SheetCode::S3 | SheetCode::S4 | SheetCode::S5) {
+        write_unmarked(&mut draft.message, source.text, fault.card);
     }
 }
 
-fn write_bad_byte(out: &mut TextWriter, line: &[u8]) {
+/// Writes why a card can't be read.
+fn write_unread(
+    draft: &mut Draft<'_>,
+    line: &[u8],
+    code: SheetCode,
+    source: SourceCards<'_>,
+    fault: &CardFault,
+) {
+    match (code, fault.columns) {
+        (SheetCode::S1, _) => write_long_line(&mut draft.message, line),
+        (SheetCode::S2, _) => write_bad_byte(draft, line),
+        (SheetCode::S3, _) => {
+            write_form_type(draft, line);
+            write_shorthand(&mut draft.message, source.text, fault.card, line);
+        }
+        (SheetCode::S4, _) => {
+            let later = later_card(source.text, fault.card, line);
+            write_order(&mut draft.message, later);
+        }
+        (SheetCode::S5, Some(columns)) => write_bad_columns(draft, line, columns),
+        (SheetCode::S5, None) => {}
+        (SheetCode::S6, _) => draft.message.write_str("a source has at most 2,000 cards"),
+    }
+}
+
+fn write_bad_byte(draft: &mut Draft<'_>, line: &[u8]) {
     if let Some((column, _)) = first_bad(line) {
-        write_byte_cause(out, line, usize::from(column.saturating_sub(1)));
+        write_byte_cause(draft, line, usize::from(column.saturating_sub(1)));
     }
 }
 
@@ -280,23 +369,21 @@ fn are_unread(faults: &[CardFault]) -> bool {
 }
 
 /// Writes how many faults there are, and how many are shown.
-fn write_count(out: &mut TextWriter, path: &str, faults: &[CardFault], most: u16) {
+fn write_count(out: &mut TextWriter, faults: &[CardFault], most: u16) {
     let count = faults.len();
     let are_unread = are_unread(faults);
-    out.write_shown(path.as_bytes());
     let sentence = match (are_unread, count) {
-        (true, 1) if most == 0 => ": 1 card can't be read",
-        (true, 1) => ": this card can't be read",
-        (true, _) => ": {} cards can't be read",
-        (false, 1) => ": 1 fault",
-        (false, _) => ": {} faults",
+        (true, 1) if most == 0 => "1 card can't be read",
+        (true, 1) => "this card can't be read",
+        (true, _) => "{} cards can't be read",
+        (false, 1) => "1 fault",
+        (false, _) => "{} faults",
     };
     out.fill(sentence, &[count.into()]);
     if count > usize::from(most) {
         write_reported(out, most);
     }
     out.write_str(later_checks(are_unread, count));
-    out.write_char('\n');
 }
 
 /// Writes how many of the faults are listed.

@@ -1,11 +1,12 @@
 //! A fault below its card, as in a listing.
 
 use crate::message::{columns_of, write_sentence};
-use crate::picture::write_times;
 use rpg_cli_causes::SourceCards;
+use rpg_cli_diagnostics::{Draft, Level, write_times};
 use rpg_cli_text::TextWriter;
 use rpg_faults::CardFault;
 use rpg_sheet::ColumnFault;
+use std::alloc::{AllocError, Global};
 
 /// Writes a mark under these columns of a card, which begins after `margin` blanks.
 fn write_mark(out: &mut TextWriter, margin: usize, columns: ColumnFault) {
@@ -16,15 +17,39 @@ fn write_mark(out: &mut TextWriter, margin: usize, columns: ColumnFault) {
     out.write_char('\n');
 }
 
+/// Writes what is wrong, and what belongs to it, on one line.
+fn write_fault(
+    alloc: Global,
+    out: &mut TextWriter,
+    line: &[u8],
+    source: SourceCards<'_>,
+    fault: &CardFault,
+) -> Result<(), AllocError> {
+    let mut draft = Draft::new(alloc, Level::Error, None, None);
+    write_sentence(&mut draft, line, source, fault);
+    let told = draft.finish()?;
+    out.write_str(told.message.as_str());
+    for child in &told.children {
+        out.fill_one("; {}", child.message.as_str());
+    }
+    out.write_char('\n');
+    Ok(())
+}
+
 /// Writes a fault of a card, which begins after `margin` blanks: a mark under the columns that the fault points at, if its code says which,
 /// and after the code what is wrong.
+///
+/// # Errors
+///
+/// Memory ran out for it.
 pub fn write_note(
+    alloc: Global,
     out: &mut TextWriter,
     margin: usize,
     line: &[u8],
     source: SourceCards<'_>,
     fault: &CardFault,
-) {
+) -> Result<(), AllocError> {
     if let Some(columns) = columns_of(line, fault) {
         write_mark(out, margin, columns);
     }
@@ -34,7 +59,6 @@ pub fn write_note(
         ' ',
         margin.saturating_sub(code.len().saturating_add(1)),
     );
-    out.fill("{} ", &[code.into()]);
-    write_sentence(out, line, source, fault);
-    out.write_char('\n');
+    out.fill_one("{} ", code);
+    write_fault(alloc, out, line, source, fault)
 }

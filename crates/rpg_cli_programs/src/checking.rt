@@ -1,7 +1,9 @@
 //! The command that checks sources.
 
 use crate::sources::report_faults;
-use rpg_cli_answers::{Answer, CommandStop, Listener, line, named, source_bytes, source_object};
+use rpg_cli_answers::{
+    Answer, CommandStop, Listener, file_at, line, named, source_bytes, source_object,
+};
 use rpg_cli_reports::report_source_fault;
 use rpg_cli_text::TextWriter;
 use rpg_cli_warnings::judge_warnings;
@@ -19,11 +21,12 @@ fn check_source<R: Files + Input + AllocGlobal, L: Listener>(
     arguments: WarningArguments,
     listener: &mut L,
 ) -> Result<(), Answer> {
+    let file = file_at(FileArgument::Source, path);
     let source = named(FileArgument::Source, source_bytes(rt, path))?;
     match faultless_cards(rt.alloc(), &source) {
-        Ok(faultless) => judge_warnings(rt.alloc(), path, &source, faultless, arguments, listener),
+        Ok(faultless) => judge_warnings(rt.alloc(), file, &source, faultless, arguments, listener),
         Err(fault) => {
-            report_faults(rt.alloc(), path, &source, arguments.most, listener);
+            report_faults(rt.alloc(), file, &source, arguments.most, listener);
             Err(fault.into())
         }
     }

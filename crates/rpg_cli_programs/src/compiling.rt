@@ -4,7 +4,7 @@ use crate::judging::compiled;
 use crate::sources::report_faults;
 use crate::translation::CompiledObject;
 use rpg_cli_answers::{
-    Answer, CommandStop, Listener, NamedFile, named, refuse_replacing, refuse_same_file,
+    Answer, CommandStop, Listener, NamedFile, file_of, named, refuse_replacing, refuse_same_file,
     source_bytes, system_path,
 };
 use rpg_cli_files::write_bytes;
@@ -22,7 +22,8 @@ fn write_object<R: Files + AllocGlobal, L: Listener>(
 ) -> Result<Answer, CommandStop> {
     let CompiledObject { source, bytes } = object;
     let (path, place) = (request.source(), request.file(FileArgument::Object));
-    judge_warnings(rt.alloc(), path, text, source, request.warnings, listener)?;
+    let file = file_of(request, FileArgument::Source);
+    judge_warnings(rt.alloc(), file, text, source, request.warnings, listener)?;
     let source = NamedFile::at(rt, FileArgument::Source, system_path(path));
     let written = NamedFile::at(rt, FileArgument::Object, place);
     refuse_same_file(written, &[source])?;
@@ -48,7 +49,8 @@ pub fn compile_files<R: Files + Input + AllocGlobal, L: Listener>(
     match compiled(rt.alloc(), &source, request.allowance) {
         Ok(object) => write_object(rt, request, &source, object, listener),
         Err(answer) => {
-            report_faults(rt.alloc(), path, &source, request.warnings.most, listener);
+            let file = file_of(request, FileArgument::Source);
+            report_faults(rt.alloc(), file, &source, request.warnings.most, listener);
             Err(answer.into())
         }
     }

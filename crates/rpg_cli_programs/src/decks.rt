@@ -1,8 +1,9 @@
 //! The command that converts shorthand to cards, and cards to shorthand.
 
-use rpg_cli_answers::{Answer, CommandStop, Listener, named, report_message, source_bytes};
-use rpg_cli_messages::{card_message, is_object, object_message};
-use rpg_cli_shorthand::{RULER, ShorthandFault, deck_of, line_message, shorthand_of};
+use rpg_cli_answers::{Answer, CommandStop, Listener, file_of, named, source_bytes, tell_made};
+use rpg_cli_diagnostics::FileName;
+use rpg_cli_messages::{card_diagnostic, is_object, object_diagnostic};
+use rpg_cli_shorthand::{RULER, ShorthandFault, deck_of, line_diagnostic, shorthand_of};
 use rpg_cli_words::{CardsWanted, FileArgument, Request};
 use rpg_faults::{CardFault, SourceFault};
 use std::alloc::Global;
@@ -11,19 +12,19 @@ use std::rt::Files;
 /// Converts shorthand to cards. Reports the first line that isn't a card.
 fn deck_text<L: Listener>(
     alloc: Global,
-    path: &str,
+    file: FileName<'_>,
     shorthand: &[u8],
     listener: &mut L,
 ) -> Result<String, Answer> {
     match deck_of(alloc, shorthand) {
         Ok(text) => Ok(text),
         Err(ShorthandFault::At { line, fault }) => {
-            let message = if is_object(shorthand) {
-                object_message(alloc, path)
+            let told = if is_object(shorthand) {
+                object_diagnostic(alloc, file)
             } else {
-                line_message(alloc, path, line, fault)
+                line_diagnostic(alloc, file, line, fault)
             };
-            report_message(listener, message);
+            tell_made(listener, told);
             Err(Answer::NoCard { line })
         }
         Err(ShorthandFault::NoMemory) => Err(Answer::NoMemory),
@@ -33,14 +34,14 @@ fn deck_text<L: Listener>(
 /// Converts cards to shorthand. Reports the first one that isn't a card.
 fn shorthand_text<L: Listener>(
     alloc: Global,
-    path: &str,
+    file: FileName<'_>,
     source: &[u8],
     listener: &mut L,
 ) -> Result<String, Answer> {
     match shorthand_of(alloc, source) {
         Ok(text) => Ok(text),
         Err(fault) => {
-            report_card(alloc, path, source, fault, listener);
+            report_card(alloc, file, source, fault, listener);
             Err(fault.into())
         }
     }
@@ -48,7 +49,7 @@ fn shorthand_text<L: Listener>(
 
 fn report_card<L: Listener>(
     alloc: Global,
-    path: &str,
+    file: FileName<'_>,
     source: &[u8],
     fault: SourceFault,
     listener: &mut L,
@@ -67,7 +68,7 @@ fn report_card<L: Listener>(
         columns,
         cause: None,
     };
-    report_message(listener, card_message(alloc, path, source, &fault));
+    tell_made(listener, card_diagnostic(alloc, file, source, &fault));
 }
 
 /// Converts a file to cards or shorthand, as the arguments ask.
@@ -77,10 +78,10 @@ fn wanted_text<L: Listener>(
     source: &[u8],
     listener: &mut L,
 ) -> Result<String, Answer> {
-    let path = request.source();
+    let file = file_of(request, FileArgument::Source);
     match request.cards {
-        CardsWanted::Cards | CardsWanted::RuledCards => deck_text(alloc, path, source, listener),
-        CardsWanted::Shorthand => shorthand_text(alloc, path, source, listener),
+        CardsWanted::Cards | CardsWanted::RuledCards => deck_text(alloc, file, source, listener),
+        CardsWanted::Shorthand => shorthand_text(alloc, file, source, listener),
     }
 }
 

@@ -1,7 +1,7 @@
 //! The command that lists a source.
 
 use crate::sources::report_faults;
-use rpg_cli_answers::{Answer, CommandStop, Listener, named, source_bytes};
+use rpg_cli_answers::{Answer, CommandStop, Listener, file_of, named, source_bytes};
 use rpg_cli_list::source_listing;
 use rpg_cli_words::{FileArgument, Format, Request};
 use rpg_faults::{SourceFault, faultless_cards};
@@ -16,7 +16,13 @@ fn report_as_objects<L: Listener>(
     listener: &mut L,
 ) {
     if request.answer.format == Format::Json {
-        report_faults(alloc, request.source(), source, u16::MAX, listener);
+        report_faults(
+            alloc,
+            file_of(request, FileArgument::Source),
+            source,
+            u16::MAX,
+            listener,
+        );
     }
 }
 

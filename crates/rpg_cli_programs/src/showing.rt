@@ -3,7 +3,7 @@
 use crate::judging::verified;
 use crate::rejecting::report_object;
 use crate::sources::{OwnSource, own_source};
-use rpg_cli_answers::{Answer, CommandStop, Listener, named};
+use rpg_cli_answers::{Answer, CommandStop, Listener, file_of, named};
 use rpg_cli_files::file_bytes;
 use rpg_cli_show::{program_overview, program_text};
 use rpg_cli_words::{FileArgument, Format, Request};
@@ -21,7 +21,8 @@ pub fn verify_file<R: Files + AllocGlobal, L: Listener>(
     let object = named(FileArgument::Object, file_bytes(rt, path))?;
     let bound = verified(rt.alloc(), &object);
     if let Err(Answer::Object(fault)) = bound {
-        report_object(rt.alloc(), path, &object, fault, listener);
+        let file = file_of(request, FileArgument::Object);
+        report_object(rt.alloc(), file, &object, fault, listener);
     }
     Ok(Answer::Accepted { bound: bound? })
 }
@@ -64,8 +65,8 @@ fn text_or_reported<R: Files + AllocGlobal, L: Listener>(
 ) -> Result<String, Answer> {
     let text = shown_text(rt, request, object, listener);
     if let Err(Answer::Object(fault)) = &text {
-        let path = request.file(FileArgument::Object);
-        report_object(rt.alloc(), path, object, *fault, listener);
+        let file = file_of(request, FileArgument::Object);
+        report_object(rt.alloc(), file, object, *fault, listener);
     }
     text
 }
@@ -79,8 +80,8 @@ fn report_as_object<R: Files + AllocGlobal, L: Listener>(
     listener: &mut L,
 ) {
     if let (Format::Json, Err(Answer::Object(fault))) = (request.answer.format, bound) {
-        let path = request.file(FileArgument::Object);
-        report_object(rt.alloc(), path, object, fault, listener);
+        let file = file_of(request, FileArgument::Object);
+        report_object(rt.alloc(), file, object, fault, listener);
     }
 }
 

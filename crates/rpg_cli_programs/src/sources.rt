@@ -1,9 +1,10 @@
 //! The source of an object program that is shown or run, if the arguments name it.
 
 use crate::judging::matched;
-use rpg_cli_answers::{Answer, Listener, named, report_message};
+use rpg_cli_answers::{Answer, Listener, file_at, named, tell_all};
+use rpg_cli_diagnostics::FileName;
 use rpg_cli_files::file_bytes;
-use rpg_cli_messages::source_messages;
+use rpg_cli_messages::source_diagnostics;
 use rpg_cli_show_fields::SourceRows;
 use rpg_cli_words::FileArgument;
 use rpg_faults::{faultless_cards, source_faults};
@@ -14,10 +15,10 @@ use std::rt::Files;
 /// The most faults of the source that are listed.
 const MAX_LISTED: u16 = 20;
 
-/// The source of the program: its path, what it compiles to, and the cards of its rows.
+/// The source of the program: its name, what it compiles to, and the cards of its rows.
 #[derive(Drop)]
 pub struct OwnSource<'a> {
-    pub path: &'a str,
+    pub file: FileName<'a>,
     pub compiled: CompiledSource,
     pub rows: SourceRows,
 }
@@ -26,12 +27,12 @@ impl<'a> OwnSource<'a> {
     /// Returns the source's cards by row.
     pub fn of(
         alloc: Global,
-        path: &'a str,
+        file: FileName<'a>,
         compiled: CompiledSource,
     ) -> Result<OwnSource<'a>, Answer> {
         let rows = rows_of(alloc, compiled.text())?;
         Ok(OwnSource {
-            path,
+            file,
             compiled,
             rows,
         })
@@ -53,12 +54,13 @@ pub fn own_source<'a, R: Files + AllocGlobal, L: Listener>(
     let Some(path) = path else {
         return Ok(None);
     };
+    let file = file_at(FileArgument::OwnSource, path);
     let text = named(FileArgument::OwnSource, file_bytes(rt, path))?;
     match matched(rt.alloc(), text, object) {
-        Ok(compiled) => Ok(Some(OwnSource::of(rt.alloc(), path, compiled)?)),
+        Ok(compiled) => Ok(Some(OwnSource::of(rt.alloc(), file, compiled)?)),
         Err((text, answer)) => {
             if let Answer::Source(_) = answer {
-                report_faults(rt.alloc(), path, &text, MAX_LISTED, listener);
+                report_faults(rt.alloc(), file, &text, MAX_LISTED, listener);
             }
             Err(answer)
         }
@@ -68,7 +70,7 @@ pub fn own_source<'a, R: Files + AllocGlobal, L: Listener>(
 /// Reports the faults of a source, if it has any. If memory runs out for the messages, only the line says what is wrong.
 pub fn report_faults<L: Listener>(
     alloc: Global,
-    path: &str,
+    file: FileName<'_>,
     source: &[u8],
     most: u16,
     listener: &mut L,
@@ -79,6 +81,6 @@ pub fn report_faults<L: Listener>(
     if judged.faults.is_empty() {
         return;
     }
-    let messages = source_messages(alloc, path, source, &judged, most);
-    report_message(listener, messages);
+    let told = source_diagnostics(alloc, file, source, &judged, most);
+    tell_all(listener, &told);
 }

@@ -2,13 +2,14 @@
 
 use crate::fields::counted;
 use crate::spot::{Spot, spot_at};
-use rpg_cli_text::{Piece, TextWriter, sentence_of};
+use rpg_cli_diagnostics::{At, Diagnostic, Draft, FileName, Level, Place};
+use rpg_cli_text::{TextWriter, Topic};
 use rpg_object_format::fault::Code;
 use rpg_text::first_line;
 use std::alloc::{AllocError, Global};
 
 const SOURCE: &str =
-    "{}: {}: {}: this is a source: compile it first with rpg2 compile, or run it with rpg2 go\n";
+    ": this is a source: compile it first with rpg2 compile, or run it with rpg2 go";
 
 /// The most bytes of a value that are shown.
 const MOST_SHOWN: usize = 32;
@@ -76,37 +77,50 @@ fn write_found(out: &mut TextWriter, bytes: &[u8], offset: usize, count: usize) 
     out.write_str(stand);
 }
 
-/// Returns the diagnostic for bytes that aren't an object program: the code's sentence, what was expected at the offset, and what is there;
-/// for a source, that it must be compiled first. `path` names their file.
-pub fn bytes_message(
-    alloc: Global,
-    path: &str,
-    bytes: &[u8],
-    offset: usize,
-    code: Code,
-) -> Result<String, AllocError> {
-    let mut out = TextWriter::new(alloc);
-    let path = Piece::Outside(path.as_bytes());
-    let text = code.text();
-    let sentence = sentence_of(text);
-    if matches!(code, Code::NoObject) && begins_source(bytes) {
-        out.fill(SOURCE, &[path, text.into(), sentence.into()]);
-        return out.finish();
-    }
-    out.fill(
-        "{}: {}: {}: offset {}: ",
-        &[path, text.into(), sentence.into(), offset.into()],
-    );
+/// Writes what was expected at an offset, and what is there.
+fn write_spot(out: &mut TextWriter, bytes: &[u8], offset: usize) {
+    out.fill_one(": offset {}: ", offset);
     match spot_at(bytes, offset) {
         Some(spot) => {
-            write_wanted(&mut out, spot);
-            write_found(&mut out, bytes, offset, spot.bytes);
+            write_wanted(out, spot);
+            write_found(out, bytes, offset, spot.bytes);
         }
         None => {
             out.write_str("the object program ends there");
-            write_found(&mut out, bytes, offset, 1);
+            write_found(out, bytes, offset, 1);
         }
     }
-    out.write_char('\n');
-    out.finish()
+}
+
+fn topic_of(code: Code) -> Topic {
+    Topic::Bytes(match code {
+        Code::NoObject => 1,
+        Code::Version => 2,
+        Code::CutShort => 3,
+        Code::LeftOver => 4,
+        Code::NotAllowed => 5,
+        Code::Unused => 6,
+        Code::PastLimit => 7,
+    })
+}
+
+/// Returns the diagnostic for bytes that aren't an object program: the code's sentence, what was expected at the offset, and what is there;
+/// for a source, that it must be compiled first.
+pub fn bytes_diagnostic<'a>(
+    alloc: Global,
+    file: FileName<'a>,
+    bytes: &[u8],
+    offset: usize,
+    code: Code,
+) -> Result<Diagnostic<'a>, AllocError> {
+    let topic = topic_of(code);
+    let at = At::Offset(offset as u64);
+    let mut draft = Draft::new(alloc, Level::Error, Some(Place { file, at }), Some(topic));
+    draft.message.write_str(topic.sentence());
+    if matches!(code, Code::NoObject) && begins_source(bytes) {
+        draft.message.write_str(SOURCE);
+    } else {
+        write_spot(&mut draft.message, bytes, offset);
+    }
+    draft.finish()
 }

@@ -10,6 +10,6 @@ mod rows;
 mod rules;
 mod spot;
 
-pub use bytes::bytes_message;
+pub use bytes::bytes_diagnostic;
 pub use rows::write_instruction_at;
-pub use rules::rule_message;
+pub use rules::rule_diagnostic;

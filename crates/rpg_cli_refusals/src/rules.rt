@@ -2,24 +2,33 @@
 
 use crate::causes::write_cause;
 use crate::rows::write_row;
-use rpg_cli_text::{Piece, TextWriter, Topic};
+use rpg_cli_diagnostics::{At, Diagnostic, Draft, FileName, Level, Place};
+use rpg_cli_text::Topic;
 use rpg_program::Program;
 use rpg_refusal_causes::refusal;
 use std::alloc::{AllocError, Global};
 
-/// Returns the diagnostic for the rule that the object program `path` breaks: the rule's sentence, which row it is, and what
-/// in the row breaks it; empty for a program that obeys all rules.
-pub fn rule_message(alloc: Global, path: &str, program: &Program) -> Result<String, AllocError> {
-    let mut out = TextWriter::new(alloc);
-    if let Some(refusal) = refusal(program) {
-        let broken = refusal.broken;
-        let path = Piece::Outside(path.as_bytes());
-        let number = broken.rule.number();
-        let sentence = Topic::Rule(usize::from(number)).sentence();
-        out.fill("{}: V{}: {}", &[path, number.into(), sentence.into()]);
-        write_row(&mut out, program, broken);
-        write_cause(&mut out, program.rows(), broken.row, refusal.cause);
-        out.write_char('\n');
-    }
-    out.finish()
+/// Returns the diagnostic for the rule that an object program breaks: the rule's sentence, which row it is, and what in the row breaks it;
+/// None for a program that obeys all rules.
+pub fn rule_diagnostic<'a>(
+    alloc: Global,
+    file: FileName<'a>,
+    program: &Program,
+) -> Result<Option<Diagnostic<'a>>, AllocError> {
+    let Some(refusal) = refusal(program) else {
+        return Ok(None);
+    };
+    let broken = refusal.broken;
+    let topic = Topic::Rule(usize::from(broken.rule.number()));
+    let at = At::Row(broken.row as u64);
+    let mut draft = Draft::new(alloc, Level::Error, Some(Place { file, at }), Some(topic));
+    draft.message.write_str(topic.sentence());
+    write_row(&mut draft.message, program, broken);
+    write_cause(
+        &mut draft.message,
+        program.rows(),
+        broken.row,
+        refusal.cause,
+    );
+    Ok(Some(draft.finish()?))
 }

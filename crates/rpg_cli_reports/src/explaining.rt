@@ -1,6 +1,7 @@
 //! The pages of codes.
 
-use rpg_cli_answers::{Answer, CommandStop, Listener};
+use rpg_cli_answers::{Answer, CommandStop, Listener, tell_made};
+use rpg_cli_diagnostics::{Draft, Level};
 use rpg_cli_text::{HALTS, Topic, all_pages, list_text, pages_text, topic_of};
 use rpg_cli_words::Request;
 use std::alloc::{AllocError, Global};
@@ -100,6 +101,9 @@ fn text_of(alloc: Global, request: &Request) -> Result<Option<String>, AllocErro
     }
 }
 
+const CODES: &str =
+    "codes are S1 to S6, F1 to F18, W1 to W13, V1 to V26, B1 to B7, A1 to A24, A27 to A30, and halt 1 to halt 8";
+
 /// Prints the pages of codes.
 pub fn explain<L: Listener>(
     alloc: Global,
@@ -112,9 +116,8 @@ pub fn explain<L: Listener>(
             Ok(Answer::Explained)
         }
         Ok(None) => {
-            listener.report(
-                "codes are S1 to S6, F1 to F18, W1 to W13, V1 to V26, B1 to B7, A1 to A24, A27 to A30, and halt 1 to halt 8\n",
-            );
+            let told = Draft::new(alloc, Level::Error, None, None).filled(CODES, &[]);
+            tell_made(listener, told);
             Ok(Answer::NoSuchCode)
         }
         Err(_) => Ok(Answer::NoMemory),

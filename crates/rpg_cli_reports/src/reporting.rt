@@ -1,169 +1,136 @@
 //! Diagnostics about failed files and bad dates.
 
 use crate::outlet::Outlet;
-use rpg_cli_answers::{Answer, Listener, Reasons, report_message, report_refusal};
+use rpg_cli_answers::{Answer, Listener, Reasons, file_at, file_of, tell_made};
+use rpg_cli_diagnostics::{Diagnostic, Draft, Level};
 use rpg_cli_files::{FileFault, Reason};
 use rpg_cli_text::TextWriter;
 use rpg_cli_words::{DateArgument, FileArgument, Request};
 use rpg_engine::{InputFile, OutputFile, ReadFault, RunFault};
 use std::alloc::{AllocError, Global};
 
-/// Writes a file: its path and its argument.
-fn write_path(out: &mut TextWriter, path: &str, argument: FileArgument) {
-    out.fill("{} ({})", &[path.as_bytes().into(), argument.name().into()]);
-}
-
-/// Writes a file that the arguments name.
-fn write_name(out: &mut TextWriter, request: &Request, argument: FileArgument) {
-    write_path(out, request.file(argument), argument);
-}
-
-/// Writes a file, and why it failed.
-fn write_fault(out: &mut TextWriter, request: &Request, argument: FileArgument, reason: &str) {
-    write_name(out, request, argument);
-    out.fill(": {}\n", &[reason.into()]);
-}
-
-fn write_file_fault(out: &mut TextWriter, path: &str, argument: FileArgument, fault: FileFault) {
-    let (begin, reason) = match fault {
-        FileFault::Input(reason) | FileFault::Output(reason) => ("", reason.text()),
-        FileFault::Beside(reason) => ("no new file can be made beside it: ", reason.text()),
-        FileFault::TooLarge => ("", "more than 16,777,216 bytes"),
+/// Writes why a file failed; nothing if memory ran out.
+fn write_file_fault(out: &mut TextWriter, role: &str, fault: FileFault) {
+    let (sentence, reason) = match fault {
+        FileFault::Input(reason) => ("{} can't be read: {}", reason.text()),
+        FileFault::Output(reason) => ("{} can't be written: {}", reason.text()),
+        FileFault::Beside(reason) => ("no new file can be made beside {}: {}", reason.text()),
+        FileFault::TooLarge => ("{} has more than 16,777,216 bytes", ""),
         FileFault::NoMemory => return,
     };
-    write_path(out, path, argument);
-    out.fill(": {}{}\n", &[begin.into(), reason.into()]);
+    out.fill_two(sentence, role, reason);
 }
 
-/// Writes the system's reason for a fault, if it is known, and ends the line.
+/// Writes the system's reason for a fault, if it is known.
 fn write_reason(out: &mut TextWriter, reason: Option<Reason>) {
-    match reason {
-        Some(reason) => out.fill(": {}\n", &[reason.text().into()]),
-        None => out.write_char('\n'),
+    if let Some(reason) = reason {
+        out.fill_one(": {}", reason.text());
     }
 }
 
-/// Reports a file that couldn't be written during the job.
-fn write_write_fault(
-    out: &mut TextWriter,
-    request: &Request,
-    argument: FileArgument,
-    sent: u128,
-    reason: Option<Reason>,
-) {
-    write_name(out, request, argument);
-    let bytes = if sent == 1 { "byte" } else { "bytes" };
-    write!(out, ": it can't be written after {sent} {bytes}");
-    write_reason(out, reason);
-}
-
-/// Reports an input that couldn't be read during the job, or had too many records.
-fn write_read_fault(
-    out: &mut TextWriter,
-    request: &Request,
-    argument: FileArgument,
-    fault: ReadFault,
-    reason: Option<Reason>,
-) {
-    write_name(out, request, argument);
+/// Writes that an input couldn't be read during the job, or had too many records.
+fn write_read_fault(out: &mut TextWriter, role: &str, fault: ReadFault, reason: Option<Reason>) {
     match fault {
         ReadFault::Device => {
-            out.write_str(": it can't be read to its end");
+            out.fill_one("{} can't be read to its end", role);
             write_reason(out, reason);
         }
-        ReadFault::TooMany => out.write_str(": it has more than 10,000,000 records\n"),
+        ReadFault::TooMany => out.fill_one("{} has more than 10,000,000 records", role),
     }
 }
 
-/// Reports the input that failed.
-fn write_input_fault(
-    out: &mut TextWriter,
-    request: &Request,
-    file: InputFile,
-    fault: ReadFault,
-    reasons: Reasons,
-) {
-    match file {
-        InputFile::Primary => {
-            write_read_fault(out, request, FileArgument::Input, fault, reasons.input)
-        }
-        InputFile::Secondary => {
-            write_read_fault(
-                out,
-                request,
-                FileArgument::Secondary,
-                fault,
-                reasons.secondary,
-            )
-        }
-    }
-}
-
-/// Reports the output that failed.
-fn write_output_fault(
-    out: &mut TextWriter,
-    request: &Request,
-    file: OutputFile,
-    sent: u128,
-    reasons: Reasons,
-) {
-    match file {
-        OutputFile::Print => {
-            write_write_fault(out, request, FileArgument::Print, sent, reasons.print)
-        }
-        OutputFile::Disk => write_write_fault(out, request, FileArgument::Disk, sent, reasons.disk),
-    }
+/// Writes that an output couldn't be written during the job.
+fn write_write_fault(out: &mut TextWriter, role: &str, sent: u128, reason: Option<Reason>) {
+    let bytes = if sent == 1 { "byte" } else { "bytes" };
+    out.fill_one("{} can't be written after ", role);
+    write!(out, "{sent} {bytes}");
+    write_reason(out, reason);
 }
 
 fn write_bad_date(out: &mut TextWriter, request: &Request) {
     if let Some(DateArgument::Today(_)) = request.date {
-        out.write_str("--date today: the system's clock can't be read\n");
+        out.write_str("--date today: the system's clock can't be read");
         return;
     }
-    out.write_str(
-        "--date needs six digits, such as 112676, or today, today-dmy or today-ymd; it was '",
+    out.fill_one(
+        "--date needs six digits, such as 112676, or today, today-dmy or today-ymd; it was '{}'",
+        request.date_text().as_bytes(),
     );
-    out.write_shown(request.date_text().as_bytes());
-    out.write_str("'\n");
 }
 
-/// Reports a device that failed during the job, or a bad date.
-fn write_run_fault(out: &mut TextWriter, request: &Request, fault: RunFault, reasons: Reasons) {
-    match fault {
-        RunFault::Read { file, fault } => write_input_fault(out, request, file, fault, reasons),
-        RunFault::Write { file, sent } => write_output_fault(out, request, file, sent, reasons),
-        RunFault::BadDate => write_bad_date(out, request),
-        _ => {}
+/// A file that failed: its argument, and the reason that the system gave.
+#[derive(Clone, Copy)]
+struct Failed {
+    argument: FileArgument,
+    reason: Option<Reason>,
+}
+
+/// Returns the file that an answer is about, if it is about one that failed.
+fn failed_file(answer: &Answer, reasons: Reasons) -> Option<Failed> {
+    let (argument, reason) = match *answer {
+        Answer::File { argument, .. } => (argument, None),
+        Answer::OtherSource => (FileArgument::OwnSource, None),
+        Answer::Run(RunFault::Read { file, .. }) => match file {
+            InputFile::Primary => (FileArgument::Input, reasons.input),
+            InputFile::Secondary => (FileArgument::Secondary, reasons.secondary),
+        },
+        Answer::Run(RunFault::Write { file, .. }) => match file {
+            OutputFile::Print => (FileArgument::Print, reasons.print),
+            OutputFile::Disk => (FileArgument::Disk, reasons.disk),
+        },
+        _ => return None,
+    };
+    Some(Failed { argument, reason })
+}
+
+/// Writes why a file failed.
+fn write_failed(out: &mut TextWriter, answer: &Answer, failed: Failed) {
+    let Failed { argument, reason } = failed;
+    let role = argument.name();
+    match *answer {
+        Answer::File { fault, .. } => write_file_fault(out, role, fault),
+        Answer::Run(RunFault::Read { fault, .. }) => write_read_fault(out, role, fault, reason),
+        Answer::Run(RunFault::Write { sent, .. }) => write_write_fault(out, role, sent, reason),
+        _ => out.fill_one("{} is compiled to other bytes than those of OBJ", role),
     }
 }
 
-fn answer_message(
+/// Returns the diagnostic for an answer that says that a file failed, or that the date is bad. Its message is empty for others.
+fn answer_diagnostic<'a>(
     alloc: Global,
-    request: &Request,
+    request: &Request<'a>,
     answer: &Answer,
     reasons: Reasons,
-) -> Result<String, AllocError> {
-    let mut out = TextWriter::new(alloc);
-    match *answer {
-        Answer::File { argument, fault } => {
-            write_file_fault(&mut out, request.file(argument), argument, fault)
+) -> Result<Diagnostic<'a>, AllocError> {
+    let Some(failed) = failed_file(answer, reasons) else {
+        let mut draft = Draft::new(alloc, Level::Error, None, None);
+        if let Answer::Run(RunFault::BadDate) = answer {
+            write_bad_date(&mut draft.message, request);
         }
-        Answer::Run(fault) => write_run_fault(&mut out, request, fault, reasons),
-        Answer::OtherSource => write_fault(
-            &mut out,
-            request,
-            FileArgument::OwnSource,
-            "it is compiled to other bytes than those of OBJ",
-        ),
-        _ => {}
-    }
-    out.finish()
+        return draft.finish();
+    };
+    let mut draft = Draft::error(alloc, file_of(request, failed.argument).whole());
+    write_failed(&mut draft.message, answer, failed);
+    draft.finish()
 }
 
-fn source_fault_message(alloc: Global, path: &str, fault: FileFault) -> Result<String, AllocError> {
-    let mut out = TextWriter::new(alloc);
-    write_file_fault(&mut out, path, FileArgument::Source, fault);
-    out.finish()
+/// Prints a diagnostic, if it has a message.
+fn tell_any<L: Listener>(listener: &mut L, made: Result<Diagnostic<'_>, AllocError>) {
+    match &made {
+        Ok(told) if told.message.is_empty() => {}
+        _ => tell_made(listener, made),
+    }
+}
+
+fn source_fault_diagnostic(
+    alloc: Global,
+    path: &str,
+    fault: FileFault,
+) -> Result<Diagnostic<'_>, AllocError> {
+    let file = file_at(FileArgument::Source, path);
+    let mut draft = Draft::error(alloc, file.whole());
+    write_file_fault(&mut draft.message, file.role, fault);
+    draft.finish()
 }
 
 /// Reports why one of several sources can't be read.
@@ -173,7 +140,7 @@ pub fn report_source_fault<L: Listener>(
     fault: FileFault,
     listener: &mut L,
 ) {
-    report_message(listener, source_fault_message(alloc, path, fault));
+    tell_any(listener, source_fault_diagnostic(alloc, path, fault));
 }
 
 /// Reports which file failed and why.
@@ -184,17 +151,22 @@ pub fn report_answer<L: Listener>(
     reasons: Reasons,
     listener: &mut L,
 ) {
-    let message = answer_message(alloc, request, answer, reasons);
-    report_refusal(listener, message);
+    tell_any(listener, answer_diagnostic(alloc, request, answer, reasons));
 }
 
 /// Reports that a text couldn't be written completely, unless its reader closed the pipe on purpose.
-pub fn report_unwritten<L: Listener>(outlet: Outlet, reason: Reason, listener: &mut L) {
+pub fn report_unwritten<L: Listener>(
+    alloc: Global,
+    outlet: Outlet,
+    reason: Reason,
+    listener: &mut L,
+) {
     if let (Reason::Closed, true) = (reason, outlet.may_close) {
         return;
     }
-    listener.report(outlet.name);
-    listener.report(" can't be written: ");
-    listener.report(reason.text());
-    listener.report("\n");
+    let told = Draft::new(alloc, Level::Error, None, None).filled(
+        "{} can't be written: {}",
+        &[outlet.name.into(), reason.text().into()],
+    );
+    tell_made(listener, told);
 }

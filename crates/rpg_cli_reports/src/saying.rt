@@ -13,6 +13,7 @@ use std::io::Write;
 
 /// Writes a line, and returns the status, or reports that it can't be written and returns 1.
 fn send<W: Write, L: Listener>(
+    alloc: Global,
     out: &mut W,
     outlet: Outlet,
     text: &[u8],
@@ -24,7 +25,7 @@ fn send<W: Write, L: Listener>(
     match send_line(out, text) {
         Ok(()) => status,
         Err(reason) => {
-            report_unwritten(outlet, reason, listener);
+            report_unwritten(alloc, outlet, reason, listener);
             1
         }
     }
@@ -42,6 +43,7 @@ fn status_of(answer: &Answer, has_lost: bool) -> u8
 
 /// Prints the line or the object of an answer, with this exit status, and returns the status. Reports it if that can't be written.
 fn say_with<W: Write, L: Listener>(
+    alloc: Global,
     out: &mut W,
     outlet: Outlet,
     format: Format,
@@ -54,17 +56,18 @@ fn say_with<W: Write, L: Listener>(
     match format {
         Format::Text => {
             let said = line(answer);
-            send(out, outlet, said.text.as_slice(), status, listener)
+            send(alloc, out, outlet, said.text.as_slice(), status, listener)
         }
         Format::Json => {
             let said = json_line(answer, status);
-            send(out, outlet, said.as_slice(), status, listener)
+            send(alloc, out, outlet, said.as_slice(), status, listener)
         }
     }
 }
 
 /// Prints the line or the object of an answer, and returns the exit status. Reports it if that can't be written.
 pub fn say<W: Write, L: Listener>(
+    alloc: Global,
     out: &mut W,
     outlet: Outlet,
     format: Format,
@@ -75,11 +78,12 @@ pub fn say<W: Write, L: Listener>(
 {
     let has_lost = listener.has_lost();
     let status = status_of(answer, has_lost);
-    say_with(out, outlet, format, answer, status, listener)
+    say_with(alloc, out, outlet, format, answer, status, listener)
 }
 
 /// Prints the line of an answer, except that of a success if the command is quiet, and returns the exit status.
 fn say_if_wanted<W: Write, L: Listener>(
+    alloc: Global,
     out: &mut W,
     outlet: Outlet,
     is_quiet: bool,
@@ -92,7 +96,7 @@ fn say_if_wanted<W: Write, L: Listener>(
     if is_quiet && !listener.has_lost() && line(answer).status == 0 {
         0
     } else {
-        say(out, outlet, format, answer, listener)
+        say(alloc, out, outlet, format, answer, listener)
     }
 }
 
@@ -107,7 +111,12 @@ fn explain_refusal<R: Print + Eprint + AllocGlobal, L: Listener>(
     match refusal.explain(rt) {
         Ok(status) => status,
         Err(error) => {
-            report_unwritten(Outlet::PAGES, Reason::of(error.kind()), listener);
+            report_unwritten(
+                rt.alloc(),
+                Outlet::PAGES,
+                Reason::of(error.kind()),
+                listener,
+            );
             1
         }
     }
@@ -122,8 +131,10 @@ pub fn refuse<R: Print + Eprint + AllocGlobal, W: Write, L: Listener>(
 ) -> u8
     ensures { PrintsALine (W.contents out.old) (W.contents out.new) result }
 {
+    listener.end();
     if refusal.is_no_memory() {
         say(
+            rt.alloc(),
             out,
             Outlet::STANDARD_OUTPUT,
             Format::Text,
@@ -151,9 +162,12 @@ pub fn conclude<W: Write, L: Listener>(
     let AnswerArguments { is_quiet, format } = request.answer;
     if outlet.is_error {
         report_answer(alloc, request, answer, reasons, listener);
-        return say_if_wanted(out, outlet, is_quiet, format, answer, listener);
+        listener.end();
+        return say_if_wanted(alloc, out, outlet, is_quiet, format, answer, listener);
     }
-    let status = say_if_wanted(out, outlet, is_quiet, format, answer, listener);
+    listener.pass_on();
+    let status = say_if_wanted(alloc, out, outlet, is_quiet, format, answer, listener);
     report_answer(alloc, request, answer, reasons, listener);
+    listener.end();
     status
 }

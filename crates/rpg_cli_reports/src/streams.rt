@@ -1,55 +1,255 @@
-//! The standard streams, for diagnostics and for text before the line of an answer.
+//! The standard streams, for diagnostics as text or as JSON objects, and for text before the line of an answer.
 
-use crate::colours::{coloured, has_marks};
+use json::Writer;
 use rpg_cli_answers::Listener;
+use rpg_cli_diagnostics::{
+    Diagnostic, FileName, Level, Place, begin_object, end_object, line_of, write_line_text,
+    write_note_object, write_note_text, write_text,
+};
 use rpg_cli_files::{Reason, send_text};
+use rpg_cli_text::TextWriter;
+use rpg_cli_words::Format;
+use std::alloc::{AllocError, Global};
 use std::io::{self, Error, ErrorKind, Write};
-use std::str;
+use std::{mem, str};
+
+/// How many bytes of lines wait before they are printed.
+const ENOUGH: usize = 4_096;
+
+/// What is printed once if memory runs out for a diagnostic, as text and as an object.
+const LOST: &str = "rpg2: error: a diagnostic is lost: memory ran out for it\n";
+
+const LOST_OBJECT: &str =
+    "{\"level\":\"error\",\"message\":\"a diagnostic is lost: memory ran out for it\",\"code\":null,\"spans\":[],\"children\":[]}\n";
+
+/// A remark that waits for an error.
+#[derive(Drop)]
+struct Remark {
+    path: String,
+    role: &'static str,
+    message: String,
+}
+
+impl Remark {
+    fn of(alloc: Global, file: FileName<'_>, message: &str) -> Result<Remark, AllocError> {
+        let path = file.path;
+        Ok(Remark {
+            path: format!(in alloc; "{path}")?,
+            role: file.role,
+            message: format!(in alloc; "{message}")?,
+        })
+    }
+}
 
 /// The standard streams of a program.
 #[derive(Drop)]
 pub struct StandardStreams<'a, R> {
     rt: &'a R,
+    format: Format,
     /// Whether marks on standard error are coloured.
     has_colours: bool,
     /// Whether a diagnostic was lost.
     has_lost: bool,
+    /// Lines that aren't printed yet.
+    lines: TextWriter,
+    /// Whether the last diagnostic is an error, to which remarks belong.
+    takes_remarks: bool,
+    /// The object of that error.
+    object: Option<Writer>,
+    remarks: Vec<Remark>,
 }
 
-impl<'a, R: Print + Eprint> StandardStreams<'a, R> {
-    pub fn new(rt: &'a R, has_colours: bool) -> Self {
+impl<'a, R: Print + Eprint + AllocGlobal> StandardStreams<'a, R> {
+    pub fn new(rt: &'a R, format: Format, has_colours: bool) -> Self {
         StandardStreams {
             rt,
+            format,
             has_colours,
             has_lost: false,
+            lines: TextWriter::new(rt.alloc()),
+            takes_remarks: false,
+            object: None,
+            remarks: Vec::new(rt.alloc()),
         }
     }
 }
 
-impl<R: Print + Eprint> StandardStreams<'_, R> {
+impl<R: Print + Eprint + AllocGlobal> StandardStreams<'_, R> {
     fn print(&mut self, text: &str) {
         if !text.is_empty() && self.rt.eprint(text).is_err() {
             self.has_lost = true;
         }
     }
+
+    /// Prints a text, unless memory ran out for it.
+    fn print_made(&mut self, text: Result<String, AllocError>) {
+        match text {
+            Ok(text) => self.print(text.as_str()),
+            Err(_) => self.lose(),
+        }
+    }
+
+    /// Prints the lines that wait.
+    fn pass_lines(&mut self) {
+        let lines = mem::replace(&mut self.lines, TextWriter::new(self.rt.alloc()));
+        self.print_made(lines.finish());
+    }
+
+    fn print_text(&mut self, told: &Diagnostic<'_>) {
+        let mut out = TextWriter::new(self.rt.alloc());
+        write_text(&mut out, told, self.has_colours);
+        self.print_made(out.finish());
+    }
+
+    /// Begins the object of a diagnostic, which waits for remarks.
+    fn begin(&mut self, told: &Diagnostic<'_>) {
+        let mut out = Writer::new(Vec::new(self.rt.alloc()));
+        match begin_object(self.rt.alloc(), &mut out, told) {
+            Ok(()) => self.object = Some(out),
+            Err(_) => self.lose(),
+        }
+    }
+
+    /// Prints the object that waits.
+    fn pass_object(&mut self) {
+        if let Some(mut out) = self.object.take() {
+            let ended = end_object(&mut out);
+            self.print_made(match ended {
+                Ok(()) => line_of(out),
+                Err(error) => Err(error),
+            });
+        }
+    }
+
+    /// Prints a note without a code on a line of its own.
+    fn print_note(&mut self, place: Option<Place<'_>>, message: &str) {
+        let note = match self.format {
+            Format::Text => note_text(self.rt.alloc(), place, message, self.has_colours),
+            Format::Json => note_object(self.rt.alloc(), place, message),
+        };
+        self.print_made(note);
+    }
+
+    /// Adds a remark to the last diagnostic.
+    fn add(&mut self, file: FileName<'_>, message: &str) {
+        let place = Some(file.whole());
+        let alloc = self.rt.alloc();
+        let added = match &mut self.object {
+            Some(out) => Some(write_note_object(alloc, out, place, message)),
+            None => None,
+        };
+        match added {
+            Some(Ok(())) => {}
+            Some(Err(_)) => self.lose(),
+            None => self.print_note(place, message),
+        }
+    }
+
+    /// Returns the remarks that wait, of which there are none afterwards.
+    fn take_remarks(&mut self) -> Vec<Remark> {
+        mem::replace(&mut self.remarks, Vec::new(self.rt.alloc()))
+    }
+
+    /// Adds the remarks that wait to the last diagnostic.
+    fn add_remarks(&mut self) {
+        let remarks = self.take_remarks();
+        for remark in &remarks {
+            self.add(
+                FileName {
+                    path: remark.path.as_str(),
+                    role: remark.role,
+                },
+                remark.message.as_str(),
+            );
+        }
+    }
+}
+
+/// Returns a note as text.
+fn note_text(
+    alloc: Global,
+    place: Option<Place<'_>>,
+    message: &str,
+    has_colours: bool,
+) -> Result<String, AllocError> {
+    let mut out = TextWriter::new(alloc);
+    write_note_text(&mut out, place, message, has_colours);
+    out.finish()
+}
+
+/// Returns a note as an object on a line of its own.
+fn note_object(
+    alloc: Global,
+    place: Option<Place<'_>>,
+    message: &str,
+) -> Result<String, AllocError> {
+    let mut out = Writer::new(Vec::new(alloc));
+    write_note_object(alloc, &mut out, place, message)?;
+    line_of(out)
 }
 
 impl<R: Print + Eprint + AllocGlobal> Listener for StandardStreams<'_, R> {
-    fn report(&mut self, text: &str) {
-        if self.has_colours && has_marks(text) {
-            if let Ok(text) = coloured(self.rt.alloc(), text) {
-                self.print(text.as_str());
-                return;
-            }
+    fn tell(&mut self, told: &Diagnostic<'_>) {
+        self.pass_on();
+        match self.format {
+            Format::Text => self.print_text(told),
+            Format::Json => self.begin(told),
         }
-        self.print(text);
+        if told.level == Level::Error {
+            self.takes_remarks = true;
+            self.add_remarks();
+        } else {
+            self.pass_object();
+        }
     }
 
-    fn report_error(&mut self, text: &str) {
-        self.report(text);
+    fn remark(&mut self, file: FileName<'_>, message: &str) {
+        if self.takes_remarks {
+            self.add(file, message);
+            return;
+        }
+        let is_kept = match Remark::of(self.rt.alloc(), file, message) {
+            Ok(remark) => self.remarks.push(remark).is_ok(),
+            Err(_) => false,
+        };
+        if !is_kept {
+            self.lose();
+        }
+    }
+
+    fn line(&mut self, record: Option<Place<'_>>, text: &str) {
+        self.takes_remarks = false;
+        self.pass_object();
+        match self.format {
+            Format::Text => write_line_text(&mut self.lines, record, text),
+            Format::Json => match note_object(self.rt.alloc(), record, text) {
+                Ok(object) => self.lines.write_str(object.as_str()),
+                Err(_) => self.lose(),
+            },
+        }
+        if self.lines.len() >= ENOUGH {
+            self.pass_lines();
+        }
+    }
+
+    fn pass_on(&mut self) {
+        self.takes_remarks = false;
+        self.pass_object();
+        self.pass_lines();
+    }
+
+    fn end(&mut self) {
+        self.pass_on();
+        self.add_remarks();
     }
 
     fn lose(&mut self) {
+        if !self.has_lost {
+            self.print(match self.format {
+                Format::Text => LOST,
+                Format::Json => LOST_OBJECT,
+            });
+        }
         self.has_lost = true;
     }
 
@@ -58,6 +258,7 @@ impl<R: Print + Eprint + AllocGlobal> Listener for StandardStreams<'_, R> {
     }
 
     fn show(&mut self, text: &str) -> Result<(), Reason> {
+        self.pass_on();
         send_text(&mut io::writer(self.rt), text)
     }
 }

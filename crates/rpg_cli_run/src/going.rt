@@ -1,7 +1,7 @@
 //! The command that compiles a source and runs it.
 
 use crate::jobs::run_own;
-use rpg_cli_answers::{Answer, CommandStop, Listener, named, source_bytes};
+use rpg_cli_answers::{Answer, CommandStop, Listener, file_of, named, source_bytes};
 use rpg_cli_jobs::{report_wanted, settle_date};
 use rpg_cli_programs::{OwnSource, report_faults};
 use rpg_cli_warnings::deny_warnings;
@@ -17,9 +17,9 @@ fn run_compiled<R: Files + Input + Print + AllocGlobal, L: Listener>(
     compiled: CompiledSource,
     listener: &mut L,
 ) -> Result<Report, CommandStop> {
-    let (path, text) = (request.source(), compiled.text());
-    deny_warnings(rt.alloc(), path, text, request.warnings, listener)?;
-    let source = OwnSource::of(rt.alloc(), path, compiled)?;
+    let (file, text) = (file_of(request, FileArgument::Source), compiled.text());
+    deny_warnings(rt.alloc(), file, text, request.warnings, listener)?;
+    let source = OwnSource::of(rt.alloc(), file, compiled)?;
     let ran = run_own(rt, request, &source, listener);
     if let Err(CommandStop::Answer(answer)) = ran {
         let program = source.compiled.program().program();
@@ -37,12 +37,12 @@ fn go_dated<R: Files + Input + Print + AllocGlobal, L: Listener>(
     if let Some(same) = request.shared_stream() {
         return Err(same.into());
     }
-    let path = request.source();
-    let text = named(FileArgument::Source, source_bytes(rt, path))?;
+    let file = file_of(request, FileArgument::Source);
+    let text = named(FileArgument::Source, source_bytes(rt, file.path))?;
     match CompiledSource::new(rt.alloc(), text, request.allowance) {
         Ok(compiled) => run_compiled(rt, request, compiled, listener),
         Err((text, fault)) => {
-            report_faults(rt.alloc(), path, &text, request.warnings.most, listener);
+            report_faults(rt.alloc(), file, &text, request.warnings.most, listener);
             Err(Answer::Source(fault).into())
         }
     }

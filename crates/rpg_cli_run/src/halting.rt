@@ -1,8 +1,9 @@
 //! The diagnostic for a job that halted.
 
 use crate::jobs::Runnable;
-use rpg_cli_answers::{Listener, report_message};
-use rpg_cli_halts::{HaltedCycle, HaltedRecord, InputNames, LastRead, halt_message};
+use rpg_cli_answers::{Listener, file_at, file_of};
+use rpg_cli_diagnostics::FileName;
+use rpg_cli_halts::{HaltedCycle, HaltedRecord, InputNames, LastRead, halt_diagnostic};
 use rpg_cli_trace::HaltedFile;
 use rpg_cli_words::{FileArgument, Request};
 use rpg_engine::{Halt, InputFile, JobEnd, Report};
@@ -43,24 +44,33 @@ impl LastInputs {
     }
 }
 
-fn halted_message(
+/// Reports a halt, with the record if that shows more.
+fn report_halted<L: Listener>(
     alloc: Global,
     request: &Request,
     runnable: Runnable<'_>,
     halted: HaltedCycle,
     inputs: &LastInputs,
     file: &HaltedFile,
-) -> Result<String, AllocError> {
+    listener: &mut L,
+) -> Result<(), AllocError> {
     let names = InputNames {
-        primary: request.file(FileArgument::Input),
-        secondary: request.secondary,
+        primary: file_of(request, FileArgument::Input),
+        secondary: secondary_of(request),
     };
     let (program, source) = (runnable.program(), runnable.halted());
     if !halted.needs_record(program) {
-        return halt_message(alloc, names, program, halted, None, source);
+        listener.tell(&halt_diagnostic(alloc, names, program, halted, None, source)?);
+        return Ok(());
     }
     let record = HaltedRecord::of(alloc, program, inputs.of(file, halted.halt))?;
-    halt_message(alloc, names, program, halted, Some(&record), source)
+    listener.tell(&halt_diagnostic(alloc, names, program, halted, Some(&record), source)?);
+    Ok(())
+}
+
+/// Returns the secondary file, if the arguments name one.
+pub(crate) fn secondary_of<'a>(request: &Request<'a>) -> Option<FileName<'a>> {
+    Some(file_at(FileArgument::Secondary, request.secondary?))
 }
 
 /// Returns the halt of a report, if its job halted.
@@ -86,7 +96,9 @@ pub(crate) fn report_halt<L: Listener>(
     listener: &mut L,
 ) {
     if let (Some(halted), Some(file)) = (halt_of(report), file) {
-        let message = halted_message(alloc, request, runnable, halted, inputs, file);
-        report_message(listener, message);
+        let reported = report_halted(alloc, request, runnable, halted, inputs, file, listener);
+        if reported.is_err() {
+            listener.lose();
+        }
     }
 }

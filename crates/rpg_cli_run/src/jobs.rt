@@ -4,8 +4,8 @@ ghost use Rattle.rpg_engine.specs.Devices.{CanCountFaults};
 
 use crate::halting::{LastInput, LastInputs};
 use crate::looking::run_as_asked;
-use rpg_cli_answers::{Answer, CommandStop, Listener, Reasons, named};
-use rpg_cli_files::{LineTarget, RecordSource, file_bytes};
+use rpg_cli_answers::{Answer, CommandStop, Listener, Reasons, file_of, named};
+use rpg_cli_files::{LineTarget, RecordSource, begins_with, file_bytes};
 use rpg_cli_halts::HaltedSource;
 use rpg_cli_jobs::{
     Kept, WantedFiles, devices_of, empty_files, open_files, program_of, report_wanted, run_over,
@@ -54,7 +54,7 @@ impl<'a> Runnable<'a> {
         match self {
             Runnable::Object(_) => None,
             Runnable::Source(source) => Some(HaltedSource {
-                path: source.path,
+                file: source.file,
                 text: source.compiled.text(),
                 rows: &source.rows,
             }),
@@ -234,19 +234,38 @@ fn run_named<R: Files + Input + Print + AllocGlobal, L: Listener>(
     }
 }
 
+/// Adds to the diagnostic for bytes that are no object program that the input is one.
+fn report_exchanged<R: Files, L: Listener>(
+    rt: &R,
+    request: &Request,
+    fault: ObjectFault,
+    listener: &mut L,
+) {
+    let input = file_of(request, FileArgument::Input);
+    if let ObjectFault::NotAnObject { offset: 0, .. } = fault {
+        if begins_with(rt, input.path, b"RPGOBJ") == Some(true) {
+            listener.remark(
+                input,
+                "this is an object program: are OBJ and INPUT exchanged?",
+            );
+        }
+    }
+}
+
 /// Reports what is wrong with the bytes of a rejected object program, or what it needs.
-fn report_refused<L: Listener>(
-    alloc: Global,
+fn report_refused<R: Files + AllocGlobal, L: Listener>(
+    rt: &R,
     request: &Request,
     object: &[u8],
     answer: Answer,
     listener: &mut L,
 ) {
     if let Answer::Object(fault) = answer {
-        let path = request.file(FileArgument::Object);
-        report_object(alloc, path, object, fault, listener);
-    } else if let Ok(program) = decode_object(alloc, object) {
-        report_wanted(alloc, request, &program, answer, listener);
+        let file = file_of(request, FileArgument::Object);
+        report_object(rt.alloc(), file, object, fault, listener);
+        report_exchanged(rt, request, fault, listener);
+    } else if let Ok(program) = decode_object(rt.alloc(), object) {
+        report_wanted(rt.alloc(), request, &program, answer, listener);
     }
 }
 
@@ -263,7 +282,7 @@ fn run_dated<R: Files + Input + Print + AllocGlobal, L: Listener>(
     let object = named(FileArgument::Object, file_bytes(rt, path))?;
     let ran = run_named(rt, request, &object, listener);
     if let Err(CommandStop::Answer(answer)) = ran {
-        report_refused(rt.alloc(), request, &object, answer, listener);
+        report_refused(rt, request, &object, answer, listener);
     }
     ran
 }

@@ -1,8 +1,8 @@
 //! Runs a job, and watches its cycles if the arguments ask for it.
 
-use crate::halting::report_halt;
+use crate::halting::{report_halt, secondary_of};
 use crate::jobs::{Ran, Runnable, run_devices};
-use rpg_cli_answers::{Answer, CommandStop, Listener, Reasons};
+use rpg_cli_answers::{Answer, CommandStop, Listener, Reasons, file_of};
 use rpg_cli_files::{LineTarget, RecordSource};
 use rpg_cli_trace::{JobNames, Looking};
 use rpg_cli_words::{FileArgument, Request};
@@ -45,8 +45,8 @@ pub(crate) fn run_as_asked<
     let date = request.date_text().as_bytes();
     let names = JobNames {
         program: runnable.program(),
-        primary: request.file(FileArgument::Input),
-        secondary: request.secondary,
+        primary: file_of(request, FileArgument::Input),
+        secondary: secondary_of(request),
         source: runnable.rows(),
     };
     let mut looking = Looking::new(alloc, request.looks, names, listener);

@@ -11,7 +11,7 @@ mod shorthand;
 
 pub use deck::deck_of;
 pub use filling::is_shorthand;
-pub use line_fault::{LineFault, ShorthandFault, line_message};
+pub use line_fault::{LineFault, ShorthandFault, line_diagnostic};
 pub use marks::{begins_data, ends_source};
 pub use ruler::RULER;
 pub use shorthand::shorthand_of;

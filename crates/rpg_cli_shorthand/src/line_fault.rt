@@ -1,5 +1,6 @@
 //! What is wrong with shorthand.
 
+use rpg_cli_diagnostics::{Diagnostic, Draft, FileName};
 use rpg_cli_text::TextWriter;
 use std::alloc::{AllocError, Global};
 
@@ -71,16 +72,14 @@ fn write_fault(out: &mut TextWriter, fault: LineFault) {
     }
 }
 
-/// Returns the message about a line of the file `path`.
-pub fn line_message(
+/// Returns the diagnostic for a line of a file.
+pub fn line_diagnostic(
     alloc: Global,
-    path: &str,
+    file: FileName<'_>,
     line: u16,
     fault: LineFault,
-) -> Result<String, AllocError> {
-    let mut out = TextWriter::new(alloc);
-    out.fill("{}:{}: ", &[path.as_bytes().into(), line.into()]);
-    write_fault(&mut out, fault);
-    out.write_char('\n');
-    out.finish()
+) -> Result<Diagnostic<'_>, AllocError> {
+    let mut draft = Draft::error(alloc, file.line(line.into()));
+    write_fault(&mut draft.message, fault);
+    draft.finish()
 }

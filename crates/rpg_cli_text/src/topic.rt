@@ -8,6 +8,7 @@ use crate::rewriting::REWRITINGS;
 use crate::rules::RULES;
 use crate::sheets::SHEETS;
 use crate::warnings::WARNINGS;
+use crate::writer::TextWriter;
 
 /// A code with a page, by its number in its family, from 1.
 #[derive(Clone, Copy)]
@@ -84,6 +85,25 @@ impl Topic {
             Topic::Rewriting(number) => (REWRITINGS, number),
         };
         Page::of(pages, number.saturating_sub(1))
+    }
+
+    /// Returns its number in its family.
+    const fn number(self) -> usize {
+        match self {
+            Topic::Sheet(number)
+            | Topic::Fault(number)
+            | Topic::Warning(number)
+            | Topic::Halt(number)
+            | Topic::Rule(number)
+            | Topic::Bytes(number)
+            | Topic::Rewriting(number) => number,
+        }
+    }
+
+    /// Writes the code: `F16`, `halt 4`.
+    pub fn write_code(self, out: &mut TextWriter) {
+        let blank = if let Topic::Halt(_) = self { " " } else { "" };
+        out.fill_three("{}{}{}", self.letters(), blank, self.number());
     }
 
     /// Returns a sentence on what is wrong, or what a rule does.

@@ -154,6 +154,24 @@ impl TextWriter {
         self.text.len()
     }
 
+    /// Returns the text so far.
+    ///
+    /// # Errors
+    ///
+    /// Memory ran out for one of its pieces.
+    pub fn so_far(&self) -> Result<&str, AllocError> {
+        if self.ran_out {
+            return Err(AllocError);
+        }
+        Ok(self.text.as_str())
+    }
+
+    /// Begins an empty text, in the memory of this one.
+    pub fn clear(&mut self) {
+        self.text.clear();
+        self.ran_out = false;
+    }
+
     /// Returns the text.
     ///
     /// # Errors

@@ -5,8 +5,10 @@ use crate::levels::Levels;
 use crate::lines::{lines_in, records_in};
 use crate::names::JobNames;
 use crate::records::Selected;
+use crate::told::Told;
 use crate::tracing::Cycle;
-use rpg_cli_text::TextWriter;
+use rpg_cli_diagnostics::{Diagnostics, Level};
+use rpg_cli_files::Listener;
 use rpg_engine::{Job, JobEnd};
 use rpg_program::line::File;
 use rpg_program::rows::Rows;
@@ -27,6 +29,12 @@ pub(crate) struct Counts {
     details: Due,
     /// The lines of the next cycle's detail output.
     due: Due,
+}
+
+/// Reports how many of something there were.
+fn report_count<L: Listener>(told: &mut Told<'_, L>, what: &str, count: u64) {
+    told.out.fill_two("watch: {}: {}", what, count);
+    told.end_line();
 }
 
 /// Returns a zero for each record type.
@@ -77,25 +85,12 @@ impl Counts {
         }
     }
 
-    fn write_types(&self, out: &mut TextWriter, names: &JobNames<'_, '_, '_>) {
+    fn report_types<L: Listener>(&self, told: &mut Told<'_, L>, names: &JobNames<'_, '_, '_>) {
         for (row, count) in self.types.iter().enumerate() {
-            out.write_str("watch: records of ");
-            names.write_type(out, row);
-            out.fill(": {}\n", &[(*count).into()]);
-        }
-    }
-
-    fn write_lines(&self, out: &mut TextWriter, rows: &Rows) {
-        out.fill(
-            "watch: heading lines at detail output: {}\nwatch: detail lines at detail output: {}\n",
-            &[self.details.heading.into(), self.details.detail.into()],
-        );
-        out.fill(
-            "watch: printed lines with text: {}\n",
-            &[self.printed.into()],
-        );
-        if rows.file_length(File::Disk) > 0 {
-            out.fill("watch: disk records: {}\n", &[self.stored.into()]);
+            told.out.write_str("watch: records of ");
+            names.write_type(&mut told.out, row);
+            told.out.fill_one(": {}", *count);
+            told.end_line();
         }
     }
 
@@ -104,18 +99,26 @@ impl Counts {
         self.levels.fallen()
     }
 
-    /// Returns the text about control fields that went down.
-    pub fn falls(&self, alloc: Global, names: &JobNames<'_, '_, '_>) -> Result<String, AllocError> {
-        let mut out = TextWriter::new(alloc);
-        self.levels.write(&mut out, names);
-        out.finish()
+    /// Returns the diagnostics for control fields that went down.
+    pub fn falls<'f>(
+        &self,
+        alloc: Global,
+        level: Level,
+        names: &JobNames<'_, 'f, '_>,
+    ) -> Diagnostics<'f> {
+        self.levels.falls(alloc, level, names)
     }
 
-    /// Returns the text about the counts.
-    pub fn text(&self, alloc: Global, names: &JobNames<'_, '_, '_>) -> Result<String, AllocError> {
-        let mut out = TextWriter::new(alloc);
-        self.write_types(&mut out, names);
-        self.write_lines(&mut out, names.program.program().rows());
-        out.finish()
+    /// Reports the counts.
+    pub fn report<L: Listener>(&self, told: &mut Told<'_, L>, names: &JobNames<'_, '_, '_>) {
+        let rows = names.program.program().rows();
+        self.report_types(told, names);
+        report_count(told, "heading lines at detail output", self.details.heading);
+        report_count(told, "detail lines at detail output", self.details.detail);
+        report_count(told, "printed lines with text", self.printed);
+        if rows.file_length(File::Disk) > 0 {
+            report_count(told, "disk records", self.stored);
+        }
+        told.pass_on();
     }
 }

@@ -2,7 +2,7 @@
 
 use crate::names::JobNames;
 use crate::records::Selected;
-use rpg_cli_text::TextWriter;
+use rpg_cli_diagnostics::{Diagnostic, Diagnostics, Draft, Level as Severity};
 use rpg_cycle_records::LastBytes;
 use std::alloc::{AllocError, Global};
 
@@ -69,24 +69,18 @@ impl Level {
         keep(&mut self.last.bytes, &now.bytes);
     }
 
-    /// Writes where the level went down, if it did.
-    fn write(&self, out: &mut TextWriter, names: &JobNames<'_, '_, '_>, level: usize) {
-        let Some(record) = self.first.record else {
-            return;
-        };
-        names.write_record(out, record);
-        out.fill(
+    /// Returns the diagnostic for a level with this number that went down at a record.
+    fn fall<'f>(&self, mut draft: Draft<'f>, number: usize) -> Result<Diagnostic<'f>, AllocError> {
+        draft.message.fill_three(
             "control field L{} goes down: \"{}\" after \"{}\"",
-            &[
-                level.into(),
-                self.first.after.as_slice().into(),
-                self.first.before.as_slice().into(),
-            ],
+            number,
+            self.first.after.as_slice(),
+            self.first.before.as_slice(),
         );
         if self.falls > 1 {
-            out.fill(" ({} more)", &[(self.falls - 1).into()]);
+            draft.message.fill_one(" ({} more)", self.falls - 1);
         }
-        out.write_char('\n');
+        draft.finish()
     }
 }
 
@@ -154,12 +148,22 @@ impl Levels {
         self.renew(now);
     }
 
-    /// Writes a line for each level that went down, the highest last.
-    pub fn write(&self, out: &mut TextWriter, names: &JobNames<'_, '_, '_>) {
+    /// Returns a diagnostic for each level that went down, the highest last.
+    pub fn falls<'f>(
+        &self,
+        alloc: Global,
+        severity: Severity,
+        names: &JobNames<'_, 'f, '_>,
+    ) -> Diagnostics<'f> {
+        let mut out = Diagnostics::new(alloc);
         let mut number = 0usize;
         for level in &self.levels {
             number = number.saturating_add(1);
-            level.write(out, names, number);
+            if let Some(record) = level.first.record {
+                let draft = Draft::new(alloc, severity, Some(names.place(record)), None);
+                out.push(level.fall(draft, number));
+            }
         }
+        out
     }
 }

@@ -5,7 +5,8 @@ use crate::names::JobNames;
 use crate::records::Records;
 use crate::told::Told;
 use crate::tracing::{Cycle, Reported};
-use rpg_cli_files::{Listener, report_message, report_refusal};
+use rpg_cli_diagnostics::Level;
+use rpg_cli_files::{Listener, tell_all};
 use rpg_cli_words::LookArguments;
 use rpg_cycle_records::Kept;
 use rpg_engine::{Job, JobEnd, Watcher};
@@ -114,14 +115,15 @@ impl<'p, 'f, 's, 'l, L: Listener> Looking<'p, 'f, 's, 'l, L> {
         let Some(counts) = &self.counts else {
             return None;
         };
-        let falls = counts.falls(self.alloc, &self.names);
-        if self.words.is_sorted {
-            report_refusal(self.listener, falls);
+        let level = if self.words.is_sorted {
+            Level::Error
         } else {
-            report_message(self.listener, falls);
-        }
+            Level::Warning
+        };
+        tell_all(self.listener, &counts.falls(self.alloc, level, &self.names));
         if self.words.watches {
-            report_message(self.listener, counts.text(self.alloc, &self.names));
+            let mut told = Told::new(self.alloc, self.listener);
+            counts.report(&mut told, &self.names);
         }
         Some(counts.fallen()?.number)
     }

@@ -1,6 +1,7 @@
 //! The names of a job's records, record types and fields in texts.
 
 use crate::records::Selected;
+use rpg_cli_diagnostics::{FileName, Place};
 use rpg_cli_show_fields::{SourceRows, name_text, write_card};
 use rpg_cli_text::TextWriter;
 use rpg_program::form::{Class, FieldForm};
@@ -11,8 +12,8 @@ use rpg_verify::Verified;
 #[derive(Clone, Copy)]
 pub struct JobNames<'p, 'f, 's> {
     pub program: &'p Verified,
-    pub primary: &'f str,
-    pub secondary: Option<&'f str>,
+    pub primary: FileName<'f>,
+    pub secondary: Option<FileName<'f>>,
     pub source: Option<&'s SourceRows>,
 }
 
@@ -21,21 +22,17 @@ fn has_entries(form: FieldForm) -> bool {
     matches!(form.class, Class::Array | Class::Table)
 }
 
-impl JobNames<'_, '_, '_> {
-    fn file_name(&self, file: InputFile) -> &str {
-        match file {
-            InputFile::Primary => self.primary,
-            InputFile::Secondary => match self.secondary {
-                Some(name) => name,
-                None => "",
-            },
+impl<'f> JobNames<'_, 'f, '_> {
+    fn file(&self, file: InputFile) -> FileName<'f> {
+        match (file, self.secondary) {
+            (InputFile::Secondary, Some(secondary)) => secondary,
+            (InputFile::Primary, _) | (InputFile::Secondary, None) => self.primary,
         }
     }
 
-    /// Writes which record it is: its file and its number.
-    pub(crate) fn write_record(&self, out: &mut TextWriter, record: Selected) {
-        let name = self.file_name(record.file);
-        out.fill("{}:{}: ", &[name.as_bytes().into(), record.number.into()]);
+    /// Returns where a record is: its file and its number.
+    pub(crate) fn place(&self, record: Selected) -> Place<'f> {
+        self.file(record.file).line(record.number)
     }
 
     /// Writes a record type: its row, counted from 0, and its card.

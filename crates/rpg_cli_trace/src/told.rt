@@ -1,17 +1,13 @@
-//! A text that is reported line by line, so that no more of it is in memory than some lines.
+//! A text that is reported line by line, so that no more of it is in memory than a line.
 
-use rpg_cli_files::{Listener, report_message};
+use rpg_cli_diagnostics::Place;
+use rpg_cli_files::Listener;
 use rpg_cli_text::TextWriter;
 use std::alloc::Global;
-use std::mem;
 
-/// How many bytes of whole lines wait before they are reported.
-const ENOUGH: usize = 4_096;
-
-/// Lines that aren't reported yet.
+/// A line that isn't reported yet, and who takes it.
 #[derive(Drop)]
 pub(crate) struct Told<'l, L> {
-    alloc: Global,
     pub out: TextWriter,
     listener: &'l mut L,
 }
@@ -19,29 +15,33 @@ pub(crate) struct Told<'l, L> {
 impl<'l, L: Listener> Told<'l, L> {
     pub fn new(alloc: Global, listener: &'l mut L) -> Told<'l, L> {
         Told {
-            alloc,
             out: TextWriter::new(alloc),
             listener,
         }
     }
 
-    /// Reports the lines so far.
-    pub fn pass_on(&mut self) {
-        let lines = mem::replace(&mut self.out, TextWriter::new(self.alloc));
-        report_message(self.listener, lines.finish());
+    /// Ends a line about a record, if there is one.
+    pub fn end_line_of(&mut self, record: Option<Place<'_>>) {
+        match self.out.so_far() {
+            Ok(line) => self.listener.line(record, line),
+            Err(_) => self.listener.lose(),
+        }
+        self.out.clear();
     }
 
-    /// Ends a line, and reports the lines so far if there are enough.
+    /// Ends a line.
     pub fn end_line(&mut self) {
-        self.out.write_char('\n');
-        if self.out.len() >= ENOUGH {
-            self.pass_on();
-        }
+        self.end_line_of(None);
     }
 
     /// Ends a line that ends in quotes.
     pub fn end_quoted(&mut self) {
         self.out.write_char('"');
         self.end_line();
+    }
+
+    /// Passes on the lines so far.
+    pub fn pass_on(&mut self) {
+        self.listener.pass_on();
     }
 }

@@ -7,7 +7,6 @@ use crate::names::JobNames;
 use crate::records::Selected;
 use crate::told::Told;
 use rpg_cli_files::Listener;
-use rpg_cli_text::TextWriter;
 use rpg_engine::{Job, JobEnd};
 use rpg_memory::indicators::Indicators;
 use rpg_store::Store;
@@ -22,14 +21,12 @@ pub(crate) struct Cycle {
 }
 
 impl Cycle {
-    /// Writes which record the cycle selected, or why there is none.
-    fn write_head(self, out: &mut TextWriter, names: &JobNames<'_, '_, '_>) {
-        if let Some(record) = self.record {
-            names.write_record(out, record);
-        }
-        out.fill("cycle {}", &[self.number.into()]);
+    /// Reports which record the cycle selected, or why there is none.
+    fn report_head<L: Listener>(self, told: &mut Told<'_, L>, names: &JobNames<'_, '_, '_>) {
+        let out = &mut told.out;
+        out.fill_one("cycle {}", self.number);
         match (self.record, self.ended) {
-            (_, Some(JobEnd::Halt(halt))) => out.fill(": halt {}", &[halt.number().into()]),
+            (_, Some(JobEnd::Halt(halt))) => out.fill_one(": halt {}", halt.number()),
             (Some(Selected { row: Some(row), .. }), _) => {
                 out.write_str(": ");
                 names.write_type(out, row);
@@ -37,7 +34,11 @@ impl Cycle {
             (Some(_), _) => {}
             (None, _) => out.write_str(": no record"),
         }
-        out.write_char('\n');
+        let record = match self.record {
+            Some(record) => Some(names.place(record)),
+            None => None,
+        };
+        told.end_line_of(record);
     }
 }
 
@@ -58,19 +59,19 @@ impl Reported {
         })
     }
 
-    /// Writes the indicators that turned on, or off, if any did.
-    fn write_turned(
+    /// Reports the indicators that turned on, or off, if any did.
+    fn report_turned<L: Listener>(
         &self,
-        out: &mut TextWriter,
+        told: &mut Told<'_, L>,
         begin: &str,
         cycle: u64,
         on: &Indicators,
         to_on: bool,
     ) {
         if self.lights.has_turned(on, to_on) {
-            out.fill(begin, &[cycle.into()]);
-            self.lights.write_turned(out, on, to_on);
-            out.write_char('\n');
+            told.out.fill_one(begin, cycle);
+            self.lights.write_turned(&mut told.out, on, to_on);
+            told.end_line();
         }
     }
 
@@ -84,9 +85,9 @@ impl Reported {
     ) {
         let (memory, output) = (job.memory(), job.output());
         let number = cycle.number;
-        cycle.write_head(&mut told.out, names);
-        self.write_turned(&mut told.out, "cycle {}: on", number, memory.on(), true);
-        self.write_turned(&mut told.out, "cycle {}: off", number, memory.on(), false);
+        cycle.report_head(told, names);
+        self.report_turned(told, "cycle {}: on", number, memory.on(), true);
+        self.report_turned(told, "cycle {}: off", number, memory.on(), false);
         report_lines(told, "cycle {}: prints \"", number, &output.print);
         report_lines(told, "cycle {}: writes \"", number, &output.disk);
         self.values.report_changes(told, names, memory, number);

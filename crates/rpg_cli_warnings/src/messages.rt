@@ -1,8 +1,9 @@
 //! The diagnostics for the warnings of a source.
 
-use rpg_cli_messages::{CardLines, write_picture, write_place, write_reported};
+use rpg_cli_diagnostics::{Diagnostic, Diagnostics, Draft, FileName, Level};
+use rpg_cli_messages::{CardLines, marked, write_reported};
 use rpg_cli_show_fields::Indicator;
-use rpg_cli_text::TextWriter;
+use rpg_cli_text::{TextWriter, Topic};
 use rpg_warnings_lines::{Warning, WarningKind};
 use std::alloc::{AllocError, Global};
 
@@ -101,29 +102,39 @@ fn write_sentence(out: &mut TextWriter, kind: WarningKind, line: &[u8]) {
     out.fill(sentence, &[name.into(), name.into()]);
 }
 
-fn write_warning(out: &mut TextWriter, path: &str, line: &[u8], warning: Warning) {
+/// Returns the diagnostic for a warning, on the line of its card.
+fn warned<'a>(
+    alloc: Global,
+    file: FileName<'a>,
+    line: &'a [u8],
+    warning: Warning,
+) -> Result<Diagnostic<'a>, AllocError> {
     let Warning {
         card,
         columns,
         kind,
     } = warning;
-    write_place(out, path, card, Some(columns), kind.code().text());
-    write_sentence(out, kind, line);
-    out.write_char('\n');
-    write_picture(out, card, line, Some(columns));
+    let place = file.card(card, marked(Some(columns)), line);
+    let topic = Topic::Warning(kind.code().number().saturating_add(1));
+    let mut draft = Draft::new(alloc, Level::Warning, Some(place), Some(topic));
+    write_sentence(&mut draft.message, kind, line);
+    draft.finish()
 }
 
-/// Writes how many warnings there are, and how many of them are shown.
-fn write_count(out: &mut TextWriter, path: &str, count: usize, most: u16) {
+/// Returns the note on how many warnings there are, and how many of them are shown.
+fn counted(
+    alloc: Global,
+    file: FileName<'_>,
+    count: usize,
+    most: u16,
+) -> Result<Diagnostic<'_>, AllocError> {
+    let mut draft = Draft::note(alloc, file.whole());
     let of_warnings = if count == 1 { "" } else { "s" };
-    out.fill(
-        "{}: {} warning{}",
-        &[path.as_bytes().into(), count.into(), of_warnings.into()],
-    );
+    draft.message.fill_two("{} warning{}", count, of_warnings);
     if count > usize::from(most) {
-        write_reported(out, most);
+        write_reported(&mut draft.message, most);
     }
-    out.write_char('\n');
+    draft.finish()
 }
 
 /// Returns how many bytes of a block are line feeds.
@@ -151,16 +162,16 @@ fn after_lines(text: &[u8], card: u16) -> (u16, &[u8]) {
     (skipped, rest)
 }
 
-/// Returns the diagnostics for the warnings of the source `path`, which are in the order of their cards: at most `most` of them, each
-/// written like a fault, and how many there are. Empty if there are none.
-pub fn warning_messages(
+/// Returns the diagnostics for the warnings of a source, which are in the order of their cards: at most `most` of them, each like a fault,
+/// and how many there are. None if there are none.
+pub fn warning_diagnostics<'a>(
     alloc: Global,
-    path: &str,
-    source: &[u8],
+    file: FileName<'a>,
+    source: &'a [u8],
     warnings: &[Warning],
     most: u16,
-) -> Result<String, AllocError> {
-    let mut out = TextWriter::new(alloc);
+) -> Diagnostics<'a> {
+    let mut out = Diagnostics::new(alloc);
     let (skipped, rest) = match warnings.first() {
         Some(warning) => after_lines(source, warning.card),
         None => (0, source),
@@ -168,10 +179,10 @@ pub fn warning_messages(
     let mut lines = CardLines::of(rest);
     for warning in warnings.iter().take(usize::from(most)) {
         let line = lines.line_of(warning.card.saturating_sub(skipped));
-        write_warning(&mut out, path, line, *warning);
+        out.push(warned(alloc, file, line, *warning));
     }
     if !warnings.is_empty() {
-        write_count(&mut out, path, warnings.len(), most);
+        out.push(counted(alloc, file, warnings.len(), most));
     }
-    out.finish()
+    out
 }

@@ -3,9 +3,10 @@
 ghost use Rattle.std.specs.Prelude.{◌≡◌, IfErr, OnOk, find};
 ghost use Rattle.rpg_cli_warnings.specs.Warned.{IsDenied, PassesWarnings, is_denied};
 
-use crate::messages::warning_messages;
+use crate::messages::warning_diagnostics;
 use crate::warnings::wanted_warnings;
-use rpg_cli_answers::{Answer, Listener, report_message};
+use rpg_cli_answers::{Answer, Listener, tell_all};
+use rpg_cli_diagnostics::FileName;
 use rpg_cli_values::WarningCodes;
 use rpg_cli_words::WarningArguments;
 use rpg_faults::{FaultlessCards, SourceFault, faultless_cards};
@@ -51,7 +52,7 @@ fn judged(arguments: WarningArguments, warnings: &[Warning]) -> Result<(), Answe
 /// If memory runs out while looking for them, the source is rejected only if the arguments deny warnings.
 pub fn judge_warnings<L: Listener>(
     alloc: Global,
-    path: &str,
+    file: FileName<'_>,
     text: &[u8],
     source: FaultlessCards,
     arguments: WarningArguments,
@@ -60,8 +61,8 @@ pub fn judge_warnings<L: Listener>(
     let (cards, index) = source.into_parts();
     match wanted_warnings(alloc, text, &index.over(&cards), arguments.allowed) {
         Ok(warnings) => {
-            let messages = warning_messages(alloc, path, text, &warnings, arguments.most);
-            report_message(listener, messages);
+            let told = warning_diagnostics(alloc, file, text, &warnings, arguments.most);
+            tell_all(listener, &told);
             judged(arguments, &warnings)
         }
         Err(_) if !arguments.denied.is_empty() => Err(Answer::NoMemory),
@@ -73,7 +74,7 @@ pub fn judge_warnings<L: Listener>(
 /// a fault has none.
 pub fn deny_warnings<L: Listener>(
     alloc: Global,
-    path: &str,
+    file: FileName<'_>,
     source: &[u8],
     arguments: WarningArguments,
     listener: &mut L,
@@ -82,7 +83,7 @@ pub fn deny_warnings<L: Listener>(
         return Ok(());
     }
     match faultless_cards(alloc, source) {
-        Ok(faultless) => judge_warnings(alloc, path, source, faultless, arguments, listener),
+        Ok(faultless) => judge_warnings(alloc, file, source, faultless, arguments, listener),
         Err(SourceFault::NoMemory) => Err(Answer::NoMemory),
         Err(_) => Ok(()),
     }

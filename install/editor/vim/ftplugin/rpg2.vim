@@ -2,7 +2,7 @@
 setlocal textwidth=0 expandtab colorcolumn=6,15,18,28,33,43,49,54,60,81 ruler
 setlocal statusline=%f\ card\ %l\ column\ %c\ %{Rpg2Range()}
 setlocal makeprg=rpg2\ check\ %\ --faults\ 999
-setlocal errorformat=%W%f:%l:%c:\ W%n:\ %m,%E%f:%l:%c:\ %m,%E%f:%l:\ %m,%-G%.%#
+setlocal errorformat=%f:%l:%c:\ %trror:\ %m,%f:%l:%c:\ %tarning:\ %m,%f:%l:%c:\ %tote:\ %m,%-G%.%#
 
 " The ranges of each sheet, by the form type in column 6: first column, last column, name.
 let s:ranges = {
