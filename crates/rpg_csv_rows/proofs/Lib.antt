@@ -1,0 +1,3 @@
+mod CellLemmas
+mod InputLemmas
+mod QuoteLemmas
