@@ -14,7 +14,7 @@ mod stop;
 mod string;
 mod text;
 
-pub use answer::{Answer, Line, named};
+pub use answer::{Answer, Line, RefusedRow, named};
 pub use formed::FormedListener;
 pub use in_place::{report_in_place, report_placed};
 pub use json::json_line;
