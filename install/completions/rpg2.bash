@@ -13,7 +13,7 @@ _rpg2() {
         --deny) COMPREPLY=($(compgen -W 'all W1 W2 W3 W4 W5 W6 W7 W8 W9 W10 W11 W12 W13' -- "$cur")); [ -n "$cur" ] && [ ${#COMPREPLY[@]} -gt 0 ] && return;;
         --format) COMPREPLY=($(compgen -W 'text json' -- "$cur")); return;;
         --date) COMPREPLY=($(compgen -W 'today today-dmy today-ymd' -- "$cur")); return;;
-        --allowance|--date|--drop|--faults|--file|--length|--most|--most-bytes|--printer|--switches|--table|--trace|--trace-record) return;;
+        --allowance|--columns|--date|--decimal|--delimiter|--drop|--faults|--file|--group|--length|--most|--most-bytes|--printer|--replace|--switches|--table|--trace|--trace-record) return;;
         --by|--deck|--disk|--output|--secondary|--source|--to) IFS=$'\n'; COMPREPLY=($(compgen -f -- "$cur")); return;;
     esac
     local options=""
@@ -22,7 +22,7 @@ _rpg2() {
         check) options='--faults --deny --allow --format -q --quiet -h --help';;
         list) options='--format -h --help';;
         cards) options='--short --ruler -h --help';;
-        records) options='--by --to --file --length --rdw --lines --ascii --low-blank --drop --deck --format -h --help';;
+        records) options='--by --to --csv --to-csv --file --length --rdw --lines --ascii --low-blank --drop --columns --no-header --delimiter --decimal --group --replace --deck --format -h --help';;
         fit) options='--force --table --switches --forms --printer --format -h --help';;
         verify) options='--format -q --quiet -h --help';;
         show) options='--source --rows --format -h --help';;

@@ -17,6 +17,8 @@ use Rattle.rpg_engine.specs.declared.object.ObjectFault.TheVariants as objects
 use Rattle.rpg_engine.specs.declared.report.Report.{Report}
 use Rattle.rpg_cli_answers.specs.declared.answer.Answer.{Answer}
 use Rattle.rpg_cli_answers.specs.declared.answer.Answer.TheVariants as answer
+use Rattle.rpg_cli_answers.specs.declared.answer.RefusedRow.{RefusedRow}
+use Rattle.rpg_cli_answers.specs.declared.answer.RefusedRow.TheVariants as rows
 use Rattle.rpg_cli_values.specs.Codes.{warning_code_text as warning_text}
 use Rattle.rpg_cli_values.specs.declared.code.WarningCode.{WarningCode}
 
@@ -84,6 +86,15 @@ abbrev pub refused_deck_text : Option ℕ → List ℕ
 refused_deck_text (Some card) = codes "card " ++ decimal card ++ codes ": refused"
 refused_deck_text None = codes "refused"
 
+-- which row or line isn't converted
+abbrev pub refused_place : RefusedRow → List ℕ
+refused_place rows.Header = codes "header"
+refused_place (rows.Row number) = codes "row " ++ decimal number
+refused_place (rows.Line number) = codes "line " ++ decimal number
+
+abbrev pub refused_row_text : RefusedRow → List ℕ
+refused_row_text row = refused_place row ++ codes ": refused"
+
 -- the card of an old deck, and the number of the rule that rejects it
 abbrev pub refused_card_text : ℕ → ℕ → List ℕ
 refused_card_text card rule = codes "card " ++ decimal card ++ codes ": A" ++ decimal rule
@@ -112,6 +123,7 @@ line_text (answer.NoCard line) = codes "line " ++ decimal line ++ codes ": no ca
 line_text (answer.Records records dropped columns) = counts_text records dropped columns
 line_text (answer.DeckRefused card) = refused_deck_text card
 line_text (answer.RecordRefused number) = codes "record " ++ decimal number ++ codes ": refused"
+line_text (answer.RowRefused number) = refused_row_text number
 line_text (answer.Fitted changes) = codes "changes " ++ decimal changes
 line_text (answer.FitRefused card rule) = refused_card_text card rule
 line_text (answer.NewDeck fault) = codes "new " ++ source_fault_text fault
@@ -168,6 +180,7 @@ exit_status (answer.NoCard line) = 3
 exit_status (answer.Records records dropped columns) = 0
 exit_status (answer.DeckRefused card) = 3
 exit_status (answer.RecordRefused number) = 3
+exit_status (answer.RowRefused number) = 3
 exit_status (answer.Fitted changes) = 0
 exit_status (answer.FitRefused card rule) = 3
 exit_status (answer.NewDeck fault) = source_status fault

@@ -12,6 +12,14 @@ use rpg_engine::{ObjectFault, Report, RunFault};
 use rpg_faults::SourceFault;
 use std::alloc::AllocError;
 
+/// A row or a line that is rejected, numbered from 1.
+#[derive(Clone, Copy)]
+pub enum RefusedRow {
+    Header,
+    Row(u64),
+    Line(u64),
+}
+
 /// How a command ended. What makes a command fail is passed on as it is.
 #[derive(Clone, Copy)]
 pub enum Answer {
@@ -88,6 +96,8 @@ pub enum Answer {
     RecordRefused {
         number: u64,
     },
+    /// A row of comma-separated values is rejected, or a line that would become one.
+    RowRefused(RefusedRow),
     /// An old deck was rewritten, with this many changes.
     Fitted {
         changes: u64,

@@ -10,7 +10,7 @@ mod sharing;
 mod stop;
 mod text;
 
-pub use answer::{Answer, Line, named};
+pub use answer::{Answer, Line, RefusedRow, named};
 pub use in_place::{file_at, file_of, report_in_place, report_placed};
 pub use json::json_line;
 pub use objects::source_object;

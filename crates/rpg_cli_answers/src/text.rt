@@ -4,7 +4,7 @@ ghost use Rattle.std.specs.Prelude.{◌≡◌, ◌+◌, ◌≤◌, ◌++◌, len
 ghost use Rattle.arrayvec.specs.ArrayVec.{array_vec_len};
 ghost use Rattle.rpg_cli_answers.specs.Answers as answers;
 
-use crate::answer::{Answer, Line};
+use crate::answer::{Answer, Line, RefusedRow};
 use arrayvec::ArrayVec;
 use itoa::Buffer;
 use rpg_cli_files::FileFault;
@@ -194,6 +194,24 @@ fn put_refused_deck(text: &mut Text, card: Option<u16>)
     put(text, b"refused");
 }
 
+fn put_refused_row(text: &mut Text, row: RefusedRow)
+    requires { array_vec_len text.old ≤ 4 }
+    ensures { text.new.items ≡ text.old.items ++ answers.refused_row_text row }
+{
+    match row {
+        RefusedRow::Header => put(text, b"header"),
+        RefusedRow::Row(number) => {
+            put(text, b"row ");
+            put_number(text, number);
+        }
+        RefusedRow::Line(number) => {
+            put(text, b"line ");
+            put_number(text, number);
+        }
+    }
+    put(text, b": refused");
+}
+
 /// Writes the card of an old deck, and the rule that rejects it.
 fn put_refused_card(text: &mut Text, card: u64, rule: u8)
     requires { array_vec_len text.old ≤ 4 }
@@ -255,6 +273,7 @@ fn exit_status(answer: &Answer) -> u8
         | Answer::NoCard { .. }
         | Answer::DeckRefused { .. }
         | Answer::RecordRefused { .. }
+        | Answer::RowRefused(_)
         | Answer::FitRefused { .. } => 3,
         Answer::Source(SourceFault::NoMemory) | Answer::NewDeck(SourceFault::NoMemory) => 1,
         Answer::Object(fault) => object_status(fault),
@@ -324,6 +343,7 @@ pub fn line(answer: &Answer) -> Line
             put_number(&mut text, number);
             put(&mut text, b": refused");
         }
+        Answer::RowRefused(row) => put_refused_row(&mut text, row),
         Answer::Fitted { changes } => {
             put(&mut text, b"changes ");
             put_number(&mut text, changes);

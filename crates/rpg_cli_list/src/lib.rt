@@ -7,6 +7,7 @@ mod deck;
 mod files;
 mod lines;
 mod listing;
+mod order;
 mod picture;
 mod records;
 mod tables;

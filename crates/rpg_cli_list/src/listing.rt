@@ -4,6 +4,7 @@ use crate::cards::write_cards;
 use crate::deck::{ReadCards, is_unread};
 use crate::files::write_files;
 use crate::lines::write_lines;
+use crate::order::write_order;
 use crate::records::write_records;
 use crate::tables::write_tables;
 use rpg_card_index::IndexedCards;
@@ -72,6 +73,7 @@ fn write_contents(
     write_files(alloc, out, cards)?;
     write_tables(out, cards, has_all_tables);
     write_records(out, source);
+    write_order(alloc, out, source)?;
     write_fields(alloc, out, source)?;
     Labels::of(alloc, cards)?.write(out);
     Indicators::of(alloc, cards)?.write(out);

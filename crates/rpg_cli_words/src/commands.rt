@@ -10,7 +10,7 @@ pub(crate) const COMMANDS: &str =
 check: SRC.each faults deny allow format quiet: Reports all faults of each source SRC on standard error, and writes nothing
 list: SRC format: Lists the source SRC: its cards with their faults, record layouts, names, indicators and printed lines
 cards: SRC.short short ruler: Turns the lines of shorthand in SRC into cards, such as O 32=TOT 42=10
-records: IN OUT by to file length rdw lines ascii low-blank drop deck format: Converts a shop's records to lines, guided by the deck that reads them, or back
+records: IN OUT by to csv to-csv file length rdw lines ascii low-blank drop columns no-header delimiter decimal group replace deck format: Converts a shop's records to lines, guided by the deck that reads them, or back
 fit: SRC.old NEW force table switches forms printer format: Rewrites the old deck SRC as cards that are read, and reports each change
 verify: OBJ format quiet: Verifies the object program OBJ, and prints the most steps that a cycle can take
 explain: CODE list: Explains codes, such as F16, S5, V21, B5 or halt 4, or all of them
@@ -68,6 +68,8 @@ short F!ruler Prints the shorthand of the cards in SRC
 ruler F Puts a ruler, which is a comment, before the cards
 by E=SRC!to The deck that reads the records; P and B may stand in column 43 of its I cards
 to V=SRC The deck, to turn lines back into records
+csv F!to IN is rows of comma-separated values: OUT has the lines that the deck reads
+to-csv F!to IN is lines of the file: OUT has a row of comma-separated values for each
 file V=NAME The file of the deck, if it isn't the primary one
 length L=N How many bytes a record has, if 24-27 of the F card don't say so
 rdw F!lines Each record follows its record descriptor word
@@ -75,6 +77,12 @@ lines F Each record is a line
 ascii F Characters are ASCII, not code page 037
 low-blank F!to A byte 00 among characters is a blank
 drop V=XX!to Leaves out records whose first byte is this one, such as FF
+columns V=NAMES The names of the columns, with nothing for one to leave out; the header is then passed over
+no-header F The first row is a record; the columns are the positions of codes, if there are several types, and then the fields, as on the cards
+delimiter V=C What separates cells: one character, or tab [default: ,]
+decimal V=C The decimal point: . or , [default: .]
+group V=C What separates groups of three digits
+replace V=C Replaces each character that rpg2 doesn't have
 deck V=NEW!to Where to write the deck that reads the lines
 table W=NAME=FILE The records of a table file, by its name on the cards; may be given several times
 switches V=00000000 A digit for each of U1 to U8: 1 if the job was run with it on; without this all are off

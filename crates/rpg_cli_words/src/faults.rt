@@ -3,6 +3,7 @@
 use crate::commands::cut;
 use crate::files::may_be_standard;
 use crate::options::{Cycles, TableArgument};
+use crate::rows::bad_rows;
 use clap::ArgMatches;
 use rpg_cli_values::{are_switches, byte_of};
 
@@ -64,8 +65,10 @@ fn is_bad_trace(given: &ArgMatches<'_>) -> bool {
 pub(crate) fn bad_value(matches: &ArgMatches<'_>) -> Option<&'static str> {
     let (command, given) = matches.subcommand()?;
     let file = bad_file(command, given);
+    let rows = bad_rows(given);
     match (given.get_str("drop"), given.get_str("switches")) {
         _ if file.is_some() => file,
+        _ if rows.is_some() => rows,
         _ if is_bad_trace(given) => {
             Some("'--trace <N>' needs a number of cycles, or a range such as 100-120")
         }

@@ -10,6 +10,7 @@ mod options;
 mod outputs;
 mod refusal;
 mod request;
+mod rows;
 
 pub use files::{FileArgument, SameFile, Shared, is_standard};
 pub use joined::join_codes;
@@ -20,4 +21,5 @@ pub use options::{
 pub use outputs::{Existing, Unreplaced, may_replace};
 pub use refusal::{Refusal, refuse_bytes, refuse_same_file, refuse_unreplaced};
 pub use request::{CommandName, Request, request_of};
+pub use rows::{RowArguments, RowsWay};
 pub use rpg_cli_values::DateArgument;

@@ -10,6 +10,7 @@ use crate::options::{
     WarningArguments,
 };
 use crate::refusal::{Refusal, unread};
+use crate::rows::RowArguments;
 use clap::ArgMatches;
 use rpg_cli_values::{DateArgument, byte_of};
 use std::alloc::{AllocError, Global};
@@ -98,6 +99,8 @@ pub struct Request<'a> {
     pub low_blank: bool,
     /// The first byte of records that are left out.
     pub dropped: Option<u8>,
+    /// How rows of comma-separated values are written, if these are converted.
+    pub rows_of_values: Option<RowArguments<'a>>,
     /// The deck that reads the lines, or the rewritten form of an old deck.
     pub new_deck: Option<&'a str>,
     /// Whether that form replaces a deck.
@@ -222,6 +225,7 @@ fn request_with<'a>(command: CommandName, given: &ArgMatches<'a>, lists: Lists<'
         is_ascii: given.get_flag("ascii"),
         low_blank: given.get_flag("low-blank"),
         dropped: given.get_str("drop").and_then(byte_of),
+        rows_of_values: RowArguments::of(given),
         new_deck: given.get_str("deck").or(given.get_str("NEW")),
         forces: given.get_flag("force"),
         tables: lists.tables,
