@@ -14,6 +14,7 @@ const FILES: &str = ". OBJ '<OBJ>' can't be '-', a standard stream; a file of th
 . to '--to <SRC>' can't be '-', a standard stream; a file of that name is './-'
 records OUT '<OUT>' must be a file: what went to standard output can't be taken back
 records deck '--deck <NEW>' must be a file: what went to standard output can't be taken back
+paper PDF '<PDF>' must be a file: what went to standard output can't be taken back
 fit SRC '<SRC>' can't be '-', a standard stream; a file of that name is './-'";
 
 /// Returns the message for a file that is a standard stream and can't be.
