@@ -41,10 +41,13 @@ entries_more start old new places i lt e is = each_more entry start old new plac
 pub entries_all : (start old places : List ℕ) (i : ℕ) → length places ≤ i → old ≡ start ++ flat_map entry (take i places) → old ≡ start ++ flat_map entry places
 entries_all start old places i le e = each_all entry start old places i le e
 
+one_less : (n : ℕ) → suc n - 1 ≡ n
+one_less n = omega arith
+
 -- one more bar, and the last
 pub bars_more : (s : Layout) (whole old new : List ℕ) (left line : ℕ) → 0 < left → whole ≡ old ++ bars_text s left line → new ≡ old ++ bar_text s line → whole ≡ new ++ bars_text s (left - 1) (line + 6)
 bars_more s whole old new zero line h e is = absurd (omega arith)
-bars_more s whole old new (suc left) line h e is = put_more whole old new (bar_text s line) (bars_text s left (line + 6)) e is
+bars_more s whole old new (suc left) line h e is = rw (one_less left) (put_more whole old new (bar_text s line) (bars_text s left (line + 6)) e is)
 
 pub bars_all : (s : Layout) (whole old : List ℕ) (left line : ℕ) → left ≤ 0 → whole ≡ old ++ bars_text s left line → old ≡ whole
 bars_all s whole old zero line h e = sym (e ∙ append-nil old)
@@ -53,7 +56,7 @@ bars_all s whole old (suc left) line h e = absurd (omega arith)
 -- one more page, and the last
 pub kids_more : (whole old new : List ℕ) (left page : ℕ) → 0 < left → whole ≡ old ++ kids left page → new ≡ old ++ kid page → whole ≡ new ++ kids (left - 1) (page + 1)
 kids_more whole old new zero page h e is = absurd (omega arith)
-kids_more whole old new (suc left) page h e is = put_more whole old new (kid page) (kids left (page + 1)) e is
+kids_more whole old new (suc left) page h e is = rw (one_less left) (put_more whole old new (kid page) (kids left (page + 1)) e is)
 
 pub kids_all : (whole old : List ℕ) (left page : ℕ) → left ≤ 0 → whole ≡ old ++ kids left page → old ≡ whole
 kids_all whole old zero page h e = sym (e ∙ append-nil old)
@@ -78,7 +81,7 @@ parts_last end text first rest is_last cut e = cut.parts ∙ ap (λ l. first ∷
 none_first : (one later whole : Option PageFault) → whole ≡ first_of one later → one ≡ None → whole ≡ later
 none_first one later whole e none = e ∙ ap (λ f. first_of f later) none
 
-stop_first : {X : Type 0} (one later whole : Option PageFault) (a b u v x y : List ℕ) (stop : PageStop) → whole ≡ first_of one later → Shows {X} one a u v (Err stop) → Shows {X} whole b x y (Err stop)
+stop_first : {X : Type 0} (one later whole : Option PageFault) (a b u v x y : List ℕ) (stop : PageStop) → whole ≡ first_of one later → Shows {X = X} one a u v (Err stop) → Shows {X = X} whole b x y (Err stop)
 stop_first one later whole a b u v x y (stops.Fault found) e some = e ∙ ap (λ f. first_of f later) some
 stop_first one later whole a b u v x y stops.NoMemory e some = tt
 
@@ -89,14 +92,14 @@ pub strikes_no_fault : (s : Layout) (line : ℕ) (text rest first more : List �
 strikes_no_fault s line text rest first more is_last cut e faults none =
     none_first (strike_fault s line first) (strikes_fault s line (strikes more)) (strikes_fault s line (strikes text)) (faults ∙ ap (strikes_fault s line) (parts_more 13 rest first more is_last cut e)) none
 
-pub strikes_more : (s : Layout) (line k : ℕ) (whole old new rest first more : List ℕ) (is_last : Bool) → IsCut 13 rest first more is_last → is_last ≡ false → whole ≡ old ++ strikes_text s line k (strikes rest)
-    → new ≡ old ++ strike_text s line k first → whole ≡ new ++ strikes_text s line (min (k + 1) 3) (strikes more)
-strikes_more s line k whole old new rest first more is_last cut e text is =
-    put_more whole old new (strike_text s line k first) (strikes_text s line (min (k + 1) 3) (strikes more)) (text ∙ ap (λ parts. old ++ strikes_text s line k parts) (parts_more 13 rest first more is_last cut e)) is
+pub strikes_more : (s : Layout) (line k next : ℕ) (whole old new rest first more : List ℕ) (is_last : Bool) → next ≡ min (k + 1) 3 → IsCut 13 rest first more is_last → is_last ≡ false → whole ≡ old ++ strikes_text s line k (strikes rest)
+    → new ≡ old ++ strike_text s line k first → whole ≡ new ++ strikes_text s line next (strikes more)
+strikes_more s line k next whole old new rest first more is_last n cut e text is =
+    rw n (put_more whole old new (strike_text s line k first) (strikes_text s line (min (k + 1) 3) (strikes more)) (text ∙ ap (λ parts. old ++ strikes_text s line k parts) (parts_more 13 rest first more is_last cut e)) is)
 
 pub strikes_last : {X : Type 0} (s : Layout) (line k : ℕ) (text start old new rest first more : List ℕ) (is_last : Bool) (x : X) → IsCut 13 rest first more is_last → is_last ≡ true
     → strikes_fault s line (strikes text) ≡ strikes_fault s line (strikes rest) → start ++ strikes_text s line 0 (strikes text) ≡ old ++ strikes_text s line k (strikes rest)
-    → strike_fault s line first ≡ None → new ≡ old ++ strike_text s line k first → Shows {X} (strikes_fault s line (strikes text)) (strikes_text s line 0 (strikes text)) start new (Ok x)
+    → strike_fault s line first ≡ None → new ≡ old ++ strike_text s line k first → Shows {X = X} (strikes_fault s line (strikes text)) (strikes_text s line 0 (strikes text)) start new (Ok x)
 strikes_last s line k text start old new rest first more is_last x cut e faults whole none is =
     let parts = parts_last 13 rest first more is_last cut e in (
       none_first (strike_fault s line first) None (strikes_fault s line (strikes text)) (faults ∙ ap (strikes_fault s line) parts) none,
@@ -104,7 +107,7 @@ strikes_last s line k text start old new rest first more is_last x cut e faults 
     )
 
 pub strikes_stop : {X : Type 0} (s : Layout) (line : ℕ) (text rest first more : List ℕ) (is_last : Bool) (a b u v x y : List ℕ) (stop : PageStop) → IsCut 13 rest first more is_last
-    → strikes_fault s line (strikes text) ≡ strikes_fault s line (strikes rest) → Shows {X} (strike_fault s line first) a u v (Err stop) → Shows {X} (strikes_fault s line (strikes text)) b x y (Err stop)
+    → strikes_fault s line (strikes text) ≡ strikes_fault s line (strikes rest) → Shows {X = X} (strike_fault s line first) a u v (Err stop) → Shows {X = X} (strikes_fault s line (strikes text)) b x y (Err stop)
 strikes_stop s line text rest first more is_last a b u v x y stop cut faults shows =
     stop_first (strike_fault s line first) (strikes_fault s line (parts_after 13 is_last more)) (strikes_fault s line (strikes text)) a b u v x y stop (faults ∙ ap (strikes_fault s line) cut.parts) shows
 
@@ -126,7 +129,7 @@ lines_more s line whole old new rest first more is_last cut e text is =
 
 pub lines_last : {X : Type 0} (s : Layout) (line : ℕ) (text start old new rest first more : List ℕ) (is_last : Bool) (x : X) → IsCut 10 rest first more is_last → is_last ≡ true
     → lines_fault s 0 (line_feed_parts text) ≡ lines_fault s line (line_feed_parts rest) → start ++ lines_text s 0 (line_feed_parts text) ≡ old ++ lines_text s line (line_feed_parts rest)
-    → strikes_fault s line (strikes first) ≡ None → new ≡ old ++ strikes_text s line 0 (strikes first) → Shows {X} (lines_fault s 0 (line_feed_parts text)) (lines_text s 0 (line_feed_parts text)) start new (Ok x)
+    → strikes_fault s line (strikes first) ≡ None → new ≡ old ++ strikes_text s line 0 (strikes first) → Shows {X = X} (lines_fault s 0 (line_feed_parts text)) (lines_text s 0 (line_feed_parts text)) start new (Ok x)
 lines_last s line text start old new rest first more is_last x cut e faults whole none is =
     let parts = parts_last 10 rest first more is_last cut e in (
       none_first (strikes_fault s line (strikes first)) None (lines_fault s 0 (line_feed_parts text)) (faults ∙ ap (lines_fault s line) parts) none,
@@ -134,8 +137,8 @@ lines_last s line text start old new rest first more is_last x cut e faults whol
     )
 
 pub lines_stop : {X : Type 0} (s : Layout) (line : ℕ) (text rest first more : List ℕ) (is_last : Bool) (a b u v x y : List ℕ) (stop : PageStop) → IsCut 10 rest first more is_last
-    → lines_fault s 0 (line_feed_parts text) ≡ lines_fault s line (line_feed_parts rest) → Shows {X} (strikes_fault s line (strikes first)) a u v (Err stop)
-    → Shows {X} (lines_fault s 0 (line_feed_parts text)) b x y (Err stop)
+    → lines_fault s 0 (line_feed_parts text) ≡ lines_fault s line (line_feed_parts rest) → Shows {X = X} (strikes_fault s line (strikes first)) a u v (Err stop)
+    → Shows {X = X} (lines_fault s 0 (line_feed_parts text)) b x y (Err stop)
 lines_stop s line text rest first more is_last a b u v x y stop cut faults shows =
     stop_first (strikes_fault s line (strikes first)) (lines_fault s (line + 1) (parts_after 10 is_last more)) (lines_fault s 0 (line_feed_parts text)) a b u v x y stop (faults ∙ ap (lines_fault s line) cut.parts) shows
 

@@ -99,7 +99,7 @@ laid_page s before mid after done old new page n laid sent e =
 
 pub laid_first : (s : Layout) (before mid after : Option (List ℕ)) (old between new : Output) → Sends before mid old between first_bytes → old.at ≡ 0 → old.places.items ≡ [] → between.places.items ≡ old.places.items
     → SendsObjects mid after between new (catalog ∷ (font ∷ [])) → Laid s before after [] new
-unfolding page_objects
+unfolding page_objects first_bytes
 laid_first s before mid after old between new sent at none same objects =
     let here : between.at ≡ length first_bytes = sent.here ∙ ap (λ n. n + length first_bytes) at in
     record {

@@ -105,14 +105,17 @@ abbrev pub bars_text : Layout → (left line : ℕ) → List ℕ
 bars_text s zero line = []
 bars_text s (suc left) line = bar_text s line ++ bars_text s left (line + 6)
 
--- light green bars, if they are asked for
-abbrev pub background : Layout → Bool → List ℕ
-background s false = []
-background s true = codes "0.88 0.96 0.88 rg\n" ++ bars_text s ((s.length + 5) / 6) 0 ++ codes "0 g\n"
+-- all bars, in light green
+abbrev pub green : Layout → List ℕ
+green s = codes "0.88 0.96 0.88 rg\n" ++ bars_text s ((s.length + 5) / 6) 0
+
+-- the bars, if they are asked for, and black again
+abbrev pub background : Layout → List ℕ
+background s = if s.has_bars then green s ++ codes "0 g\n" else []
 
 -- what comes before the lines
 unfoldable pub heading : Layout → List ℕ
-heading s = background s s.has_bars ++ codes "BT /F " ++ points s.font ++ codes " Tf\n"
+heading s = background s ++ codes "BT /F " ++ points s.font ++ codes " Tf\n"
 
 -- on success a text was appended, and a page's fault is reported
 abbrev pub Shows : {X : Type 0} → Option PageFault → List ℕ → (old new : List ℕ) → Result X PageStop → Type 0

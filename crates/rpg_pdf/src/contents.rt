@@ -2,7 +2,7 @@
 
 ghost use Rattle.std.specs.Prelude.{◌≡◌, ◌+◌, ◌/◌, ◌<◌, ◌≤◌, ◌++◌, OnOk};
 ghost use Rattle.rpg_pdf.specs.Sheets.{layout_of};
-ghost use Rattle.rpg_pdf.specs.Contents.{background, bar_text, bars_text, heading};
+ghost use Rattle.rpg_pdf.specs.Contents.{background, bar_text, bars_text, green, heading};
 
 use crate::numbers::{put_points, put_two_points};
 use crate::sheet::Sheet;
@@ -35,16 +35,23 @@ fn put_bars(sheet: &Sheet, out: &mut Vec<u8>) -> Result<(), AllocError>
     Ok(())
 }
 
+/// Appends all bars, in light green.
+fn put_green(sheet: &Sheet, out: &mut Vec<u8>) -> Result<(), AllocError>
+    ensures { OnOk result (out.new.items ≡ out.old.items ++ green (layout_of sheet.now)) }
+{
+    out.extend_from_slice(b"0.88 0.96 0.88 rg\n")?;
+    put_bars(sheet, out)
+}
+
 /// Appends the bars, if they are asked for.
 fn put_background(sheet: &Sheet, out: &mut Vec<u8>) -> Result<(), AllocError>
-    ensures { OnOk result (out.new.items ≡ out.old.items ++ background (layout_of sheet.now) (layout_of sheet.now).has_bars) }
+    ensures { OnOk result (out.new.items ≡ out.old.items ++ background (layout_of sheet.now)) }
 {
-    if !sheet.has_bars {
-        return Ok(());
+    if sheet.has_bars {
+        put_green(sheet, out)?;
+        return out.extend_from_slice(b"0 g\n");
     }
-    out.extend_from_slice(b"0.88 0.96 0.88 rg\n")?;
-    put_bars(sheet, out)?;
-    out.extend_from_slice(b"0 g\n")
+    Ok(())
 }
 
 /// Appends what the contents of each sheet begin with.

@@ -24,6 +24,20 @@ pub(crate) fn put_points(out: &mut Vec<u8>, hundredths: u32) -> Result<(), Alloc
     out.extend_from_slice(&[b'.', b'0' + tens, b'0' + ones])
 }
 
+/// Appends a number between two texts.
+pub(crate) fn put_between(
+    out: &mut Vec<u8>,
+    before: &[u8],
+    number: u64,
+    after: &[u8],
+) -> Result<(), AllocError>
+    ensures { OnOk result (out.new.items ≡ out.old.items ++ (before.now ++ decimal number ++ after.now)) }
+{
+    out.extend_from_slice(before)?;
+    put_number(out, number)?;
+    out.extend_from_slice(after)
+}
+
 /// Appends two lengths.
 pub(crate) fn put_two_points(out: &mut Vec<u8>, x: u32, y: u32) -> Result<(), AllocError>
     ensures { OnOk result (out.new.items ≡ out.old.items ++ two_points x y) }

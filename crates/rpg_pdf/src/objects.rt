@@ -5,7 +5,7 @@ ghost use Rattle.std.specs.List.{flat_map};
 ghost use Rattle.rpg_pdf.specs.Sheets.{layout_of};
 ghost use Rattle.rpg_pdf.specs.Objects.{by_number, catalog, contents_object, ending, entry, entry_count, font, kid, kids, object, object_mark, page_count, page_number, page_object, page_settings, page_value, reference, size_of, stream, stream_head, table_head, trailer, tree, tree_value};
 
-use crate::numbers::{put_number, put_ten_digits, put_two_points};
+use crate::numbers::{put_between, put_number, put_ten_digits, put_two_points};
 use crate::sheet::Sheet;
 use std::alloc::AllocError;
 
@@ -87,9 +87,7 @@ pub(crate) fn put_page(out: &mut Vec<u8>, page: u32) -> Result<(), AllocError>
 fn put_stream_head(out: &mut Vec<u8>, text: &[u8]) -> Result<(), AllocError>
     ensures { OnOk result (out.new.items ≡ out.old.items ++ stream_head (length text.now)) }
 {
-    out.extend_from_slice(b"<</Length ")?;
-    put_number(out, text.len() as u64)?;
-    out.extend_from_slice(b">>\nstream\n")
+    put_between(out, b"<</Length ", text.len() as u64, b">>\nstream\n")
 }
 
 /// Appends a text as a stream.
@@ -149,9 +147,7 @@ fn put_page_settings(out: &mut Vec<u8>, sheet: &Sheet) -> Result<(), AllocError>
 fn put_page_count(out: &mut Vec<u8>, pages: u32) -> Result<(), AllocError>
     ensures { OnOk result (out.new.items ≡ out.old.items ++ page_count pages) }
 {
-    out.extend_from_slice(b"<</Type/Pages/Count ")?;
-    put_number(out, u64::from(pages))?;
-    out.extend_from_slice(b"/Kids[")
+    put_between(out, b"<</Type/Pages/Count ", u64::from(pages), b"/Kids[")
 }
 
 /// Appends the value of the tree.
@@ -210,18 +206,21 @@ fn put_table(out: &mut Vec<u8>, places: &[u64], tree_place: u64) -> Result<(), A
 fn put_table_head(out: &mut Vec<u8>, pages: u32) -> Result<(), AllocError>
     ensures { OnOk result (out.new.items ≡ out.old.items ++ table_head (entry_count pages)) }
 {
-    out.extend_from_slice(b"xref\n0 ")?;
-    put_number(out, number_of_page(pages))?;
-    out.extend_from_slice(b"\n0000000000 65535 f \n")
+    let entries = number_of_page(pages);
+    put_between(out, b"xref\n0 ", entries, b"\n0000000000 65535 f \n")
 }
 
 /// Appends how many entries the table has.
 fn put_size(out: &mut Vec<u8>, pages: u32) -> Result<(), AllocError>
     ensures { OnOk result (out.new.items ≡ out.old.items ++ size_of (entry_count pages)) }
 {
-    out.extend_from_slice(b"trailer\n<</Size ")?;
-    put_number(out, number_of_page(pages))?;
-    out.extend_from_slice(b"/Root 1 0 R>>\nstartxref\n")
+    let size = number_of_page(pages);
+    put_between(
+        out,
+        b"trailer\n<</Size ",
+        size,
+        b"/Root 1 0 R>>\nstartxref\n",
+    )
 }
 
 /// Appends what comes after the entries.

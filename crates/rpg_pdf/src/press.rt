@@ -9,7 +9,7 @@ ghost use Rattle.rpg_pdf.specs.Pages.{IsCut, pages};
 ghost use Rattle.rpg_pdf.specs.Sheets.{Layout, layout_of};
 
 use crate::contents::put_heading;
-use crate::cut::{Part, cut};
+use crate::cut::cut;
 use crate::fault::{PageFault, PageStop, PaperFault};
 use crate::objects::{
     FIRST_BYTES, put_catalog, put_ending, put_font, put_page, put_page_contents, put_tree,
@@ -250,16 +250,21 @@ impl Press {
     }
 
     /// Takes a part of a piece, and writes the page that it ends, unless it is the last part.
-    fn put_part<W: Write>(&mut self, part: Part<'_>, writer: &mut W) -> Result<(), PaperFault>
-        ensures { (s : Layout) (before : Option (List ℕ)) (print rest left : List ℕ) → IsCut 12 left part.first.now part.rest.now part.is_last
+    fn put_part<W: Write>(
+        &mut self,
+        first: &[u8],
+        is_last: bool,
+        writer: &mut W,
+    ) -> Result<(), PaperFault>
+        ensures { (s : Layout) (before : Option (List ℕ)) (print rest left more : List ℕ) → IsCut 12 left first.now more is_last
             → Reading s before (W.contents writer.old) print (left ++ rest) self.old
-            → MatchResult result (λ _. Reading s before (W.contents writer.new) print (part.rest.now ++ rest) self.new) (IsFault s (pages print)) }
+            → MatchResult result (λ _. Reading s before (W.contents writer.new) print (more ++ rest) self.new) (IsFault s (pages print)) }
     {
-        match self.take(part.first) {
+        match self.take(first) {
             Ok(()) => {}
             Err(fault) => return Err(fault),
         }
-        if part.is_last {
+        if is_last {
             return Ok(());
         }
         match self.end_page(writer) {
@@ -278,7 +283,7 @@ impl Press {
         let mut left = piece;
         'pieces: loop {
             let part = cut(left, FORM_FEED);
-            match self.put_part(part, writer) {
+            match self.put_part(part.first, part.is_last, writer) {
                 Ok(()) => {}
                 Err(fault) => return Err(fault),
             }

@@ -1,6 +1,6 @@
 //! Puts a print on sheets.
 
-ghost use Rattle.std.specs.Prelude.{◌≡◌, ◌<◌, ℕ, List, Option, Some, [], length, MatchResult};
+ghost use Rattle.std.specs.Prelude.{◌≡◌, ◌<◌, ℕ, List, Option, Some, [], vec_len, IfOk, MatchResult};
 ghost use Rattle.rpg_pdf.specs.Outcomes.{IsFault, IsPaper, Reading, ReadsOn};
 ghost use Rattle.rpg_pdf.specs.Pages.{pages};
 ghost use Rattle.rpg_pdf.specs.Sheets.{Layout, sheet_of};
@@ -8,28 +8,36 @@ ghost use Rattle.rpg_pdf.specs.Sheets.{Layout, sheet_of};
 use crate::fault::PaperFault;
 use crate::sheet::{Settings, Sheet};
 use crate::state::Press;
-use std::alloc::Global;
+use std::alloc::{AllocError, Global};
 use std::io::{Read, Write};
 
 /// The room for each read, in bytes.
 const READ_ROOM: usize = 65_536;
 
+/// Returns the room for a read.
+fn read_room(alloc: Global) -> Result<Vec<u8>, AllocError>
+    ensures { IfOk result (λ room. 0 < vec_len room) }
+{
+    vec![in alloc; 0u8; READ_ROOM]
+}
+
 /// Reads a piece of a print, and takes it. Returns whether the print has ended.
 fn read_piece<R: Read, W: Write>(
     reader: &mut R,
-    room: &mut [u8],
+    room: &mut Vec<u8>,
     press: &mut Press,
     writer: &mut W,
 ) -> Result<bool, PaperFault>
-    requires { 0 < length room.old }
-    ensures { (s : Layout) (before : Option (List ℕ)) (print rest : List ℕ) → R.remaining reader.old ≡ Some rest
+    requires { 0 < vec_len room.old }
+    ensures room { vec_len room.new ≡ vec_len room.old }
+    ensures read { (s : Layout) (before : Option (List ℕ)) (print rest : List ℕ) → R.remaining reader.old ≡ Some rest
         → Reading s before (W.contents writer.old) print rest press.old
         → MatchResult result (ReadsOn s before (W.contents writer.new) (R.remaining reader.new) print press.new) (IsFault s (pages print)) }
 {
-    let Ok(count) = reader.read(room) else {
+    let Ok(count) = reader.read(room.as_mut_slice()) else {
         return Err(PaperFault::Read);
     };
-    let (piece, _rest) = room.split_at(count);
+    let (piece, _rest) = room.as_slice().split_at(count);
     match press.put(piece, writer) {
         Ok(()) => Ok(count == 0),
         Err(fault) => Err(fault),
@@ -47,11 +55,11 @@ fn read_all<R: Read, W: Write>(
         → Reading s before (W.contents writer.old) print print press.old
         → MatchResult result (λ _. Reading s before (W.contents writer.new) print [] press.new) (IsFault s (pages print)) }
 {
-    let Ok(mut room) = vec![in alloc; 0u8; READ_ROOM] else {
+    let Ok(mut room) = read_room(alloc) else {
         return Err(PaperFault::NoMemory);
     };
     'reads: for _ in 0..u64::MAX {
-        match read_piece(reader, room.as_mut_slice(), press, writer) {
+        match read_piece(reader, &mut room, press, writer) {
             Ok(is_ended) => {
                 if is_ended {
                     return Ok(());

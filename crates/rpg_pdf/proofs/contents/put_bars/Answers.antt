@@ -8,4 +8,4 @@ use Rattle.rpg_pdf.proofs.contents.put_bars.Goals as goal
 pub loop-left-preserved : goal.loop-left-preserved
 loop-left-preserved c =
     let appended : c.put_bar.new.out.items ≡ c.loop-left.out.items ++ bar_text (layout_of c.args.sheet.now) c.loop-left.line = grind (arith, common_steps) in
-    record { few = omega arith; text = bars_more _ _ _ _ _ _ (omega arith) c.loop-left.invariant.text appended }
+    record { few = omega arith; text = bars_more (layout_of c.args.sheet.now) _ c.loop-left.out.items c.put_bar.new.out.items c.loop-left.left c.loop-left.line (omega arith) c.loop-left.invariant.text appended }

@@ -4,28 +4,28 @@ use Rattle.rpg_pdf.specs.Pages.{following, pages}
 use Rattle.rpg_pdf.proofs.state.Press.put_part.Goals as goal
 
 pub returns-in-Err : goal.returns-in-Err
-returns-in-Err g c = λ s before print rest left cut h.
-    c.in-Err.ensures s before (g.W.Write.contents c.args.writer.now) print (following 12 c.args.part.is_last c.args.part.rest.now ++ rest) cut.plain
-    (piece_cut s before (g.W.Write.contents c.args.writer.now) print rest left c.args.part.first.now c.args.part.rest.now c.args.part.is_last c.args.self.now cut h)
+returns-in-Err g c = λ s before print rest left more cut h.
+    c.in-Err.ensures s before (g.W.Write.contents c.args.writer.now) print (following 12 c.args.is_last more ++ rest) cut.plain
+    (piece_cut s before (g.W.Write.contents c.args.writer.now) print rest left c.args.first.now more c.args.is_last c.args.self.now cut h)
 
-pub returns-then-part : goal.returns-then-part
-returns-then-part g c = λ s before print rest left cut h.
-    last_left s before (g.W.Write.contents c.args.writer.now) print rest c.args.part.rest.now c.args.part.is_last c.take.new.self c.if-part.true (cut.ended c.if-part.true)
-    (c.in-Ok.ensures s before (g.W.Write.contents c.args.writer.now) print (following 12 c.args.part.is_last c.args.part.rest.now ++ rest) cut.plain
-    (piece_cut s before (g.W.Write.contents c.args.writer.now) print rest left c.args.part.first.now c.args.part.rest.now c.args.part.is_last c.args.self.now cut h))
+pub returns-then-is_last : goal.returns-then-is_last
+returns-then-is_last g c = λ s before print rest left more cut h.
+    last_left s before (g.W.Write.contents c.args.writer.now) print rest more c.args.is_last c.take.new.self c.if-is_last.true (cut.ended c.if-is_last.true)
+    (c.in-Ok.ensures s before (g.W.Write.contents c.args.writer.now) print (following 12 c.args.is_last more ++ rest) cut.plain
+    (piece_cut s before (g.W.Write.contents c.args.writer.now) print rest left c.args.first.now more c.args.is_last c.args.self.now cut h))
 
 pub returns-in-Ok-end_page : goal.returns-in-Ok-end_page
-returns-in-Ok-end_page g c = λ s before print rest left cut h.
-    from_page s before (g.W.Write.contents c.end_page.new.writer) print (c.args.part.rest.now ++ rest) c.end_page.new.self
-    (c.in-Ok-end_page.ensures.reached s before (pages print) (pages (c.args.part.rest.now ++ rest))
-    (page_left s before (g.W.Write.contents c.args.writer.now) print rest c.args.part.rest.now c.args.part.is_last c.take.new.self c.if-part.false
-    (c.in-Ok.ensures s before (g.W.Write.contents c.args.writer.now) print (following 12 c.args.part.is_last c.args.part.rest.now ++ rest) cut.plain
-    (piece_cut s before (g.W.Write.contents c.args.writer.now) print rest left c.args.part.first.now c.args.part.rest.now c.args.part.is_last c.args.self.now cut h))))
+returns-in-Ok-end_page g c = λ s before print rest left more cut h.
+    from_page s before (g.W.Write.contents c.end_page.new.writer) print (more ++ rest) c.end_page.new.self
+    (c.in-Ok-end_page.ensures.reached s before (pages print) (pages (more ++ rest))
+    (page_left s before (g.W.Write.contents c.args.writer.now) print rest more c.args.is_last c.take.new.self c.if-is_last.false
+    (c.in-Ok.ensures s before (g.W.Write.contents c.args.writer.now) print (following 12 c.args.is_last more ++ rest) cut.plain
+    (piece_cut s before (g.W.Write.contents c.args.writer.now) print rest left c.args.first.now more c.args.is_last c.args.self.now cut h))))
     c.in-Ok-end_page.ensures.empty
 
 pub returns-in-Err-end_page : goal.returns-in-Err-end_page
-returns-in-Err-end_page g c = λ s before print rest left cut h.
-    c.in-Err-end_page.ensures.reached s before (pages print) (pages (c.args.part.rest.now ++ rest))
-    (page_left s before (g.W.Write.contents c.args.writer.now) print rest c.args.part.rest.now c.args.part.is_last c.take.new.self c.if-part.false
-    (c.in-Ok.ensures s before (g.W.Write.contents c.args.writer.now) print (following 12 c.args.part.is_last c.args.part.rest.now ++ rest) cut.plain
-    (piece_cut s before (g.W.Write.contents c.args.writer.now) print rest left c.args.part.first.now c.args.part.rest.now c.args.part.is_last c.args.self.now cut h)))
+returns-in-Err-end_page g c = λ s before print rest left more cut h.
+    c.in-Err-end_page.ensures.reached s before (pages print) (pages (more ++ rest))
+    (page_left s before (g.W.Write.contents c.args.writer.now) print rest more c.args.is_last c.take.new.self c.if-is_last.false
+    (c.in-Ok.ensures s before (g.W.Write.contents c.args.writer.now) print (following 12 c.args.is_last more ++ rest) cut.plain
+    (piece_cut s before (g.W.Write.contents c.args.writer.now) print rest left c.args.first.now more c.args.is_last c.args.self.now cut h)))
