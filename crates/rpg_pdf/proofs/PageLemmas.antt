@@ -1,5 +1,5 @@
 -- Strikes and lines, one after another.
-use Rattle.std.proofs.Common.{◌≡◌, ◌==◌, ◌+◌, ◌-◌, ◌<◌, ◌≤◌, ℕ, zero, suc, Bool, true, false, List, [], ◌∷◌, ◌++◌, length, take, get_or, refl, sym, ap, ◌∙◌, arith, append_assoc, append-nil, Option, None, Some, Ok, Err}
+use Rattle.std.proofs.Common.{◌≡◌, ◌==◌, ◌+◌, ◌-◌, ◌<◌, ◌≤◌, ℕ, zero, suc, Bool, true, false, List, [], ◌∷◌, ◌++◌, length, take, get_or, refl, sym, ap, ◌∙◌, arith, append_assoc, append-nil, Option, None, Some, Ok}
 use Rattle.std.proofs.lemmas.List.{flat_map_more, take_all, take_more}
 use Rattle.std.proofs.lemmas.List.Splits.{length-slice_split}
 use Rattle.std.proofs.lemmas.List.Sums.{count_by-le-length}
@@ -10,8 +10,6 @@ use Rattle.rpg_pdf.specs.Contents.{Shows, bar_text, bars_text, escaped, escaped_
 use Rattle.rpg_pdf.specs.Objects.{entry, kid, kids}
 use Rattle.rpg_pdf.specs.Pages.{IsCut, line_feed_parts, parts_after, strikes}
 use Rattle.rpg_pdf.specs.declared.fault.PageFault.{PageFault}
-use Rattle.rpg_pdf.specs.declared.fault.PageStop.{PageStop}
-use Rattle.rpg_pdf.specs.declared.fault.PageStop.TheVariants as stops
 
 -- ---- texts that grow
 
@@ -77,13 +75,9 @@ parts_last end text first rest is_last cut e = cut.parts ∙ ap (λ l. first ∷
 
 -- ---- faults
 
--- a part without a fault, and one with a fault
+-- a part without a fault
 none_first : (one later whole : Option PageFault) → whole ≡ first_of one later → one ≡ None → whole ≡ later
 none_first one later whole e none = e ∙ ap (λ f. first_of f later) none
-
-stop_first : {X : Type 0} (one later whole : Option PageFault) (a b u v x y : List ℕ) (stop : PageStop) → whole ≡ first_of one later → Shows {X = X} one a u v (Err stop) → Shows {X = X} whole b x y (Err stop)
-stop_first one later whole a b u v x y (stops.Fault found) e some = e ∙ ap (λ f. first_of f later) some
-stop_first one later whole a b u v x y stops.NoMemory e some = tt
 
 -- ---- strikes
 
@@ -105,11 +99,6 @@ strikes_last s line k text start old new rest first more is_last x cut e faults 
       none_first (strike_fault s line first) None (strikes_fault s line (strikes text)) (faults ∙ ap (strikes_fault s line) parts) none,
       sym (put_more (start ++ strikes_text s line 0 (strikes text)) old new (strike_text s line k first) [] (whole ∙ ap (λ p. old ++ strikes_text s line k p) parts) is ∙ append-nil new),
     )
-
-pub strikes_stop : {X : Type 0} (s : Layout) (line : ℕ) (text rest first more : List ℕ) (is_last : Bool) (a b u v x y : List ℕ) (stop : PageStop) → IsCut 13 rest first more is_last
-    → strikes_fault s line (strikes text) ≡ strikes_fault s line (strikes rest) → Shows {X = X} (strike_fault s line first) a u v (Err stop) → Shows {X = X} (strikes_fault s line (strikes text)) b x y (Err stop)
-strikes_stop s line text rest first more is_last a b u v x y stop cut faults shows =
-    stop_first (strike_fault s line first) (strikes_fault s line (parts_after 13 is_last more)) (strikes_fault s line (strikes text)) a b u v x y stop (faults ∙ ap (strikes_fault s line) cut.parts) shows
 
 -- ---- lines
 
@@ -135,12 +124,6 @@ lines_last s line text start old new rest first more is_last x cut e faults whol
       none_first (strikes_fault s line (strikes first)) None (lines_fault s 0 (line_feed_parts text)) (faults ∙ ap (lines_fault s line) parts) none,
       sym (put_more (start ++ lines_text s 0 (line_feed_parts text)) old new (strikes_text s line 0 (strikes first)) [] (whole ∙ ap (λ p. old ++ lines_text s line p) parts) is ∙ append-nil new),
     )
-
-pub lines_stop : {X : Type 0} (s : Layout) (line : ℕ) (text rest first more : List ℕ) (is_last : Bool) (a b u v x y : List ℕ) (stop : PageStop) → IsCut 10 rest first more is_last
-    → lines_fault s 0 (line_feed_parts text) ≡ lines_fault s line (line_feed_parts rest) → Shows {X = X} (strikes_fault s line (strikes first)) a u v (Err stop)
-    → Shows {X = X} (lines_fault s 0 (line_feed_parts text)) b x y (Err stop)
-lines_stop s line text rest first more is_last a b u v x y stop cut faults shows =
-    stop_first (strikes_fault s line (strikes first)) (lines_fault s (line + 1) (parts_after 10 is_last more)) (lines_fault s 0 (line_feed_parts text)) a b u v x y stop (faults ∙ ap (lines_fault s line) cut.parts) shows
 
 -- ---- how many lines
 

@@ -108,7 +108,7 @@ fn put_strike(
 }
 
 /// Appends the strikes of a line.
-#[tactic(auto, using(crate::proofs::PageLemmas::strikes_last, crate::proofs::PageLemmas::strikes_stop, crate::proofs::PageLemmas::strikes_no_fault, crate::proofs::PageLemmas::strikes_more, crate::proofs::PageLemmas::rest_shorter))]
+#[tactic(auto, using(crate::proofs::PageLemmas::strikes_last, crate::proofs::PageLemmas::strikes_no_fault, crate::proofs::PageLemmas::strikes_more, crate::proofs::PageLemmas::rest_shorter))]
 fn put_line(sheet: &Sheet, line: u32, text: &[u8], out: &mut Vec<u8>) -> Result<(), PageStop>
     requires line { line < 112 }
     ensures { Shows (strikes_fault (layout_of sheet.now) line (strikes text.now)) (strikes_text (layout_of sheet.now) line 0 (strikes text.now)) out.old.items out.new.items result }
@@ -130,7 +130,7 @@ fn put_line(sheet: &Sheet, line: u32, text: &[u8], out: &mut Vec<u8>) -> Result<
 }
 
 /// Appends the lines of a page.
-#[tactic(auto, using(crate::proofs::PageLemmas::lines_last, crate::proofs::PageLemmas::lines_stop, crate::proofs::PageLemmas::lines_no_fault, crate::proofs::PageLemmas::lines_more, crate::proofs::PageLemmas::lines_counted, crate::proofs::PageLemmas::rest_shorter))]
+#[tactic(auto, using(crate::proofs::PageLemmas::lines_last, crate::proofs::PageLemmas::lines_no_fault, crate::proofs::PageLemmas::lines_more, crate::proofs::PageLemmas::lines_counted, crate::proofs::PageLemmas::rest_shorter))]
 fn put_lines(sheet: &Sheet, text: &[u8], out: &mut Vec<u8>) -> Result<(), PageStop>
     requires { length (line_feed_parts text.now) ≤ 112 }
     ensures { Shows (lines_fault (layout_of sheet.now) 0 (line_feed_parts text.now)) (lines_text (layout_of sheet.now) 0 (line_feed_parts text.now)) out.old.items out.new.items result }
