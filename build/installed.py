@@ -22,7 +22,7 @@ CHOICES = re.compile(r"\[possible values: ([^\]]+)\]")
 CODE = re.compile(r"^## ([A-Z]\d+):", re.MULTILINE)
 
 # What the values of options and arguments that aren't here are: names of files.
-NOT_FILES = {"N", "XX", "CODE", "DATE", "FORMAT", "NAME", "NAME=FILE", "00000000"}
+NOT_FILES = {"N", "XX", "CODE", "DATE", "FORMAT", "FORM", "NAME", "NAMES", "C", "NAME=FILE", "00000000"}
 # Options that may be given several times.
 MANY = {"allow", "deny", "table"}
 # The words of --date that aren't digits.
@@ -114,19 +114,28 @@ DESCRIPTION = """\
 .SH DESCRIPTION
 .B rpg2
 compiles column-sheet RPG II sources to object programs, verifies object programs from any origin, and runs them over files of records.
-A record is a line of text. Each command ends with one line on standard output; diagnostics go to standard error.
+A record is a line of text. Each command but help ends with one line, its answer: on standard output, or on standard error if standard
+output has the print. With \\-q there is none if the exit status is 0. Diagnostics go to standard error.
 """
 
 AFTER = """\
+.SH ENVIRONMENT
+.TP
+\\fBNO_COLOR\\fR
+If it is set and not empty, marks in diagnostics have no colour.
+.TP
+\\fBTZ\\fR
+The time zone of the days that \\-\\-date today names.
 .SH EXAMPLES
 .nf
 rpg2 compile stock.rpg stock.obj
 rpg2 run stock.obj stock.txt stock.print --date today
+rpg2 paper stock.print stock.pdf
 sort stock.txt | rpg2 run stock.obj - - --date 112376 | lp
 rpg2 explain F16
 .fi
 .SH SEE ALSO
-The pages in docs/ of Melguda: START, FITS, OLD_PROGRAMS, COMMANDS, LANGUAGE, EDITING, MESSAGES.
+The pages in share/doc/rpg2/docs: START, TUTORIAL, LANGUAGE, EDITING, COMMANDS, MESSAGES, OPERATING, FITS, OLD_PROGRAMS, TRUST, UNTRUSTED.
 """
 
 

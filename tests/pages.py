@@ -14,7 +14,7 @@ from pathlib import Path
 INSTALLED = ("README.md", "CHANGELOG.md", "CONTRIBUTING.md", "docs", "examples")
 PAGES = [Path(it) for it in INSTALLED if it.endswith(".md")] + [it for part in ("docs", "examples") for it in sorted(Path(part).rglob("*.md"))]
 OTHERS = [Path("tests/README.md"), Path("install/README.md"), *sorted(Path("crates").glob("*/README.md"))]
-LONG = {"MESSAGES.md": 3000, "LANGUAGE.md": 700}
+LONG = {"MESSAGES.md": 2500, "LANGUAGE.md": 700}
 FENCED = re.compile(r"^```.*?^```$", re.MULTILINE | re.DOTALL)
 LINK = re.compile(r"\[[^\]]+\]\(([^)#\s]*)(?:#([^)\s]+))?\)")
 HEADING = re.compile(r"^#+ (.+)$", re.MULTILINE)

@@ -30,6 +30,7 @@ import fits
 import installed
 import lay_out
 import objects
+import papers
 import sessions
 import shops
 from case_file import Run, lines_in, runs_in
@@ -117,6 +118,8 @@ def jobs_of(program: Program, word: str) -> Iterable[Job]:
         yield from shops.jobs_of(program, HERE / "shops")
     if word in "editors":
         yield from editors.jobs_of(program)
+    if word in "papers":
+        yield from papers.jobs_of(program)
     if word in "installed":
         yield partial(installed_files, program)
     if word in "rows":

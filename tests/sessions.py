@@ -14,6 +14,7 @@ from datetime import datetime, timedelta
 from pathlib import Path
 from typing import IO
 
+import messages
 from case_file import hex_of, lines_in, text_of
 from outcome import Outcome
 from program import SECONDS, Limits, Program
@@ -297,9 +298,9 @@ class Session:
         return f"{self.path(name).read_bytes()[int(place)]}\n".encode()
 
     def do_pages(self, name: str) -> bytes:
-        """Whether a file begins with what `rpg2 explain` prints, and goes on with another part."""
-        pages = self.program.run(["explain"], self.folder).text
-        is_same = self.path(name).read_bytes().startswith(pages + b"# ")
+        """Whether a file begins with what build/messages.py makes of what `rpg2 explain` prints, and goes on with another part."""
+        pages = messages.page_of(self.program.run(["explain"], self.folder).text.decode())
+        is_same = self.path(name).read_text(encoding="utf-8").startswith(f"{pages}\n{messages.SECOND_PART}\n")
         return b"the pages of all codes\n" if is_same else b"another text\n"
 
 

@@ -4,6 +4,7 @@ ghost use Rattle.rpg_cli_reports.specs.Saying.{PrintsALine};
 
 use rpg_cli_answers::{Answer, CommandStop, Listener, Reasons};
 use rpg_cli_conversions::{fit_file, records_file};
+use rpg_cli_paper::paper_file;
 use rpg_cli_programs::{cards_file, check_files, compile_files, list_file, show_file, verify_file};
 use rpg_cli_reports::{
     Outlet, StandardError, StandardStreams, conclude, explain, refuse, report_unwritten, say,
@@ -34,6 +35,7 @@ fn answer_to<R: Clock + Env + Files + Input + Print + AllocGlobal, L: Listener>(
         CommandName::Show => show_file(rt, request, listener),
         CommandName::Run => run_files(rt, request, listener),
         CommandName::Go => go_files(rt, request, listener),
+        CommandName::Paper => paper_file(rt, request, listener),
         CommandName::Explain => explain(rt.alloc(), request, listener),
     }
 }

@@ -99,6 +99,10 @@ refused_row_text row = refused_place row ++ codes ": refused"
 abbrev pub refused_card_text : ℕ → ℕ → List ℕ
 refused_card_text card rule = codes "card " ++ decimal card ++ codes ": A" ++ decimal rule
 
+-- the page of a print that is rejected
+abbrev pub refused_page_text : ℕ → List ℕ
+refused_page_text page = codes "page " ++ decimal page ++ codes ": refused"
+
 -- the line that a command prints about its result
 abbrev pub line_text : Answer → List ℕ
 line_text answer.Compiled = codes "compiled"
@@ -127,6 +131,8 @@ line_text (answer.RowRefused number) = refused_row_text number
 line_text (answer.Fitted changes) = codes "changes " ++ decimal changes
 line_text (answer.FitRefused card rule) = refused_card_text card rule
 line_text (answer.NewDeck fault) = codes "new " ++ source_fault_text fault
+line_text (answer.Paper pages) = codes "pages " ++ decimal pages
+line_text (answer.PageRefused page) = refused_page_text page
 line_text answer.NoSuchCode = codes "no such code"
 line_text answer.NoMemory = codes "no memory"
 
@@ -183,6 +189,8 @@ exit_status (answer.RecordRefused number) = 3
 exit_status (answer.RowRefused number) = 3
 exit_status (answer.Fitted changes) = 0
 exit_status (answer.FitRefused card rule) = 3
+exit_status (answer.Paper pages) = 0
+exit_status (answer.PageRefused page) = 3
 exit_status (answer.NewDeck fault) = source_status fault
 exit_status answer.NoSuchCode = 2
 exit_status answer.NoMemory = 1

@@ -109,6 +109,14 @@ pub enum Answer {
     },
     /// An old deck was rewritten, and the new deck has a fault.
     NewDeck(SourceFault),
+    /// A print was put on sheets, one for each page.
+    Paper {
+        pages: u32,
+    },
+    /// A page of a print is rejected: its number, from 1.
+    PageRefused {
+        page: u32,
+    },
     /// There is no such code.
     NoSuchCode,
     NoMemory,

@@ -223,6 +223,16 @@ fn put_refused_card(text: &mut Text, card: u64, rule: u8)
     put_short_number(text, rule);
 }
 
+/// Writes the page of a print that is rejected.
+fn put_refused_page(text: &mut Text, page: u32)
+    requires { array_vec_len text.old ≤ 4 }
+    ensures { text.new.items ≡ text.old.items ++ answers.refused_page_text page }
+{
+    put(text, b"page ");
+    put_number(text, u64::from(page));
+    put(text, b": refused");
+}
+
 fn object_status(fault: ObjectFault) -> u8
     ensures { result ≡ answers.object_status fault }
 {
@@ -262,7 +272,8 @@ fn exit_status(answer: &Answer) -> u8
         | Answer::Explained
         | Answer::Deck
         | Answer::Records { .. }
-        | Answer::Fitted { .. } => 0,
+        | Answer::Fitted { .. }
+        | Answer::Paper { .. } => 0,
         Answer::Ended(report) => ending_status(report.ending),
         Answer::Unsorted { .. } => 5,
         Answer::Checked { status, .. } => status,
@@ -274,7 +285,8 @@ fn exit_status(answer: &Answer) -> u8
         | Answer::DeckRefused { .. }
         | Answer::RecordRefused { .. }
         | Answer::RowRefused(_)
-        | Answer::FitRefused { .. } => 3,
+        | Answer::FitRefused { .. }
+        | Answer::PageRefused { .. } => 3,
         Answer::Source(SourceFault::NoMemory) | Answer::NewDeck(SourceFault::NoMemory) => 1,
         Answer::Object(fault) => object_status(fault),
         Answer::DiskFileWanted
@@ -349,6 +361,11 @@ pub fn line(answer: &Answer) -> Line
             put_number(&mut text, changes);
         }
         Answer::FitRefused { card, rule } => put_refused_card(&mut text, card, rule),
+        Answer::Paper { pages } => {
+            put(&mut text, b"pages ");
+            put_number(&mut text, u64::from(pages));
+        }
+        Answer::PageRefused { page } => put_refused_page(&mut text, page),
         Answer::NewDeck(fault) => {
             put(&mut text, b"new ");
             put_source_fault(&mut text, fault);

@@ -16,7 +16,8 @@ verify: OBJ format quiet: Verifies the object program OBJ, and prints the most s
 explain: CODE list: Explains codes, such as F16, S5, V21, B5 or halt 4, or all of them
 show: OBJ source rows format: Shows what the object program OBJ reads, writes and needs, or its rows
 run: OBJ INPUT PRINT date secondary disk most most-bytes keep source trace trace-record watch sorted format quiet: Runs the object program OBJ over the records of INPUT, and prints to PRINT
-go: SRC INPUT PRINT.go date secondary disk most most-bytes keep.go trace trace-record watch sorted allowance faults deny allow format quiet: Compiles the source SRC and runs it over the records of INPUT";
+go: SRC INPUT PRINT.go date secondary disk most most-bytes keep.go trace trace-record watch sorted allowance faults deny allow format quiet: Compiles the source SRC and runs it over the records of INPUT
+paper: PRINT.paper PDF form length.paper columns.paper bars format quiet: Puts each page of PRINT on a sheet of paper, as a PDF";
 
 /// The arguments: the key, what the argument takes, and its help text. The key is the argument's name; if arguments of two commands share a
 /// name, a dot and another name follow.
@@ -38,6 +39,8 @@ go: SRC INPUT PRINT.go date secondary disk most most-bytes keep.go trace trace-r
 /// | `N` | how many lines: a number from 0 on, 20 by default |
 /// | `B` | a number that may be large |
 /// | `L` | the length of a record: 1 to 9,999 |
+/// | `G`, `J` | the lines of a page, 1 to 112, and its columns, 20 to 198: 66 and 132 by default |
+/// | `H` | a form of paper, `a4` by default |
 /// | `D` | a form of diagnostics, `text` by default |
 /// | `C` | the code of a warning, several times |
 /// | `K` | the same, after `=`; or nothing, for all codes |
@@ -52,6 +55,8 @@ OBJ.new U!output Where the object program goes; it replaces nothing but an objec
 output O=OBJ Where the object program goes, in place of OBJ
 INPUT R The records; - is standard input
 PRINT R Where the printed lines go; - is standard output, and the answer's line then goes to standard error
+PRINT.paper R What run or go printed; - is standard input
+PDF R Where the PDF goes
 PRINT.go P Where the printed lines go; standard output if it isn't given
 IN R The records; - is standard input
 OUT R Where the lines go; with --to, IN has the lines and the records go here
@@ -72,6 +77,10 @@ csv F!to IN is rows of comma-separated values: OUT has the lines that the deck r
 to-csv F!to IN is lines of the file: OUT has a row of comma-separated values for each
 file V=NAME The file of the deck, if it isn't the primary one
 length L=N How many bytes a record has, if 24-27 of the F card don't say so
+length.paper G=N How many lines a page has: 1 to 112
+form H=FORM The paper; fanfold is 14 by 11 inches
+columns.paper J=N How many columns a line has: 20 to 198
+bars F Puts green bars behind the lines, three in six
 rdw F!lines Each record follows its record descriptor word
 lines F Each record is a line
 ascii F Characters are ASCII, not code page 037
@@ -89,15 +98,15 @@ switches V=00000000 A digit for each of U1 to U8: 1 if the job was run with it o
 forms F No form gets more lines than its L card has
 printer V=NAME Of several printers the one whose deck NEW is
 list F!CODE Prints a line for each code
-source V=SRC The source of OBJ, whose names and cards are shown
+source V=SRC The source of OBJ: shows its names and cards
 rows F Prints all rows of the object program
 date V=DATE The date: six digits, or today (month, day, year), today-dmy or today-ymd; only for a program that uses it
 secondary V=FILE The records of a secondary file
 disk V=FILE Where the records of a disk file go
 most B=N Rejects a program if a cycle may take more than N steps
 most-bytes B=N Ends a job that would write more than N bytes to PRINT and the disk file together
-keep F Keeps the old PRINT and disk file until the job has ended well
-keep.go F Is the default: keeps the old PRINT and disk file until the job has ended well
+keep F Keeps the old PRINT and disk file until the job has ended successfully
+keep.go F Is the default: keeps the old PRINT and disk file until the job has ended successfully
 trace V=N Reports the first N cycles one by one, or those from N to M with N-M: records, indicators, lines and fields
 trace-record B=N Reports the cycle of record N
 watch F Reports control fields that go down, and counts records and lines
@@ -105,6 +114,9 @@ sorted F Ends with status 5 if a control field goes down, as in an input that is
 
 /// The forms of diagnostics, as arguments.
 const FORMATS: &[&str] = &["text", "json"];
+
+/// The forms of paper, as arguments.
+const PAPERS: &[&str] = &["a4", "letter", "fanfold"];
 
 /// The codes of warnings that may be allowed.
 const WARNING_CODES: &[&str] = &[
@@ -237,6 +249,9 @@ impl Argument {
             b'A' => ValueParser::Signed(1, 65_535),
             b'N' => ValueParser::Signed(0, 65_535),
             b'L' => ValueParser::Signed(1, 9_999),
+            b'G' => ValueParser::Signed(1, 112),
+            b'J' => ValueParser::Signed(20, 198),
+            b'H' => ValueParser::Names(PAPERS),
             b'B' => ValueParser::Unsigned(0, u64::MAX),
             b'D' => ValueParser::Names(FORMATS),
             b'C' => ValueParser::Names(WARNING_CODES),
@@ -252,6 +267,9 @@ impl Argument {
             b'A' => &["1000"],
             b'N' => &["20"],
             b'D' => &["text"],
+            b'G' => &["66"],
+            b'J' => &["132"],
+            b'H' => &["a4"],
             _ => &[],
         }
     }

@@ -15,6 +15,7 @@ const FILES: &str = ". OBJ '<OBJ>' can't be '-', a standard stream; a file of th
 . to '--to <SRC>' can't be '-', a standard stream; a file of that name is './-'
 records OUT '<OUT>' must be a file: what went to standard output can't be taken back
 records deck '--deck <NEW>' must be a file: what went to standard output can't be taken back
+paper PDF '<PDF>' must be a file: what went to standard output can't be taken back
 fit SRC '<SRC>' can't be '-', a standard stream; a file of that name is './-'";
 
 /// Returns the message for a file that is a standard stream and can't be.
@@ -65,7 +66,10 @@ fn is_bad_trace(given: &ArgMatches<'_>) -> bool {
 pub(crate) fn bad_value(matches: &ArgMatches<'_>) -> Option<&'static str> {
     let (command, given) = matches.subcommand()?;
     let file = bad_file(command, given);
-    let rows = bad_rows(given);
+    let rows = match command {
+        "records" => bad_rows(given),
+        _ => None,
+    };
     match (given.get_str("drop"), given.get_str("switches")) {
         _ if file.is_some() => file,
         _ if rows.is_some() => rows,

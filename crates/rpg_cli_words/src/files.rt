@@ -25,6 +25,9 @@ pub enum FileArgument {
     NewDeck,
     /// The rewritten form of an old deck.
     Fitted,
+    /// The print that `paper` puts on sheets.
+    Printed,
+    Pdf,
     /// The records of a table file, by its place among those that the arguments name.
     Table(usize),
 }
@@ -37,7 +40,8 @@ impl FileArgument {
             FileArgument::Object => "OBJ",
             FileArgument::Input => "INPUT",
             FileArgument::Secondary => "--secondary FILE",
-            FileArgument::Print => "PRINT",
+            FileArgument::Print | FileArgument::Printed => "PRINT",
+            FileArgument::Pdf => "PDF",
             FileArgument::Disk => "--disk FILE",
             FileArgument::OwnSource => "--source SRC",
             FileArgument::By => "--by SRC",
@@ -57,7 +61,8 @@ impl FileArgument {
             FileArgument::Object => "<OBJ>",
             FileArgument::Input => "<INPUT>",
             FileArgument::Secondary => "--secondary <FILE>",
-            FileArgument::Print => "<PRINT>",
+            FileArgument::Print | FileArgument::Printed => "<PRINT>",
+            FileArgument::Pdf => "<PDF>",
             FileArgument::Disk => "--disk <FILE>",
             FileArgument::OwnSource => "--source <SRC>",
             FileArgument::In => "<IN>",
@@ -117,12 +122,12 @@ impl<'a> Request<'a> {
         match argument {
             FileArgument::Source => self.sources.first().copied(),
             FileArgument::Object => self.object,
-            FileArgument::Input | FileArgument::In => self.input,
+            FileArgument::Input | FileArgument::In | FileArgument::Printed => self.input,
             FileArgument::Secondary => self.secondary,
             FileArgument::Print => self.print,
             FileArgument::Disk => self.disk,
             FileArgument::OwnSource => self.own_source,
-            FileArgument::Out => self.output,
+            FileArgument::Out | FileArgument::Pdf => self.output,
             FileArgument::By | FileArgument::To => self.deck,
             FileArgument::NewDeck | FileArgument::Fitted => self.new_deck,
             FileArgument::Table(place) => Some(self.tables.get(place)?.path),

@@ -8,6 +8,7 @@ mod files;
 mod joined;
 mod options;
 mod outputs;
+mod paper;
 mod refusal;
 mod request;
 mod rows;
@@ -19,6 +20,7 @@ pub use options::{
     TableArgument, WarningArguments,
 };
 pub use outputs::{Existing, Unreplaced, may_replace};
+pub use paper::{PaperArgument, PaperArguments};
 pub use refusal::{Refusal, refuse_bytes, refuse_same_file, refuse_unreplaced};
 pub use request::{CommandName, Request, request_of};
 pub use rows::{RowArguments, RowsWay};

@@ -9,6 +9,7 @@ use crate::options::{
     AnswerArguments, CardsWanted, LookArguments, RecordFraming, RecordsWay, TableArgument,
     WarningArguments,
 };
+use crate::paper::PaperArguments;
 use crate::refusal::{Refusal, unread};
 use crate::rows::RowArguments;
 use clap::ArgMatches;
@@ -29,6 +30,7 @@ pub enum CommandName {
     Run,
     Go,
     Explain,
+    Paper,
 }
 
 impl CommandName {
@@ -45,6 +47,7 @@ impl CommandName {
             "show" => CommandName::Show,
             "run" => CommandName::Run,
             "go" => CommandName::Go,
+            "paper" => CommandName::Paper,
             _ => CommandName::Explain,
         }
     }
@@ -52,6 +55,23 @@ impl CommandName {
     /// Returns where printed lines go if the arguments don't say so.
     fn default_print(self) -> Option<&'static str> {
         (self == CommandName::Go).then_some("-")
+    }
+
+    /// Returns the argument that names its records or, of `paper`, its print.
+    fn input(self) -> &'static str {
+        match self {
+            CommandName::Records => "IN",
+            CommandName::Paper => "PRINT",
+            _ => "INPUT",
+        }
+    }
+
+    /// Returns PRINT, if the command writes it.
+    fn print<'a>(self, given: &ArgMatches<'a>) -> Option<&'a str> {
+        match self {
+            CommandName::Paper => None,
+            _ => given.get_str("PRINT").or(self.default_print()),
+        }
     }
 }
 
@@ -62,7 +82,7 @@ pub struct Request<'a> {
     /// SRC; `check` may have several.
     pub sources: Vec<&'a str>,
     pub object: Option<&'a str>,
-    /// INPUT, or IN of `records`.
+    /// INPUT, or IN of `records`, or PRINT of `paper`.
     pub input: Option<&'a str>,
     pub print: Option<&'a str>,
     pub date: Option<DateArgument<'a>>,
@@ -84,8 +104,9 @@ pub struct Request<'a> {
     pub cards: CardsWanted,
     /// Whether `show` prints all rows: if the arguments ask for them, or name the source, whose names appear in them.
     pub rows: bool,
-    /// OUT of `records`.
+    /// OUT of `records`, or PDF of `paper`.
     pub output: Option<&'a str>,
+    pub paper: PaperArguments,
     /// The deck that describes the records, and the direction.
     pub deck: Option<&'a str>,
     pub way: RecordsWay,
@@ -201,8 +222,8 @@ fn request_with<'a>(command: CommandName, given: &ArgMatches<'a>, lists: Lists<'
         command,
         sources: lists.sources,
         object: given.get_str("OBJ").or(given.get_str("output")),
-        input: given.get_str("INPUT").or(given.get_str("IN")),
-        print: given.get_str("PRINT").or(command.default_print()),
+        input: given.get_str(command.input()),
+        print: command.print(given),
         date: given.get_str("date").map(DateArgument::of),
         secondary: given.get_str("secondary"),
         disk: given.get_str("disk"),
@@ -216,7 +237,8 @@ fn request_with<'a>(command: CommandName, given: &ArgMatches<'a>, lists: Lists<'
         answer: AnswerArguments::of(given),
         cards: CardsWanted::of(given),
         rows: given.get_flag("rows") || own_source.is_some(),
-        output: given.get_str("OUT"),
+        output: given.get_str("OUT").or(given.get_str("PDF")),
+        paper: PaperArguments::of(given),
         deck,
         way,
         file_name: given.get_str("file"),
