@@ -13,7 +13,7 @@ use rpg_cli_messages::{is_object, object_message};
 use rpg_cli_words::{
     FileArgument, RecordFraming, RecordsWay, Request, SameFile, Shared, is_standard,
 };
-use rpg_record_decks::{DeckArguments, DeckFault, fitted_deck, layout_of};
+use rpg_record_decks::{DeckArguments, DeckFault, fitted_deck, layout_changes, layout_of};
 use rpg_record_lines::{
     ConversionFault, Counts, Framing, Layout, Page, RecordFormat, lines_to_records,
     records_to_lines,
@@ -312,7 +312,10 @@ fn write_deck<R: Files + Print + AllocGlobal>(
     if let Opened::Nothing = opened {
         return Ok(());
     }
-    let Ok(text) = fitted_deck(rt.alloc(), deck.source, deck.layout) else {
+    let Ok(changes) = layout_changes(rt.alloc(), deck.layout) else {
+        return Err(Answer::NoMemory);
+    };
+    let Ok(text) = fitted_deck(rt.alloc(), deck.source, changes.as_slice()) else {
         return Err(Answer::NoMemory);
     };
     named(FileArgument::NewDeck, opened.empty())?;
