@@ -16,7 +16,7 @@ use rpg_cli_words::{
 };
 use rpg_csv_columns::FileFields;
 use rpg_files::Counted;
-use rpg_record_decks::{DeckArguments, DeckFault, fitted_deck, layout_of};
+use rpg_record_decks::{DeckArguments, DeckFault, fitted_deck, layout_changes, layout_of};
 use rpg_record_lines::{
     ConversionFault, Counts, Framing, Layout, Page, RecordFormat, lines_to_records,
     records_to_lines,
@@ -360,7 +360,10 @@ fn write_deck<R: Files + Print + AllocGlobal>(
     if let Opened::Nothing = opened {
         return Ok(());
     }
-    let Ok(text) = fitted_deck(rt.alloc(), deck.source, deck.layout) else {
+    let Ok(changes) = layout_changes(rt.alloc(), deck.layout) else {
+        return Err(Answer::NoMemory);
+    };
+    let Ok(text) = fitted_deck(rt.alloc(), deck.source, changes.as_slice()) else {
         return Err(Answer::NoMemory);
     };
     named(FileArgument::NewDeck, opened.empty())?;

@@ -5,7 +5,7 @@ use rpg_cli_text::TextWriter;
 use rpg_cli_words::RecordsWay;
 use rpg_record_decks::{CardFault, DeckFault};
 use rpg_record_lines::{NumberFault, RecordFault};
-use rpg_text::is_blank;
+use rpg_text::{is_blank, trimmed};
 use std::alloc::{AllocError, Global};
 
 /// The hexadecimal digits.
@@ -49,9 +49,53 @@ fn write_card_fault(out: &mut TextWriter, fault: CardFault) {
             write_count(out, sentence, columns)
         }
         CardFault::NoType => out.write_str("the file has no record type on the I cards"),
+        CardFault::NoLine => out.write_str("the file has no line on the O cards"),
         CardFault::BytesInLines => out.write_str(
             "with --lines no field may be packed or binary: its bytes could end a line",
         ),
+        fault => write_output_fault(out, fault),
+    }
+}
+
+/// Writes what is wrong with an output field.
+fn write_output_fault(out: &mut TextWriter, fault: CardFault) {
+    match fault {
+        CardFault::Edited => {
+            out.write_str("a packed or binary field has neither an edit code nor a word")
+        }
+        CardFault::Unnamed => {
+            out.write_str("a packed or binary field is a number that has a name")
+        }
+        CardFault::NoLength { name } => out.fill(
+            "no card says how many digits {} has",
+            &[trimmed(&name).into()],
+        ),
+        CardFault::BinaryDigits => out.write_str("a binary field has at most 9 digits"),
+        CardFault::BeforeRecord { bytes } => out.fill(
+            "the field's {} bytes would begin before column 1",
+            &[bytes.into()],
+        ),
+        CardFault::AfterRecord { end } => {
+            out.fill("the end position {} isn't in the record", &[end.into()])
+        }
+        CardFault::Overlapping {
+            first,
+            last,
+            one,
+            other,
+        } => out.fill(
+            "columns {} to {} have what cards {} and {} put there, one of them packed or binary",
+            &[first.into(), last.into(), one.into(), other.into()],
+        ),
+        CardFault::Alike { one, other } => out.fill(
+            "the packed fields of the lines of cards {} and {} differ, and no constant tells one line from the other",
+            &[one.into(), other.into()],
+        ),
+        CardFault::NotRead { first, last } => out.fill(
+            "no I card reads columns {} to {} as packed or binary, or their digits have several places",
+            &[first.into(), last.into()],
+        ),
+        _ => {}
     }
 }
 

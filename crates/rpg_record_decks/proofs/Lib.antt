@@ -4,6 +4,6 @@ mod FileLemmas
 mod FittedLemmas
 mod KindLemmas
 mod LayoutLemmas
-mod OutcomeLemmas
+pub mod OutcomeLemmas
 pub mod SeenLemmas
-mod TypeLemmas
+pub mod TypeLemmas

@@ -7,7 +7,7 @@ use Rattle.rpg_records.specs.declared.layout.NumberField.{NumberField}
 use Rattle.rpg_record_decks.proofs.OutcomeLemmas.{fault_onto, fault_then, onto-onto}
 use Rattle.rpg_record_decks.specs.Outcomes.{IsDeckFaultOf, and_then, at_card, onto}
 use Rattle.rpg_record_decks.specs.Reading.{type_read}
-use Rattle.rpg_record_decks.specs.Types.{TypeRead, cards_of_file, input_spec_of, is_input_card, is_of_file, type_after, type_before, types_read_after}
+use Rattle.rpg_record_decks.specs.Types.{TypeRead, cards_of_file, input_spec_of, is_on_sheet, is_of_file, type_after, type_before, types_read_after}
 use Rattle.rpg_record_decks.specs.declared.deck.DeckCard.{DeckCard}
 use Rattle.rpg_record_decks.specs.declared.fault.CardFault.{CardFault}
 use Rattle.rpg_record_decks.specs.declared.fault.DeckFault.{DeckFault}
@@ -53,19 +53,19 @@ type_refused length now held c cs spec done fault e g h =
 
 -- ---- which cards are the file's
 
-pub cards_other : (name : List ℕ) (before : Bool) (c : DeckCard) (cs : List DeckCard) → is_input_card c.card ≡ false → cards_of_file name before (c ∷ cs) ≡ cards_of_file name before cs
-cards_other name before c cs e = rw e refl
+pub cards_other : (sheet name : List ℕ) (before : Bool) (c : DeckCard) (cs : List DeckCard) → is_on_sheet sheet c.card ≡ false → cards_of_file sheet name before (c ∷ cs) ≡ cards_of_file sheet name before cs
+cards_other sheet name before c cs e = rw e refl
 
-pub cards_left_out : (name : List ℕ) (before : Bool) (c : DeckCard) (cs : List DeckCard) → is_input_card c.card ≡ true → is_of_file name before c.card ≡ false
-    → cards_of_file name before (c ∷ cs) ≡ cards_of_file name false cs
-cards_left_out name before c cs e f = rw (e, f) refl
+pub cards_left_out : (sheet name : List ℕ) (before : Bool) (c : DeckCard) (cs : List DeckCard) → is_on_sheet sheet c.card ≡ true → is_of_file name before c.card ≡ false
+    → cards_of_file sheet name before (c ∷ cs) ≡ cards_of_file sheet name false cs
+cards_left_out sheet name before c cs e f = rw (e, f) refl
 
-pub cards_next : (name : List ℕ) (before : Bool) (c : DeckCard) (cs : List DeckCard) → is_input_card c.card ≡ true → is_of_file name before c.card ≡ true
-    → cards_of_file name before (c ∷ cs) ≡ c ∷ cards_of_file name true cs
-cards_next name before c cs e f = rw (e, f) refl
+pub cards_next : (sheet name : List ℕ) (before : Bool) (c : DeckCard) (cs : List DeckCard) → is_on_sheet sheet c.card ≡ true → is_of_file name before c.card ≡ true
+    → cards_of_file sheet name before (c ∷ cs) ≡ c ∷ cards_of_file sheet name true cs
+cards_next sheet name before c cs e f = rw (e, f) refl
 
 -- the next card, where it is the file's
-pub card_next : (name : List ℕ) (before : Bool) (cards : List DeckCard) (i : ℕ) (c : DeckCard) → i < length cards → c ≡ get_or cards i c → is_input_card c.card ≡ true → is_of_file name before c.card ≡ true
-    → cards_of_file name before (drop i cards) ≡ c ∷ cards_of_file name true (drop (i + 1) cards)
-card_next name before cards i c h e p q =
-    at_drop_more (cards_of_file name before) cards i c h ∙ ap (λ (x : DeckCard). cards_of_file name before (x ∷ drop (i + 1) cards)) (sym e) ∙ cards_next name before c (drop (i + 1) cards) p q
+pub card_next : (sheet name : List ℕ) (before : Bool) (cards : List DeckCard) (i : ℕ) (c : DeckCard) → i < length cards → c ≡ get_or cards i c → is_on_sheet sheet c.card ≡ true → is_of_file name before c.card ≡ true
+    → cards_of_file sheet name before (drop i cards) ≡ c ∷ cards_of_file sheet name true (drop (i + 1) cards)
+card_next sheet name before cards i c h e p q =
+    at_drop_more (cards_of_file sheet name before) cards i c h ∙ ap (λ (x : DeckCard). cards_of_file sheet name before (x ∷ drop (i + 1) cards)) (sym e) ∙ cards_next sheet name before c (drop (i + 1) cards) p q

@@ -1,5 +1,5 @@
 -- The layout of the records of a deck's file.
-use Rattle.std.specs.Prelude.{ℕ, List, [], ◌∷◌, length, map, nat_lt, Bool, false, true, Option, Some, None, find, option_copied, Result, Ok, Err, if◌then◌else◌}
+use Rattle.std.specs.Prelude.{ℕ, List, [], ◌∷◌, length, map, nat_lt, Bool, false, true, codes, Option, Some, None, find, option_copied, Result, Ok, Err, if◌then◌else◌}
 use Rattle.std.specs.List.{flat_map}
 use Rattle.rpg_records.specs.Seen.{LayoutSeen, NumberSeen, columns_seen}
 use Rattle.rpg_record_decks.specs.Cards.{cards_of}
@@ -43,7 +43,7 @@ some_types card (t ∷ ts) = Ok (t ∷ ts)
 -- the layout of a file with this record length, by all cards of the deck
 abbrev pub layout_for : Bool → DeckCard → List DeckCard → ℕ → Result LayoutSeen DeckFault
 layout_for are_lines file cards length =
-    and_then (types_read length (cards_of_file (file_name file.card) false cards)) (λ types.
+    and_then (types_read length (cards_of_file (codes "I") (file_name file.card) false cards)) (λ types.
     and_then (some_types file.number types) (λ types.
     and_then (framed are_lines types) (λ types. narrow (layout_with file.number length types))))
 

@@ -4,14 +4,14 @@ use Rattle.std.specs.List.{list_any}
 use Rattle.std.specs.Option.{option_to_list}
 use Rattle.std.specs.Str.{bytes_eq}
 use Rattle.rpg_sheet_specs.specs.Columns.{cols}
-use Rattle.rpg_sheet_specs.specs.Tables.{input_card, is_and_card}
+use Rattle.rpg_sheet_specs.specs.Tables.{input_card}
 use Rattle.rpg_sheet_specs.specs.Values.{one_of}
 use Rattle.rpg_sheet_specs.specs.declared.indicator.Three.{Three}
 use Rattle.rpg_sheet_specs.specs.declared.input.InputFieldSpec.{InputFieldSpec}
 use Rattle.rpg_sheet_specs.specs.declared.input.InputSpec.{InputSpec}
 use Rattle.rpg_sheet_specs.specs.declared.input.InputSpec.TheVariants as input
 use Rattle.rpg_sheet_specs.specs.declared.input.RecordCode.{RecordCode}
-use Rattle.rpg_text.specs.Texts.{is_between}
+use Rattle.rpg_text.specs.Texts.{all_blank, is_between}
 use Rattle.rpg_records.specs.Fields.{is_field_size}
 use Rattle.rpg_records.specs.Seen.{NumberSeen}
 use Rattle.rpg_records.specs.declared.layout.Code.{Code}
@@ -26,33 +26,37 @@ use Rattle.rpg_record_decks.specs.declared.fault.CardFault.TheVariants as faults
 use Rattle.rpg_record_decks.specs.declared.fault.DeckFault.{DeckFault}
 use Rattle.rpg_record_decks.specs.declared.fields.FieldColumns.{FieldColumns}
 
--- ---- the I cards of a file
+-- ---- the cards of a file
 
--- an I card
-abbrev pub is_input_card : List ℕ → Bool
-is_input_card card = bytes_eq (cols 6 6 card) (codes "I")
+-- a card of this sheet
+abbrev pub is_on_sheet : List ℕ → List ℕ → Bool
+is_on_sheet sheet card = bytes_eq (cols 6 6 card) sheet
 
--- whether an I card is one of the file of this name: AND cards and cards without a name are if the card before them is
+-- AND and OR cards go on with the card before them
+abbrev pub goes_on : List ℕ → Bool
+goes_on card = all_blank (cols 7 13 card) && (bytes_eq (cols 14 16 card) (codes "AND") || bytes_eq (cols 14 15 card) (codes "OR"))
+
+-- whether an I or an O card is one of the file of this name: those that go on and cards without a name are if the card before them is
 abbrev pub is_of_file : List ℕ → Bool → List ℕ → Bool
-is_of_file name before card = if is_and_card card || length (file_name card) == 0 then before else bytes_eq (file_name card) name
+is_of_file name before card = if goes_on card || length (file_name card) == 0 then before else bytes_eq (file_name card) name
 
--- the I cards of the file of this name, after one that is its or not
-abbrev pub cards_of_file : List ℕ → Bool → List DeckCard → List DeckCard
-cards_of_file name before [] = []
-cards_of_file name before (c ∷ cs) =
-    if not (is_input_card c.card) then cards_of_file name before cs
-    else if is_of_file name before c.card then c ∷ cards_of_file name true cs
-    else cards_of_file name false cs
+-- the cards of a sheet, I or O, of the file of this name, after one that is its or not
+abbrev pub cards_of_file : List ℕ → List ℕ → Bool → List DeckCard → List DeckCard
+cards_of_file sheet name before [] = []
+cards_of_file sheet name before (c ∷ cs) =
+    if not (is_on_sheet sheet c.card) then cards_of_file sheet name before cs
+    else if is_of_file name before c.card then c ∷ cards_of_file sheet name true cs
+    else cards_of_file sheet name false cs
 
 -- ---- the meaning of such a card
 
--- P or B in 43: the bytes of the card's field are a number
-abbrev pub number_form_on : List ℕ → Option NumberForm
-number_form_on card = one_of ((codes "P", forms.Packed) ∷ (codes "B", forms.Binary) ∷ []) (cols 43 43 card)
+-- P or B in this column, 43 of I and 44 of O: the bytes of the card's field are a number
+abbrev pub number_form_on : ℕ → List ℕ → Option NumberForm
+number_form_on column card = one_of ((codes "P", forms.Packed) ∷ (codes "B", forms.Binary) ∷ []) (cols column column card)
 
 -- the meaning of an I card: rpg2 reads it with a blank instead of P or B
 abbrev pub input_spec_of : List ℕ → Result InputSpec CardFault
-input_spec_of card = or_columns (input_card.reading (if is_some (number_form_on card) then with_columns 43 (32 ∷ []) card else card))
+input_spec_of card = or_columns (input_card.reading (if is_some (number_form_on 43 card) then with_columns 43 (32 ∷ []) card else card))
 
 -- ---- a record type
 
@@ -149,7 +153,7 @@ abbrev pub type_after : ℕ → Option TypeRead → DeckCard → InputSpec → R
 type_after length now c (input.Type t) = with_codes length (new_type c.number) t.codes
 type_after length now c (input.And three) = and_type length now three
 type_after length now c (input.Field f) =
-    if is_inside length (field_columns (number_form_on c.card) f) then field_type c.number now (field_columns (number_form_on c.card) f) else Err faults.Outside
+    if is_inside length (field_columns (number_form_on 43 c.card) f) then field_type c.number now (field_columns (number_form_on 43 c.card) f) else Err faults.Outside
 
 -- the type that a card ends
 abbrev pub type_before : Option TypeRead → InputSpec → List TypeRead

@@ -25,7 +25,7 @@ pub struct DeckArguments<'a> {
 
 /// A card of a deck with its number, from 1.
 #[derive(Drop)]
-pub(crate) struct DeckCard {
+pub struct DeckCard {
     pub number: u16,
     pub card: Card,
 }
@@ -71,7 +71,7 @@ fn ends_cards(card: &Card) -> bool
 
 /// Returns the cards of a deck before its data and its end, without comments.
 #[tactic(auto, using(crate::proofs::CardLemmas::cards_end, crate::proofs::CardLemmas::cards_refused, crate::proofs::CardLemmas::cards_last, crate::proofs::CardLemmas::cards_skipped, crate::proofs::CardLemmas::cards_next))]
-pub(crate) fn deck_cards(alloc: Global, source: &[u8]) -> Result<Vec<DeckCard>, DeckFault>
+pub fn deck_cards(alloc: Global, source: &[u8]) -> Result<Vec<DeckCard>, DeckFault>
     ensures cards { IfOk result (λ cards. cards_of source.now ≡ Ok cards.items) }
     ensures fault { IfErr result (IsDeckFaultOf (cards_of source.now)) }
 {

@@ -17,7 +17,10 @@ pub enum CardFault {
     /// It is card 2,001.
     TooMany,
     /// These columns have a bad value.
-    Columns { first: u8, last: u8 },
+    Columns {
+        first: u8,
+        last: u8,
+    },
     /// The length of a record isn't 1 to 9,999.
     Length,
     /// The columns aren't in the record.
@@ -27,13 +30,54 @@ pub enum CardFault {
     /// A packed or binary field has no decimals.
     NoDecimals,
     /// A column belongs to characters, and also to a packed or binary field.
-    Shared { card: u16 },
+    Shared {
+        card: u16,
+    },
     /// The longest line would have more than 9,999 columns.
-    Wide { columns: usize },
+    Wide {
+        columns: usize,
+    },
     /// The file has no record type.
     NoType,
+    /// The output file has no line.
+    NoLine,
     /// Records are lines, but a field is packed or binary.
     BytesInLines,
+    /// A packed or binary output field has an edit code or an edit word.
+    Edited,
+    /// A packed or binary output field isn't a number with a name.
+    Unnamed,
+    /// No card says how long an output field is.
+    NoLength {
+        name: [u8; 6],
+    },
+    /// A binary output field has more than 9 digits.
+    BinaryDigits,
+    /// The bytes of an output field would begin before column 1.
+    BeforeRecord {
+        bytes: u16,
+    },
+    /// An output field ends after its record.
+    AfterRecord {
+        end: u16,
+    },
+    /// Two output fields, one of them packed or binary, share columns.
+    Overlapping {
+        first: u16,
+        last: u16,
+        one: u16,
+        other: u16,
+    },
+    /// The packed and binary fields of two lines differ, and no constant distinguishes the lines.
+    Alike {
+        one: u16,
+        other: u16,
+    },
+    /// An updated record has no packed or binary field in these columns, or has its digits in different places.
+    NotRead {
+        first: u16,
+        last: u16,
+    },
 }
 
 /// Why a deck has no layout.
@@ -47,7 +91,7 @@ pub enum DeckFault {
 }
 
 impl DeckFault {
-    pub(crate) fn at(number: u16, fault: CardFault) -> Self
+    pub fn at(number: u16, fault: CardFault) -> Self
         ensures { result ≡ Card number fault }
     {
         DeckFault::Card { number, fault }
@@ -77,7 +121,7 @@ impl<T: Drop> From<AllocFailed<T>> for DeckFault {
 }
 
 /// Returns the fault for columns of a card that rpg2 rejects.
-pub(crate) fn bad_columns(number: u16, fault: ColumnFault) -> DeckFault
+pub fn bad_columns(number: u16, fault: ColumnFault) -> DeckFault
     ensures { result ≡ Card number (Columns fault.column fault.last) }
 {
     let (first, last) = (fault.column, fault.last);

@@ -1,27 +1,38 @@
-//! The deck that reads the lines.
+//! The deck that reads the lines, and changes of cards.
 
-ghost use Rattle.std.specs.Prelude.{◌≡◌, ◌<◌, ◌∷◌, ◌++◌, drop, find, IfOk, IfSome, length, map, OnOk, position, Some, ◌==◌, ◌≤◌};
+ghost use Rattle.std.specs.Prelude.{◌≡◌, ◌<◌, ◌++◌, ◌∷◌, [], drop, find, IfOk, IfSome, length, map, OnOk, option_copied, position, ◌==◌};
 ghost use Rattle.std.specs.Str.Lines.{strip_carriage_return};
 ghost use Rattle.rpg_text.specs.Lines.{is_line_feed};
 ghost use Rattle.rpg_records.specs.Seen.{layout_seen, number_seen};
-ghost use Rattle.rpg_record_decks.specs.Edits.{number_columns, with_columns};
-ghost use Rattle.rpg_record_decks.specs.Fitted.{all_digit_columns, change_of, changed, digit_columns_after, fitted};
+ghost use Rattle.rpg_record_decks.specs.Edits.{with_columns};
+ghost use Rattle.rpg_record_decks.specs.Fitted.{all_digit_columns, changed, digit_columns_after, digits_change, fitted, layout_changes, length_change, with_change};
 
-use crate::columns::{number_columns, with_columns};
+use crate::edits::{number_columns, with_columns};
 use rpg_records::{Layout, NumberField};
-use rpg_sheet::MOST_CARDS;
+use rpg_sheet::Word;
 use std::alloc::{AllocError, Global};
 
 /// The columns of a field's digits, from 1.
 #[derive(Clone, Copy)]
-pub(crate) struct DigitColumns {
-    card: u16,
-    first: usize,
-    last: usize,
+pub struct DigitColumns {
+    /// The card of the field.
+    pub card: u16,
+    pub first: usize,
+    pub last: usize,
+}
+
+/// A text that takes the place of columns of a card.
+#[derive(Drop)]
+pub struct CardChange {
+    /// The number of the card, from 1.
+    pub card: u16,
+    /// The first of the columns.
+    pub first: u8,
+    pub text: Word<9>,
 }
 
 /// Adds the columns of the digits of a type's fields, which follow a record of `length` bytes.
-fn add_digits(
+pub fn add_digits(
     all: &mut Vec<DigitColumns>,
     length: u16,
     numbers: &[NumberField],
@@ -42,7 +53,7 @@ fn add_digits(
 }
 
 /// Returns the columns of the digits of all packed and binary fields.
-fn all_digits(alloc: Global, layout: &Layout) -> Result<Vec<DigitColumns>, AllocError>
+pub fn all_digits(alloc: Global, layout: &Layout) -> Result<Vec<DigitColumns>, AllocError>
     ensures { IfOk result (λ all. all.items ≡ all_digit_columns (layout_seen layout.now)) }
 {
     let mut all = Vec::new(alloc);
@@ -52,27 +63,64 @@ fn all_digits(alloc: Global, layout: &Layout) -> Result<Vec<DigitColumns>, Alloc
     Ok(all)
 }
 
-/// Returns the first digits whose field is on the card with this number.
-fn find_digits(all: &[DigitColumns], number: usize) -> Option<DigitColumns>
-    ensures { result ≡ find (λ d. d.card == number) all.now }
+/// Returns the change of a file's card: how many columns its longest line has.
+pub fn length_change(card: u16, columns: usize) -> CardChange
+    ensures { result ≡ length_change card columns }
 {
-    for digits in all {
-        if usize::from(digits.card) == number {
-            return Some(*digits);
-        }
+    CardChange {
+        card,
+        first: 24,
+        text: Word::new(&number_columns(columns)),
     }
-    None
 }
 
-/// Returns a blank, and the columns of a field's digits.
-fn digits_text(digits: DigitColumns) -> [u8; 9]
-    ensures { result ≡ 32 ∷ number_columns digits.first ++ number_columns digits.last }
+/// Returns the change of a field's I card: a blank instead of P or B, and the columns of its digits.
+fn digits_change(digits: &DigitColumns) -> CardChange
+    ensures { result ≡ digits_change digits.now }
 {
     let first = number_columns(digits.first);
     let last = number_columns(digits.last);
-    [
-        b' ', first[0], first[1], first[2], first[3], last[0], last[1], last[2], last[3],
-    ]
+    CardChange {
+        card: digits.card,
+        first: 43,
+        text: Word::new(&[
+            b' ', first[0], first[1], first[2], first[3], last[0], last[1], last[2], last[3],
+        ]),
+    }
+}
+
+/// Adds the changes of the I cards of fields, given their digits.
+fn add_changes(changes: &mut Vec<CardChange>, all: &[DigitColumns]) -> Result<(), AllocError>
+    ensures { OnOk result (changes.new.items ≡ changes.old.items ++ map digits_change all.now) }
+{
+    for digits in all {
+        changes.push(digits_change(digits))?;
+    }
+    Ok(())
+}
+
+/// Returns the changes of the cards of a layout in the deck that reads its lines.
+#[tactic(auto, using(crate::proofs::SeenLemmas::columns_are_seen))]
+pub fn layout_changes(alloc: Global, layout: &Layout) -> Result<Vec<CardChange>, AllocError>
+    ensures { IfOk result (λ changes. changes.items ≡ layout_changes (layout_seen layout.now)) }
+{
+    let all = all_digits(alloc, layout)?;
+    let mut changes = Vec::new(alloc);
+    changes.push(length_change(layout.card, layout.columns()))?;
+    add_changes(&mut changes, all.as_slice())?;
+    Ok(changes)
+}
+
+/// Returns the first change of the card with this number.
+fn change_on(changes: &[CardChange], number: usize) -> Option<&CardChange>
+    ensures { option_copied result ≡ find (λ c. c.card == number) changes.now }
+{
+    for change in changes {
+        if usize::from(change.card) == number {
+            return Some(change);
+        }
+    }
+    None
 }
 
 /// Returns a line without a carriage return at its end.
@@ -85,19 +133,17 @@ fn without_return(line: &[u8]) -> &[u8]
     }
 }
 
-/// Appends a line with a text in its columns, from the first of these on. A carriage return at its end stays.
+/// Appends a line with a change. A carriage return at its end stays.
 fn add_changed(
     alloc: Global,
     deck: &mut Vec<u8>,
     line: &[u8],
-    first: u8,
-    text: &[u8],
+    change: &CardChange,
 ) -> Result<(), AllocError>
-    requires { 1 ≤ first }
-    ensures { OnOk result (deck.new.items ≡ deck.old.items ++ changed (Some (record { first = first; text = text.now })) line.now) }
+    ensures { OnOk result (deck.new.items ≡ deck.old.items ++ with_change change.now line.now) }
 {
     let card = without_return(line);
-    let changed = with_columns(alloc, card, first, text)?;
+    let changed = with_columns(alloc, card, change.first, change.text.as_slice())?;
     deck.extend_from_slice(changed.as_slice())?;
     if card.len() < line.len() {
         deck.extend_from_slice(&line[card.len()..])?;
@@ -109,22 +155,14 @@ fn add_changed(
 fn add_line(
     alloc: Global,
     deck: &mut Vec<u8>,
-    layout: &Layout,
-    all: &[DigitColumns],
+    changes: &[CardChange],
     number: usize,
     line: &[u8],
 ) -> Result<(), AllocError>
-    requires { all.now ≡ all_digit_columns (layout_seen layout.now) }
-    ensures { OnOk result (deck.new.items ≡ deck.old.items ++ changed (change_of (layout_seen layout.now) number) line.now) }
+    ensures { OnOk result (deck.new.items ≡ deck.old.items ++ changed (find (λ c. c.card == number) changes.now) line.now) }
 {
-    if number > usize::from(MOST_CARDS) {
-        return deck.extend_from_slice(line);
-    }
-    if number == usize::from(layout.card) {
-        return add_changed(alloc, deck, line, 24, &number_columns(layout.columns()));
-    }
-    match find_digits(all, number) {
-        Some(digits) => add_changed(alloc, deck, line, 43, &digits_text(digits)),
+    match change_on(changes, number) {
+        Some(change) => add_changed(alloc, deck, line, change),
         None => deck.extend_from_slice(line),
     }
 }
@@ -137,31 +175,24 @@ fn line_feed(text: &[u8]) -> Option<usize>
     text.iter().position(|byte| *byte == b'\n')
 }
 
-/// Returns the deck that reads the lines of a layout.
-///
-/// The card of its file has the length of the longest line, and those of packed and binary fields have the columns of the digits. All else
-/// is unchanged.
+/// Returns the deck with these changes of its cards. All else is unchanged.
 #[tactic(auto, using(crate::proofs::FittedLemmas::last_fitted))]
-pub fn fitted_deck(alloc: Global, source: &[u8], layout: &Layout) -> Result<Vec<u8>, AllocError>
-    ensures { IfOk result (λ deck. deck.items ≡ fitted (layout_seen layout.now) source.now) }
+pub fn fitted_deck(
+    alloc: Global,
+    source: &[u8],
+    changes: &[CardChange],
+) -> Result<Vec<u8>, AllocError>
+    ensures { IfOk result (λ deck. deck.items ≡ fitted changes.now source.now) }
 {
-    let all = all_digits(alloc, layout)?;
     let mut deck = Vec::new(alloc);
     let mut number = 1usize;
     let mut rest = source;
     while let Some(end) = line_feed(rest) {
-        add_line(
-            alloc,
-            &mut deck,
-            layout,
-            all.as_slice(),
-            number,
-            &rest[..end],
-        )?;
+        add_line(alloc, &mut deck, changes, number, &rest[..end])?;
         deck.push(b'\n')?;
         number += 1;
         rest = &rest[end + 1..];
     }
-    add_line(alloc, &mut deck, layout, all.as_slice(), number, rest)?;
+    add_line(alloc, &mut deck, changes, number, rest)?;
     Ok(deck)
 }

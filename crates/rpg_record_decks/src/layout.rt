@@ -8,8 +8,8 @@ ghost use Rattle.rpg_record_decks.specs.Outcomes.{IsDeckFaultOf, and_then};
 ghost use Rattle.rpg_record_decks.specs.Reading.{type_read};
 ghost use Rattle.rpg_record_decks.specs.Types.{TypeRead};
 
-use crate::columns::file_name;
 use crate::deck::{DeckArguments, DeckCard, deck_cards};
+use crate::edits::file_name;
 use crate::fault::{CardFault, DeckFault};
 use crate::file::{file_length, find_file};
 use crate::kinds::{code_columns, record_type};
@@ -18,7 +18,7 @@ use rpg_records::Layout;
 use std::alloc::{AllocError, Global};
 
 /// The most columns of a line.
-const MOST_COLUMNS: usize = 9_999;
+pub const MOST_COLUMNS: usize = 9_999;
 
 /// Checks that no field is packed or binary.
 fn refuse_numbers(types: &[TypeCards]) -> Result<(), DeckFault>
@@ -65,7 +65,7 @@ fn lay_out(alloc: Global, card: u16, length: u16, types: &[TypeCards]) -> Result
 
 /// Checks that the lines of a layout aren't too long.
 #[tactic(auto, using(crate::proofs::SeenLemmas::columns_are_seen))]
-fn narrow(layout: Layout) -> Result<Layout, DeckFault>
+pub fn narrow(layout: Layout) -> Result<Layout, DeckFault>
     ensures layout { IfOk result (λ same. narrow (layout_seen layout) ≡ Ok (layout_seen same)) }
     ensures fault { IfErr result (λ fault. narrow (layout_seen layout) ≡ Err fault) }
 {
@@ -110,7 +110,7 @@ fn layout_of_file(
 
 /// Returns the layout of the records of the file to use.
 #[tactic(auto, using(crate::proofs::LayoutLemmas::no_file, crate::proofs::LayoutLemmas::file_found))]
-fn layout_by_cards(
+pub fn layout_by_cards(
     alloc: Global,
     words: DeckArguments,
     cards: &[DeckCard],

@@ -2,8 +2,8 @@
 //! lines.
 #![tactic(auto)]
 
-mod columns;
 mod deck;
+mod edits;
 mod fault;
 mod fields;
 mod file;
@@ -12,7 +12,12 @@ mod kinds;
 mod layout;
 mod types;
 
-pub use deck::DeckArguments;
-pub use fault::{CardFault, DeckFault};
-pub use fitted::fitted_deck;
-pub use layout::layout_of;
+pub use deck::{DeckArguments, DeckCard, deck_cards};
+pub use edits::{changed_card, columns, file_name, number_columns};
+pub use fault::{CardFault, DeckFault, bad_columns};
+pub use file::{file_length, find_file, is_read};
+pub use fitted::{
+    CardChange, DigitColumns, add_digits, all_digits, fitted_deck, layout_changes, length_change,
+};
+pub use layout::{MOST_COLUMNS, layout_by_cards, layout_of, narrow};
+pub use types::{form_of, is_of_file, is_on_sheet};

@@ -6,14 +6,14 @@ ghost use Rattle.rpg_sheet_specs.specs.Tables.{input_card};
 ghost use Rattle.rpg_record_decks.specs.Files.{or_columns};
 ghost use Rattle.rpg_record_decks.specs.Outcomes.{IsDeckFaultOf, at_card, onto};
 ghost use Rattle.rpg_record_decks.specs.Reading.{GoOnAlike, all_types, type_now, type_read, types_done};
-ghost use Rattle.rpg_record_decks.specs.Types.{cards_of_file, field_type, number_form_on, input_spec_of, is_input_card, is_of_file, new_type, type_after, type_before, types_read_after, types_read, with_code, with_codes, with_columns_of, with_type_field, with_three};
+ghost use Rattle.rpg_record_decks.specs.Types.{cards_of_file, field_type, number_form_on, input_spec_of, is_of_file, is_on_sheet, new_type, type_after, type_before, types_read_after, types_read, with_code, with_codes, with_columns_of, with_type_field, with_three};
 ghost use Rattle.rpg_sheet_specs.specs.declared.input.InputSpec.TheVariants as inputs;
 ghost use Rattle.rpg_record_decks.specs.declared.deck.DeckCard.{DeckCard};
 ghost use Rattle.rpg_record_decks.specs.declared.fault.CardFault.TheVariants as card_faults;
 ghost use Rattle.rpg_record_decks.specs.declared.fault.DeckFault.TheVariants as faults;
 
-use crate::columns::{changed_card, columns, file_name};
 use crate::deck::DeckCard;
+use crate::edits::{changed_card, columns, file_name};
 use crate::fault::{CardFault, DeckFault, bad_columns};
 use crate::fields::{FieldColumns, field_columns, number_field};
 use rpg_records::{Code, NumberField, NumberForm};
@@ -23,31 +23,35 @@ use std::alloc::{AllocError, Global};
 
 // ---- I cards
 
-/// Whether a card is an I card.
-fn is_input_card(card: &Card) -> bool
-    ensures { result ≡ is_input_card card.now }
+/// Whether a card is of this sheet.
+pub fn is_on_sheet(sheet: &[u8], card: &Card) -> bool
+    ensures { result ≡ is_on_sheet sheet.now card.now }
 {
-    columns(card, 6, 6) == b"I".as_slice()
+    columns(card, 6, 6) == sheet
 }
 
-/// Whether an I card belongs to the file with this name, given whether the previous I card does.
-fn is_of_file(card: &Card, name: &[u8], before: bool) -> bool
+/// Whether an I or an O card belongs to the file with this name, given whether the previous card of its sheet does.
+pub fn is_of_file(card: &Card, name: &[u8], before: bool) -> bool
     ensures { result ≡ is_of_file name.now before card.now }
 {
-    let is_and = is_blank(columns(card, 7, 13)) && columns(card, 14, 16) == b"AND".as_slice();
+    let goes_on = is_blank(columns(card, 7, 13))
+        && (columns(card, 14, 16) == b"AND".as_slice()
+            || columns(card, 14, 15) == b"OR".as_slice());
     let file = file_name(card);
-    if is_and || file.is_empty() {
+    if goes_on || file.is_empty() {
         before
     } else {
         file == name
     }
 }
 
-/// Returns the format of a packed or binary field's bytes; None for characters.
-fn form_of(card: &Card) -> Option<NumberForm>
-    ensures { result ≡ number_form_on card.now }
+/// Returns the format of a packed or binary field's bytes, which is in this column; None for characters.
+pub fn form_of(column: u8, card: &Card) -> Option<NumberForm>
+    requires counted { 1 ≤ column }
+    requires within { column ≤ 80 }
+    ensures { result ≡ number_form_on column card.now }
 {
-    let form = columns(card, 43, 43);
+    let form = columns(card, column, column);
     if form == b"P".as_slice() {
         Some(NumberForm::Packed)
     } else if form == b"B".as_slice() {
@@ -72,7 +76,7 @@ fn input_of(alloc: Global, card: &DeckCard) -> Result<InputSpec, DeckFault>
     ensures input { IfOk result (λ spec. at_card card.now.number (input_spec_of card.now.card) ≡ Ok spec) }
     ensures fault { IfErr result (IsDeckFaultOf (at_card card.now.number (input_spec_of card.now.card))) }
 {
-    if form_of(&card.card).is_some() {
+    if form_of(43, &card.card).is_some() {
         let plain = changed_card(alloc, &card.card, 43, b" ")?;
         return read_input(card.number, &plain);
     }
@@ -220,7 +224,7 @@ fn field_type(
     ensures type_is { IfOk result (λ t. type_after length (option_map type_read now) card.now (inputs.Field field.now) ≡ Ok (type_read t)) }
     ensures fault { IfErr result (IsDeckFaultOf (at_card card.now.number (type_after length (option_map type_read now) card.now (inputs.Field field.now)))) }
 {
-    let columns = field_columns(form_of(&card.card), field);
+    let columns = field_columns(form_of(43, &card.card), field);
     if !columns.is_inside(length) {
         return Err(DeckFault::at(card.number, CardFault::Outside));
     }
@@ -328,8 +332,8 @@ pub(crate) fn read_types(
     name: &[u8],
     cards: &[DeckCard],
 ) -> Result<Vec<TypeCards>, DeckFault>
-    ensures types { IfOk result (λ types. types_read length (cards_of_file name.now false cards.now) ≡ Ok (map type_read types.items)) }
-    ensures fault { IfErr result (IsDeckFaultOf (types_read length (cards_of_file name.now false cards.now))) }
+    ensures types { IfOk result (λ types. types_read length (cards_of_file (codes "I") name.now false cards.now) ≡ Ok (map type_read types.items)) }
+    ensures fault { IfErr result (IsDeckFaultOf (types_read length (cards_of_file (codes "I") name.now false cards.now))) }
 {
     let mut types = Types {
         done: Vec::new(alloc),
@@ -337,7 +341,7 @@ pub(crate) fn read_types(
     };
     let mut is_meant = false;
     for card in cards {
-        if !is_input_card(&card.card) {
+        if !is_on_sheet(b"I", &card.card) {
             continue;
         }
         is_meant = is_of_file(&card.card, name, is_meant);

@@ -1,7 +1,7 @@
 //! The layout of a file's records.
 
-ghost use Rattle.std.specs.Prelude.{◌≡◌, ◌+◌, ◌-◌, ◌≤◌, IsTrue};
-ghost use Rattle.rpg_records.specs.Fields.{digit_count, is_field_size};
+ghost use Rattle.std.specs.Prelude.{◌≡◌, ◌+◌, ◌-◌, ◌*◌, ◌≤◌, IsTrue};
+ghost use Rattle.rpg_records.specs.Fields.{digit_count, is_field_size, is_same_form};
 
 use crate::column::Column;
 
@@ -20,6 +20,31 @@ impl NumberForm {
         match self {
             NumberForm::Packed => 1 <= bytes && bytes <= 8,
             NumberForm::Binary => bytes == 2 || bytes == 4,
+        }
+    }
+
+    /// Returns how many digits a field of this size has.
+    pub fn digit_count(self, bytes: usize) -> usize
+        requires low { 1 ≤ bytes }
+        requires high { bytes ≤ 65535 }
+        ensures value { result ≡ digit_count self bytes }
+        ensures few { result ≤ 2 * bytes + 9 }
+    {
+        match self {
+            NumberForm::Packed => bytes * 2 - 1,
+            NumberForm::Binary if bytes == 2 => 4,
+            NumberForm::Binary => 9,
+        }
+    }
+
+    /// Whether both are packed, or both binary.
+    pub fn is_same(self, other: NumberForm) -> bool
+        ensures { result ≡ is_same_form self other }
+    {
+        match (self, other) {
+            (NumberForm::Packed, NumberForm::Packed) => true,
+            (NumberForm::Binary, NumberForm::Binary) => true,
+            _ => false,
         }
     }
 }
@@ -55,11 +80,7 @@ impl NumberField {
         ensures low { 1 ≤ result }
         ensures high { result ≤ 15 }
     {
-        match self.form {
-            NumberForm::Packed => self.size() * 2 - 1,
-            NumberForm::Binary if self.size() == 2 => 4,
-            NumberForm::Binary => 9,
-        }
+        self.form.digit_count(self.size())
     }
 }
 

@@ -12,17 +12,18 @@ use rpg_text::trimmed;
 use std::alloc::{AllocError, Global};
 
 /// Returns the columns of a card from `first` to `last`, counted from 1.
-pub(crate) fn columns(card: &Card, first: u8, last: u8) -> &[u8]
+pub fn columns(card: &Card, first: u8, last: u8) -> &[u8]
     requires counted { 1 ≤ first }
     requires ordered { first ≤ last }
     requires within { last ≤ 80 }
-    ensures { result.now ≡ cols first last card.now }
+    ensures value { result.now ≡ cols first last card.now }
+    ensures long { length result.now ≡ last + 1 - first }
 {
     &card.as_slice()[usize::from(first) - 1..usize::from(last)]
 }
 
 /// Returns the name of a file on an F or an I card.
-pub(crate) fn file_name(card: &Card) -> &[u8]
+pub fn file_name(card: &Card) -> &[u8]
     ensures { result.now ≡ file_name card.now }
 {
     trimmed(columns(card, 7, 14))
@@ -42,7 +43,7 @@ fn digit_or_blank(number: usize, place: usize) -> u8
 }
 
 /// Returns the last four digits of a number, right-aligned in four columns.
-pub(crate) fn number_columns(number: usize) -> [u8; 4]
+pub fn number_columns(number: usize) -> [u8; 4]
     ensures value { result ≡ number_columns number }
     ensures characters { list_all is_character result ≡ true }
 {
@@ -100,10 +101,9 @@ pub(crate) fn with_columns(
     first: u8,
     text: &[u8],
 ) -> Result<Vec<u8>, AllocError>
-    requires { 1 ≤ first }
     ensures { IfOk result (λ changed. changed.items ≡ with_columns first text.now line.now) }
 {
-    let before = usize::from(first - 1);
+    let before = usize::from(first).saturating_sub(1);
     let mut changed = front(alloc, line, before)?;
     changed.extend_from_slice(text)?;
     changed.extend_from_slice(from_place(line, before + text.len()))?;
@@ -112,12 +112,7 @@ pub(crate) fn with_columns(
 
 /// Returns a card with a text in its columns, from the first of these on.
 #[tactic(auto, using(crate::proofs::EditLemmas::changed_length, crate::proofs::EditLemmas::changed_characters, crate::proofs::EditLemmas::full_card))]
-pub(crate) fn changed_card(
-    alloc: Global,
-    card: &Card,
-    first: u8,
-    text: &[u8],
-) -> Result<Card, AllocError>
+pub fn changed_card(alloc: Global, card: &Card, first: u8, text: &[u8]) -> Result<Card, AllocError>
     requires counted { 1 ≤ first }
     requires within { first - 1 + length text.now ≤ 80 }
     requires characters { list_all is_character text.now ≡ true }

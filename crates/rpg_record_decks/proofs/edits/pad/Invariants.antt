@@ -1,5 +1,5 @@
 use Rattle.std.proofs.Common.{◌≡◌, ◌≤◌, ◌-◌, ◌++◌, replicate, vec_len, ◌⊎◌}
-use Rattle.rpg_record_decks.proofs.columns.pad.Given as goal
+use Rattle.rpg_record_decks.proofs.edits.pad.Given as goal
 
 abbrev pub invariant-loop-text : goal.invariant-loop-text
 invariant-loop-text l = record {
