@@ -1,0 +1,2 @@
+-- The run of what the arguments name.
+pub mod Runnables
