@@ -119,8 +119,8 @@ def ending_of(line):
 
 def disk_file(text, told, file):
     """The records of a file of the old deck in the one disk file of the new one, and whether it is a new file for those that were read."""
-    new = dict(re.findall(r": A27: (\S+) is read, and (\S+) gets", told))
-    letters = dict(re.findall(r": A21: (\S+): the disk records that begin with (.)", told))
+    new = dict(re.findall(r": note: (\S+) is read, and (\S+) gets.* \[A27\]$", told, re.M))
+    letters = dict(re.findall(r": note: (\S+): the disk records that begin with (.).* \[A21\]$", told, re.M))
     letter = letters.get(new.get(file.name, file.name))
     if letter is None:
         return text, file.name in new

@@ -172,7 +172,7 @@ def shown_read(desk: Desk, call: Call) -> Outcome:
     """`read_zoned`: the number that a text of a record is; `= bad digit at 1` if a job halts, by its place in the text, counted from 0."""
     field = Operand(call.words[1], "0")
     printed = does(desk, [field], [], [card("O", _32="A", _40="  20")])[0]
-    bad = re.search(r"^halt 4,.* in column (\d+) isn't a digit$", printed, re.S | re.M)
+    bad = re.search(r"^halt 4,.* in column (\d+) isn't a digit \[halt 4\]$", printed, re.S | re.M)
     return call.told(f"bad digit at {int(bad[1]) - 1}" if bad else number_of(printed))
 
 
