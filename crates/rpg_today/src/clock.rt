@@ -67,15 +67,20 @@ fn date_in(instant: Timestamp, zone: TimeZone<'_>) -> Date {
     zone.to_datetime(instant).date()
 }
 
+/// Returns the date of the clock in the system's zone, if the database has it.
+fn date_by(system: &SystemTimeZone, zones: &TimeZoneDatabase, instant: Timestamp) -> Option<Date> {
+    let zone = system.time_zone(zones).ok()?;
+    Some(date_in(instant, zone))
+}
+
 /// Returns the date of the clock in the system's zone, or in UTC if the system has no zone.
 fn system_date<R: Env + Files + AllocGlobal>(rt: &R, instant: Timestamp) -> Date {
     let zones = zones(rt);
-    if let Ok(system) = SystemTimeZone::read(rt) {
-        if let Ok(zone) = system.time_zone(&zones) {
-            return date_in(instant, zone);
-        }
-    }
-    date_in(instant, TimeZone::UTC)
+    let known = match SystemTimeZone::read(rt) {
+        Ok(system) => date_by(&system, &zones, instant),
+        Err(_) => None,
+    };
+    known.unwrap_or(date_in(instant, TimeZone::UTC))
 }
 
 /// Returns the day of the system's clock in the system's zone, or in UTC if the system has no zone. None if the clock
