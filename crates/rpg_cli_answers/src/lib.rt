@@ -3,7 +3,7 @@
 
 mod answer;
 mod in_place;
-mod json;
+mod json_answer;
 mod objects;
 mod reading;
 mod sharing;
@@ -12,7 +12,7 @@ mod text;
 
 pub use answer::{Answer, Line, RefusedRow, named};
 pub use in_place::{file_at, file_of, report_in_place, report_placed};
-pub use json::json_line;
+pub use json_answer::json_line;
 pub use objects::source_object;
 pub use reading::{source_bytes, system_path};
 pub use rpg_cli_files::{Listener, remark_made, tell_all, tell_made};
