@@ -113,11 +113,11 @@ impl<R: Print + Eprint + AllocGlobal> StandardStreams<'_, R> {
     /// Prints the object that waits.
     fn pass_object(&mut self) {
         if let Some(mut out) = self.object.take() {
-            let ended = end_object(&mut out);
-            self.print_made(match ended {
+            let line = match end_object(&mut out) {
                 Ok(()) => line_of(out),
                 Err(error) => Err(error),
-            });
+            };
+            self.print_made(line);
         }
     }
 
@@ -244,11 +244,12 @@ impl<R: Print + Eprint + AllocGlobal> Listener for StandardStreams<'_, R> {
     }
 
     fn lose(&mut self) {
+        let text = match self.format {
+            Format::Text => LOST,
+            Format::Json => LOST_OBJECT,
+        };
         if !self.has_lost {
-            self.print(match self.format {
-                Format::Text => LOST,
-                Format::Json => LOST_OBJECT,
-            });
+            self.print(text);
         }
         self.has_lost = true;
     }
