@@ -11,10 +11,10 @@ returns-in-Some-clause-deck c =
     let same : i ≡ c.args.card - 1 = c.saturating_sub.ensures in
     let within : i < length slots = omega (arith, c.in-Some.ensures.variant.0 refl, editor.slots.ok.0) in
     on_ok c.report.result
-        (λ made. ap (deck_with editor.rule editor.end.items)
-            (slot_changed (with_remark c.args.remark) slots i c.in-Some.slot.now c.report.new.self within c.in-Some.ensures.value made
-            ∙ ap (λ (k : ℕ). changed_at (with_remark c.args.remark) k (places slots)) same))
-        c.report.ensures
+    (λ made. ap (deck_with editor.rule editor.end.items)
+    (slot_changed (with_remark c.args.remark) slots i c.in-Some.slot.now c.report.new.self within c.in-Some.ensures.value made
+    ∙ ap (λ (k : ℕ). changed_at (with_remark c.args.remark) k (places slots)) same))
+    c.report.ensures
 
 pub returns-in-None-clause-deck : goal.returns-in-None-clause-deck
 returns-in-None-clause-deck c =

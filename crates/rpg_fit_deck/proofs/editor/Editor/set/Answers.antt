@@ -9,8 +9,8 @@ returns-in-Some-clause-deck c =
     let slots = editor.slots.items in
     let within : c.args.at.slot < length slots = omega (arith, c.in-Some.ensures.variant.0 refl, editor.slots.ok.0) in
     on_ok c.set.result
-        (λ made. here_changed c.args.here c.args.at c.args.with editor.rule slots editor.end.items c.in-Some.slot.now c.set.new.self within c.in-Some.ensures.value made)
-        c.set.ensures
+    (λ made. here_changed c.args.here c.args.at c.args.with editor.rule slots editor.end.items c.in-Some.slot.now c.set.new.self within c.in-Some.ensures.value made)
+    c.set.ensures
 
 pub returns-in-None-clause-deck : goal.returns-in-None-clause-deck
 returns-in-None-clause-deck c =
