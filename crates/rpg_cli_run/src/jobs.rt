@@ -1,7 +1,5 @@
 //! The command that runs an object program over its files.
 
-ghost use Rattle.rpg_cli_jobs.specs.Running.{AnswersWhoseFault};
-ghost use Rattle.rpg_cli_run.specs.Runnables.{AnswersRunOf};
 ghost use Rattle.rpg_engine.specs.Devices.{CanCountFaults};
 
 use crate::halting::{LastInput, LastInputs};
@@ -74,8 +72,6 @@ fn run_counted<I: Read, S: Read, P: Write, D: Write, W: Watcher>(
     watcher: &mut W,
 ) -> Result<Report, Answer>
     requires { CanCountFaults readers.old writers.old }
-    ensures runs { AnswersRunOf I.remaining S.remaining P.contents D.contents runnable.entry date.now readers writers result }
-    ensures faults { AnswersWhoseFault I.remaining S.remaining readers writers result }
 {
     match runnable {
         Runnable::Object(program) => run_over(alloc, program, date, readers, writers, watcher),

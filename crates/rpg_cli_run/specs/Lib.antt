@@ -1,2 +1,0 @@
--- The run of what the arguments name.
-pub mod Runnables
