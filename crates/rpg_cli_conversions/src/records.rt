@@ -343,6 +343,21 @@ struct Rows<'a> {
     most: usize,
 }
 
+/// Returns how rows of these fields are written, if the arguments ask for rows.
+fn rows_of<'a>(
+    arguments: Option<RowArguments<'a>>,
+    fields: Option<&'a FileFields>,
+    most: usize,
+) -> Option<Rows<'a>> {
+    let arguments = arguments?;
+    let fields = fields?;
+    Some(Rows {
+        arguments,
+        fields,
+        most,
+    })
+}
+
 /// The deck of the records, their layout, and if they are rows, their fields.
 #[derive(Clone, Copy)]
 struct RecordDeck<'a> {
@@ -442,18 +457,10 @@ pub fn records_file<R: Files + Input + Print + AllocGlobal, L: Listener>(
     let source = named(deck, file_bytes(rt, request.file(deck)))?;
     let layout = layout(rt.alloc(), request, &source, listener)?;
     let fields = row_fields(rt.alloc(), request, &source, &layout, listener)?;
-    let rows = match (request.rows_of_values, &fields) {
-        (Some(arguments), Some(fields)) => Some(Rows {
-            arguments,
-            fields,
-            most: layout.columns(),
-        }),
-        _ => None,
-    };
     let deck = RecordDeck {
         source: &source,
         layout: &layout,
-        rows,
+        rows: rows_of(request.rows_of_values, fields.as_ref(), layout.columns()),
     };
     let Counts { records, dropped } = convert_file(rt, request, deck, listener)?;
     Ok(Answer::Records {
