@@ -45,10 +45,10 @@ impl LastInputs {
 }
 
 /// Reports a halt, with the record if that shows more.
-fn report_halted<L: Listener>(
+fn report_halted<'a, L: Listener>(
     alloc: Global,
-    request: &Request,
-    runnable: Runnable<'_>,
+    request: &Request<'a>,
+    runnable: Runnable<'a>,
     halted: HaltedCycle,
     inputs: &LastInputs,
     file: &HaltedFile,

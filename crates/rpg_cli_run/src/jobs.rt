@@ -18,6 +18,7 @@ use rpg_engine::{
     Halt, JobEnd, ObjectFault, Readers, Report, Verified, Watcher, Writers, decode_object,
 };
 use rpg_files::{Counted, LastLine};
+use rpg_meaning::CompiledSource;
 use std::alloc::Global;
 use std::cell::Cell;
 use std::fs::OpenFile;
@@ -38,6 +39,14 @@ impl<'a> Runnable<'a> {
         match self {
             Runnable::Object(program) => program,
             Runnable::Source(source) => source.compiled.program(),
+        }
+    }
+
+    /// Returns what runs, without its names.
+    pub fn running(self) -> Running<'a> {
+        match self {
+            Runnable::Object(program) => Running::Program(program),
+            Runnable::Source(source) => Running::Source(&source.compiled),
         }
     }
 
@@ -62,10 +71,17 @@ impl<'a> Runnable<'a> {
     }
 }
 
+/// What runs.
+#[derive(Clone, Copy)]
+pub(crate) enum Running<'a> {
+    Program(&'a Verified),
+    Source(&'a CompiledSource),
+}
+
 /// Runs a program or a source over counted devices.
 fn run_counted<I: Read, S: Read, P: Write, D: Write, W: Watcher>(
     alloc: Global,
-    runnable: Runnable<'_>,
+    running: Running<'_>,
     date: &[u8],
     readers: &mut Readers<I, S>,
     writers: &mut Writers<P, D>,
@@ -73,11 +89,9 @@ fn run_counted<I: Read, S: Read, P: Write, D: Write, W: Watcher>(
 ) -> Result<Report, Answer>
     requires { CanCountFaults readers.old writers.old }
 {
-    match runnable {
-        Runnable::Object(program) => run_over(alloc, program, date, readers, writers, watcher),
-        Runnable::Source(source) => {
-            run_source_over(alloc, &source.compiled, date, readers, writers, watcher)
-        }
+    match running {
+        Running::Program(program) => run_over(alloc, program, date, readers, writers, watcher),
+        Running::Source(source) => run_source_over(alloc, source, date, readers, writers, watcher),
     }
 }
 
@@ -123,7 +137,7 @@ pub(crate) fn run_devices<
     W: Watcher,
 >(
     alloc: Global,
-    runnable: Runnable<'_>,
+    running: Running<'_>,
     date: &[u8],
     input: RecordSource<F, S>,
     secondary: RecordSource<F, S>,
@@ -133,7 +147,7 @@ pub(crate) fn run_devices<
 ) -> Ran {
     let mut readers = Readers::new(input, secondary);
     let mut writers = Writers::new(print, disk);
-    let ran = run_counted(alloc, runnable, date, &mut readers, &mut writers, watcher);
+    let ran = run_counted(alloc, running, date, &mut readers, &mut writers, watcher);
     let reasons = Reasons {
         input: readers.primary.device().fault(),
         secondary: readers.secondary.device().fault(),

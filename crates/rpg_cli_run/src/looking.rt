@@ -52,7 +52,7 @@ pub(crate) fn run_as_asked<
     let mut looking = Looking::new(alloc, request.looks, names, listener);
     let Ran { outcome, inputs } = run_devices(
         alloc,
-        runnable,
+        runnable.running(),
         date,
         input,
         secondary,
