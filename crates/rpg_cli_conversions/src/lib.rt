@@ -7,8 +7,6 @@ mod law;
 mod new_deck;
 mod records;
 mod refused;
-mod row_messages;
-mod rows;
 mod sentence;
 
 pub use fitting::fit_file;

@@ -1,11 +1,11 @@
 //! The command that converts records to lines, and such lines to records.
 
 use crate::refused::{RefusedRecord, deck_diagnostic, record_diagnostic};
-use crate::rows::{convert_rows, early_rows_answer, row_fields};
 use rpg_cli_answers::{
     Answer, CommandStop, Listener, NamedFile, file_of, named, refuse_replacing, refuse_same_file,
     report_in_place, report_placed, tell_made,
 };
+use rpg_cli_csv::{convert_rows, early_rows_answer, row_fields};
 use rpg_cli_files::{
     FileFault, KeptFile, LineTarget, Opened, Pending, Reason, RecordSource, file_bytes, input_file,
     kept_file, lines, records,

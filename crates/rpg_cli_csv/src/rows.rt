@@ -3,7 +3,7 @@
 ghost use Rattle.std.specs.Prelude.{◌≡◌, ◌^◌, ◌-◌, ◌<◌, OnOk};
 ghost use Rattle.rpg_files.specs.Counting.{faults_of};
 
-use crate::row_messages::{fields_diagnostic, rows_diagnostic, values_diagnostic};
+use crate::messages::{fields_diagnostic, rows_diagnostic, values_diagnostic};
 use rpg_cli_answers::{Answer, Listener, RefusedRow, file_of, tell_made};
 use rpg_cli_files::{FileFault, Reason};
 use rpg_cli_words::{FileArgument, Request, RowArguments, RowsWay};
@@ -16,7 +16,7 @@ use std::alloc::Global;
 use std::io::{Read, Write};
 
 /// Returns the fields of the file, if rows are converted. Reports a bad card.
-pub(crate) fn row_fields<L: Listener>(
+pub fn row_fields<L: Listener>(
     alloc: Global,
     request: &Request,
     source: &[u8],
@@ -62,7 +62,7 @@ fn setting<'a>(arguments: RowArguments<'a>, fields: &'a FileFields) -> RowSettin
 
 /// Why a conversion of rows, or to rows, ended early.
 #[derive(Clone, Copy)]
-pub(crate) enum EarlyEnd {
+pub enum EarlyEnd {
     Rows(RowsFault),
     Values(ValuesFault),
 }
@@ -103,7 +103,7 @@ fn convert_values<S: Read, W: Write>(
 }
 
 /// Converts rows to lines or lines to rows, and flushes the output.
-pub(crate) fn convert_rows<S: Read, W: Write>(
+pub fn convert_rows<S: Read, W: Write>(
     alloc: Global,
     arguments: RowArguments<'_>,
     fields: &FileFields,
@@ -152,7 +152,7 @@ fn refused_row(
 }
 
 /// Returns the answer for a conversion of rows that ended early. Reports a bad row or line.
-pub(crate) fn early_rows_answer<L: Listener>(
+pub fn early_rows_answer<L: Listener>(
     alloc: Global,
     request: &Request,
     fields: &FileFields,
