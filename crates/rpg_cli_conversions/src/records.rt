@@ -5,17 +5,15 @@ use rpg_cli_answers::{
     Answer, CommandStop, Listener, NamedFile, file_of, named, refuse_replacing, refuse_same_file,
     report_in_place, report_placed, tell_made,
 };
-use rpg_cli_csv::{convert_rows, early_rows_answer, row_fields};
+use rpg_cli_csv::{FileRows, convert_rows, file_rows};
 use rpg_cli_files::{
     FileFault, KeptFile, LineTarget, Opened, Pending, Reason, RecordSource, file_bytes, input_file,
     kept_file, lines, records,
 };
 use rpg_cli_messages::{is_object, object_diagnostic};
 use rpg_cli_words::{
-    FileArgument, RecordFraming, RecordsWay, Request, RowArguments, SameFile, Shared, is_standard,
+    FileArgument, RecordFraming, RecordsWay, Request, SameFile, Shared, is_standard,
 };
-use rpg_csv_columns::FileFields;
-use rpg_files::Counted;
 use rpg_record_decks::{DeckArguments, DeckFault, fitted_deck, layout_changes, layout_of};
 use rpg_record_lines::{
     ConversionFault, Counts, Framing, Layout, Page, RecordFormat, lines_to_records,
@@ -272,41 +270,6 @@ fn convert_all<S: Read, T: Write>(
     }
 }
 
-/// Converts rows to lines or lines to rows, for the files of the request. Reports what ends it early.
-fn convert_values<
-    F: Read + Drop,
-    S: Read + Drop,
-    T: Write + OpenFile + Drop,
-    P: Write + Drop,
-    L: Listener,
->(
-    alloc: Global,
-    request: &Request,
-    rows: Rows<'_>,
-    mut source: RecordSource<F, S>,
-    target: LineTarget<'_, T, P>,
-    listener: &mut L,
-) -> Result<Counts, Answer> {
-    let Ok(buffered) = BufWriter::with_capacity(alloc, WRITE_ROOM, target) else {
-        return Err(Answer::NoMemory);
-    };
-    let mut writer = Counted::new(buffered);
-    match convert_rows(
-        alloc,
-        rows.arguments,
-        rows.fields,
-        rows.most,
-        &mut source,
-        &mut writer,
-    ) {
-        Ok(counts) => Ok(counts),
-        Err(fault) => {
-            let (read, written) = (source.fault(), writer.device().get_ref().fault());
-            Err(early_rows_answer(alloc, request, rows.fields, fault, read, written, listener))
-        }
-    }
-}
-
 /// Like `convert_all`, for the files of the request. Reports what ends it early.
 fn convert<
     F: Read + Drop,
@@ -334,36 +297,12 @@ fn convert<
     }
 }
 
-/// How rows are written, and the fields of their file.
-#[derive(Clone, Copy)]
-struct Rows<'a> {
-    arguments: RowArguments<'a>,
-    fields: &'a FileFields,
-    /// The most columns of a line.
-    most: usize,
-}
-
-/// Returns how rows of these fields are written, if the arguments ask for rows.
-fn rows_of<'a>(
-    arguments: Option<RowArguments<'a>>,
-    fields: Option<&'a FileFields>,
-    most: usize,
-) -> Option<Rows<'a>> {
-    let arguments = arguments?;
-    let fields = fields?;
-    Some(Rows {
-        arguments,
-        fields,
-        most,
-    })
-}
-
-/// The deck of the records, their layout, and if they are rows, their fields.
+/// The deck of the records, their layout, and their rows of comma-separated values, if they are such rows.
 #[derive(Clone, Copy)]
 struct RecordDeck<'a> {
     source: &'a [u8],
     layout: &'a Layout,
-    rows: Option<Rows<'a>>,
+    rows: Option<&'a FileRows<'a>>,
 }
 
 /// Writes the deck that reads the lines, if the arguments ask for it.
@@ -420,7 +359,7 @@ fn convert_opened<'a, R: Files + Input + Print + AllocGlobal, L: Listener>(
     named(FileArgument::Out, output.empty())?;
     let (from, to) = (records(rt, input), lines(rt, output, None));
     let counts = match deck.rows {
-        Some(rows) => convert_values(rt.alloc(), request, rows, from, to, listener)?,
+        Some(rows) => convert_rows(rt.alloc(), request, rows, from, to, listener)?,
         None => convert(rt.alloc(), request, deck.layout, from, to, listener)?,
     };
     write_deck(rt, deck, new_deck)?;
@@ -456,11 +395,11 @@ pub fn records_file<R: Files + Input + Print + AllocGlobal, L: Listener>(
     let deck = request.deck_argument();
     let source = named(deck, file_bytes(rt, request.file(deck)))?;
     let layout = layout(rt.alloc(), request, &source, listener)?;
-    let fields = row_fields(rt.alloc(), request, &source, &layout, listener)?;
+    let rows = file_rows(rt.alloc(), request, &source, &layout, listener)?;
     let deck = RecordDeck {
         source: &source,
         layout: &layout,
-        rows: rows_of(request.rows_of_values, fields.as_ref(), layout.columns()),
+        rows: rows.as_ref(),
     };
     let Counts { records, dropped } = convert_file(rt, request, deck, listener)?;
     Ok(Answer::Records {

@@ -3,5 +3,6 @@
 
 mod messages;
 mod rows;
+mod shown;
 
-pub use rows::{EarlyEnd, convert_rows, early_rows_answer, row_fields};
+pub use rows::{FileRows, convert_rows, file_rows};

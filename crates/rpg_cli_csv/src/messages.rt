@@ -1,454 +1,266 @@
-//! The diagnostics for a deck or a row of comma-separated values that is rejected.
+//! The diagnostics for a deck, a row or a line that is rejected.
 
+use crate::shown::{write_cell, write_hex};
 use rpg_cli_diagnostics::{Columns, Diagnostic, Draft, FileName, Place};
 use rpg_cli_text::TextWriter;
-use rpg_csv_columns::{FieldFault, FileFields, HeaderFault, Label, Sample};
-use rpg_csv_lines::{CellNumberFault, CellTextFault, HeaderRowFault, LineFault, RowsFault};
-use rpg_csv_rows::{CellFault, RowFault};
-use rpg_csv_values::{ValueFault, ValuesFault};
-use rpg_text::is_character;
+use rpg_csv_columns::{Fault, FieldName, Label, Part, Refusal, TextFault};
+use rpg_csv_rows::{CellFault as RawFault, RowFault};
+use rpg_csv_values::CellFault;
 use std::alloc::{AllocError, Global};
 
-/// The most characters of a cell that a diagnostic shows.
-const MOST_SHOWN: usize = 30;
-
-/// A text of at most thirty characters.
-#[derive(Drop)]
-struct Shown {
-    text: TextWriter,
-    left: usize,
-    is_cut: bool,
-}
-
-impl Shown {
-    fn put(&mut self, character: char) {
-        if self.left == 0 {
-            self.is_cut = true;
-        } else {
-            self.left -= 1;
-            self.text.write_char(character);
-        }
-    }
-
-    /// Puts a number in hexadecimal digits, at least `least` of them.
-    fn put_hex(&mut self, number: u32, least: u32) {
-        for place in 0..8u32 {
-            let above = (7 - place) * 4;
-            if place.saturating_add(least) >= 8 || number >> above != 0 {
-                self.put(hex_digit(number >> above & 15));
-            }
-        }
-    }
-
-    /// Puts a character, or its number where it isn't one of rpg2.
-    fn put_foreign(&mut self, character: char) {
-        let byte = u8::try_from(u32::from(character)).unwrap_or(0);
-        if is_character(byte) {
-            self.put(character);
-            return;
-        }
-        self.put('\\');
-        self.put('u');
-        self.put('{');
-        self.put_hex(u32::from(character), 1);
-        self.put('}');
-    }
-
-    fn put_text(&mut self, text: &str) {
-        for character in text.chars() {
-            self.put_foreign(character);
-        }
-    }
-
-    /// Puts a byte that is no part of a character.
-    fn put_byte(&mut self, byte: u8) {
-        self.put('\\');
-        self.put('x');
-        self.put_hex(u32::from(byte), 2);
-    }
-}
-
-/// Returns a hexadecimal digit.
-fn hex_digit(digit: u32) -> char {
-    match u8::try_from(digit) {
-        Ok(digit) if digit < 10 => char::from(b'0' + digit),
-        Ok(digit) if digit < 16 => char::from(b'A' - 10 + digit),
-        _ => '?',
-    }
-}
-
-/// Writes a cell in quotation marks, at most thirty characters of it.
-fn write_cell(alloc: Global, out: &mut TextWriter, cell: &Sample) {
-    let mut shown = Shown {
-        text: TextWriter::new(alloc),
-        left: MOST_SHOWN,
-        is_cut: false,
-    };
-    let mut rest = cell.as_slice();
-    for _ in 0..cell.as_slice().len() {
-        if rest.is_empty() {
-            break;
-        }
-        match str::from_utf8(rest) {
-            Ok(text) => {
-                shown.put_text(text);
-                rest = &[];
-            }
-            Err(error) => {
-                let valid = error.valid_up_to().min(rest.len() - 1);
-                if let Ok(text) = str::from_utf8(&rest[..valid]) {
-                    shown.put_text(text);
-                }
-                shown.put_byte(rest[valid]);
-                rest = &rest[valid + 1..];
-            }
-        }
-    }
-    out.write_char('"');
-    match shown.text.finish() {
-        Ok(text) => out.write_str(text.as_str()),
-        Err(_) => out.write_str("?"),
-    }
-    out.write_str(if shown.is_cut { "..\"" } else { "\"" });
-}
-
-/// Writes the name of a column.
-fn write_label(out: &mut TextWriter, label: Label) {
-    match label {
-        Label::Field(name) => out.write_shown(name.as_slice()),
-        Label::Code(position) => out.fill("*{}", &[position.into()]),
-        Label::Unnamed | Label::LeftOut => {}
-    }
-}
-
 /// Returns the diagnostic for the card of a field in a deck.
-pub(crate) fn fields_diagnostic(
+pub(crate) fn card_diagnostic(
     alloc: Global,
     file: FileName<'_>,
     number: u16,
-    fault: FieldFault,
+    fault: Fault,
 ) -> Result<Diagnostic<'_>, AllocError> {
     let mut draft = Draft::error(alloc, file.line(number.into()));
     let out = &mut draft.message;
     match fault {
-        FieldFault::Twice { name, card } => {
-            out.write_shown(name.as_slice());
-            out.fill(
-                " stands twice in the type of card {}: a row has one value for it",
-                &[card.into()],
-            );
-        }
-        FieldFault::Parts {
+        Fault::Twice { name, card } => out.fill_two(
+            "{} stands twice in the type of card {}: a row has one value for it",
+            name.as_slice(),
+            card,
+        ),
+        Fault::Parts {
             name,
             entries,
             columns,
-        } => {
-            out.write_str("the array ");
-            out.write_shown(name.as_slice());
-            out.fill(
-                " has {} entries, and {} columns aren't as many of one width",
-                &[entries.into(), columns.into()],
-            );
-        }
-        FieldFault::Digits => out.write_str("a number has at most 15 digits"),
+        } => out.fill_three(
+            "the array {} has {} entries, and {} columns aren't as many of one width",
+            name.as_slice(),
+            entries,
+            columns,
+        ),
+        _ => out.write_str("a number has at most 15 digits"),
     }
     draft.finish()
 }
 
 /// Writes what is wrong with the names of columns.
-fn write_header_fault(
-    alloc: Global,
-    out: &mut TextWriter,
-    fields: &FileFields,
-    fault: HeaderFault,
-) {
+fn write_names_fault(out: &mut TextWriter, file: FieldName, fault: Fault) {
     match fault {
-        HeaderFault::NoField { column, name } => {
-            out.fill("column {}, ", &[column.into()]);
-            write_cell(alloc, out, &name);
-            out.write_str(", is no field of ");
-            out.write_shown(fields.name.as_slice());
-            out.write_str(": --columns names the columns, with nothing for one to leave out");
+        Fault::NoField { column, name } => {
+            out.fill_one("column {}, ", column);
+            write_cell(out, name.as_slice());
+            out.fill_one(
+                ", is no field of {}: --columns names the columns, with nothing for one to leave out",
+                file.as_slice(),
+            );
         }
-        HeaderFault::Both {
+        Fault::Both {
             first,
             second,
             name,
-        } => {
-            out.fill(
-                "columns {} and {} are both ",
-                &[first.into(), second.into()],
-            );
-            out.write_shown(name.as_slice());
+        } => out.fill_three(
+            "columns {} and {} are both {}",
+            first,
+            second,
+            name.as_slice(),
+        ),
+        Fault::NoColumn { name, card } => {
+            out.fill_two("no column is {} (card {})", name.as_slice(), card)
         }
-        HeaderFault::NoColumn { name, card } => {
-            out.write_str("no column is ");
-            out.write_shown(name.as_slice());
-            out.fill(" (card {})", &[card.into()]);
-        }
-        HeaderFault::NoCode {
-            position,
+        Fault::NoCode { name, card, types } => out.fill_three(
+            "no column is {} (card {}): the file has {} record types, and a row doesn't say which it is",
+            name.as_slice(),
             card,
             types,
-        } => out.fill(
-            "no column is *{} (card {}): the file has {} record types, and a row doesn't say which it is",
-            &[position.into(), card.into(), types.into()],
         ),
-        HeaderFault::Count { columns, named } => out.fill(
+        Fault::Named { columns, named } => out.fill_two(
             "it has {} columns, and --columns names {}",
-            &[columns.into(), named.into()],
+            columns,
+            named,
         ),
-        HeaderFault::NoMemory => out.write_str("no memory"),
+        _ => {}
     }
 }
 
-/// Writes what is wrong with the cells of a row.
-fn write_row_fault(out: &mut TextWriter, fault: RowFault) {
-    let cell = fault.cell.into();
-    match fault.fault {
-        CellFault::StrayMark => out.fill(
-            "cell {} has a quotation mark and doesn't begin with one",
-            &[cell],
-        ),
-        CellFault::AfterMark => {
-            out.fill("cell {} goes on after its closing quotation mark", &[cell])
-        }
-        CellFault::OpenMark => out.write_str("a quotation mark isn't closed"),
-        CellFault::LoneReturn => out.write_str("a carriage return stands alone"),
-    }
-}
-
-/// Writes why a cell is no number of its field.
-fn write_number_fault(out: &mut TextWriter, fault: CellNumberFault) {
-    match fault {
-        CellNumberFault::NoNumber => out.write_str(": no number"),
-        CellNumberFault::Decimals(decimals) => {
-            out.fill(": the field has {} decimals", &[decimals.into()])
-        }
-        CellNumberFault::Digits(digits) => out.fill(
-            ": the field has {} digits before the decimals",
-            &[digits.into()],
-        ),
-        CellNumberFault::Empty => {}
-    }
-}
-
-/// Writes a number of Unicode, of four digits or more.
-fn write_character(alloc: Global, out: &mut TextWriter, character: char) {
-    let mut digits = Shown {
-        text: TextWriter::new(alloc),
-        left: MOST_SHOWN,
-        is_cut: false,
+/// Writes what is wrong with the raw cells of a row.
+fn write_raw_fault(out: &mut TextWriter, fault: RowFault) {
+    let sentence = match fault.fault {
+        RawFault::StrayMark => "cell {} has a quotation mark and doesn't begin with one",
+        RawFault::AfterMark => "cell {} goes on after its closing quotation mark",
+        RawFault::OpenMark => "a quotation mark isn't closed",
+        RawFault::LoneReturn => "a carriage return stands alone",
     };
-    digits.put_hex(u32::from(character), 4);
-    out.write_str("U+");
-    if let Ok(text) = digits.text.finish() {
-        out.write_str(text.as_str());
+    out.fill_one(sentence, fault.cell);
+}
+
+/// Writes why a cell doesn't fit its columns, after its text.
+fn write_columns_fault(out: &mut TextWriter, fault: CellFault) {
+    match fault {
+        CellFault::LongCode => out.write_str(": it is one character"),
+        CellFault::LongText { length, width } => out.fill_two(
+            ": the text has {} characters, and the field {}",
+            length,
+            width,
+        ),
+        CellFault::NoNumber => out.write_str(": no number"),
+        CellFault::Decimals(decimals) => out.fill_one(": the field has {} decimals", decimals),
+        CellFault::Digits(digits) => {
+            out.fill_one(": the field has {} digits before the decimals", digits)
+        }
+        CellFault::Empty => {}
     }
-    out.write_str(" is no character of rpg2: --replace puts another in its place");
 }
 
 /// Writes what is wrong with a cell.
-fn write_cell_fault(alloc: Global, out: &mut TextWriter, fault: CellTextFault) {
+fn write_cell_fault(out: &mut TextWriter, text: &[u8], fault: TextFault) {
     match fault {
-        CellTextFault::Unnamed { cell } => {
-            write_cell(alloc, out, &cell);
+        TextFault::Columns(CellFault::Empty) => {
+            out.write_str("it is empty, and a packed or binary field has no blank")
+        }
+        TextFault::Columns(fault) => {
+            write_cell(out, text);
+            write_columns_fault(out, fault);
+        }
+        TextFault::Unnamed => {
+            write_cell(out, text);
             out.write_str(": the column has no name in the header");
         }
-        CellTextFault::NoUtf8 { byte } => {
+        TextFault::OtherType { card } => {
+            write_cell(out, text);
+            out.fill_one(": the type of card {} has no such field", card);
+        }
+        TextFault::NotUtf8 { byte } => {
             out.write_str("byte ");
-            out.write_char(hex_digit(u32::from(byte / 16)));
-            out.write_char(hex_digit(u32::from(byte % 16)));
+            write_hex(out, u32::from(byte), 2);
             out.write_str(": the file isn't UTF-8");
         }
-        CellTextFault::NoCharacter { character } => write_character(alloc, out, character),
-        CellTextFault::LongCode { cell } => {
-            write_cell(alloc, out, &cell);
-            out.write_str(": it is one character");
+        TextFault::Foreign { character } => {
+            out.write_str("U+");
+            write_hex(out, u32::from(character), 4);
+            out.write_str(" is no character of rpg2: --replace puts another in its place");
         }
-        CellTextFault::Number {
-            fault: CellNumberFault::Empty,
-            ..
-        } => out.write_str("it is empty, and a packed or binary field has no blank"),
-        CellTextFault::Number { cell, fault } => {
-            write_cell(alloc, out, &cell);
-            write_number_fault(out, fault);
-        }
-        CellTextFault::LongText {
-            cell,
-            length,
-            width,
-        } => {
-            write_cell(alloc, out, &cell);
-            out.fill(
-                ": the text has {} characters, and the field {}",
-                &[length.into(), width.into()],
-            );
-        }
-        CellTextFault::OtherType { cell, card } => {
-            write_cell(alloc, out, &cell);
-            out.fill(": the type of card {} has no such field", &[card.into()]);
-        }
-        CellTextFault::NoMemory => out.write_str("no memory"),
     }
 }
 
-/// Writes what is wrong with a row, after its place.
-fn write_line_fault(alloc: Global, out: &mut TextWriter, has_header: bool, fault: LineFault) {
+/// Writes what is wrong with a row.
+fn write_row_fault(out: &mut TextWriter, has_header: bool, fault: Fault) {
     match fault {
-        LineFault::Row(fault) => write_row_fault(out, fault),
-        LineFault::Long => out.write_str("it has more than 1,048,576 bytes"),
-        LineFault::Empty => out.write_str("it is empty"),
-        LineFault::Count { cells, columns } => {
+        Fault::NoRow => out.write_str("there is no row"),
+        Fault::Utf16([first, second]) => {
+            out.write_str("it begins with ");
+            write_hex(out, u32::from(first) * 256 + u32::from(second), 4);
+            out.write_str(": the file is UTF-16, and UTF-8 is read");
+        }
+        Fault::Row(fault) => write_raw_fault(out, fault),
+        Fault::LongRow => out.write_str("it has more than 1,048,576 bytes"),
+        Fault::EmptyRow => out.write_str("it is empty"),
+        Fault::Cells { cells, columns } => {
             let sentence = match (has_header, cells) {
                 (true, 1) => "it has {} cell, and the header {}",
                 (true, _) => "it has {} cells, and the header {}",
                 (false, 1) => "it has {} cell, and {} columns have names",
                 (false, _) => "it has {} cells, and {} columns have names",
             };
-            out.fill(sentence, &[cells.into(), columns.into()]);
+            out.fill_two(sentence, cells, columns);
         }
-        LineFault::Cell { fault, .. } => write_cell_fault(alloc, out, fault),
-        LineFault::NoType => out.write_str("it is of no type"),
-        LineFault::Shared {
+        Fault::NoType => out.write_str("it is of no type"),
+        Fault::Shared {
             column,
             first,
             stands,
             second,
             wants,
         } => {
-            out.fill("in column {} ", &[column.into()]);
-            write_label(out, first);
-            out.fill(" puts \"{}\", and ", &[char::from(stands).into()]);
-            write_label(out, second);
-            out.fill(" \"{}\"", &[char::from(wants).into()]);
+            let (stands, wants) = (char::from(stands), char::from(wants));
+            out.fill_three(
+                "in column {} {} puts \"{}\"",
+                column,
+                first.as_slice(),
+                stands,
+            );
+            out.fill_two(", and {} \"{}\"", second.as_slice(), wants);
         }
-        LineFault::TooMany => out.write_str("a file has at most 10,000,000 records"),
-        LineFault::NoMemory => out.write_str("no memory"),
+        Fault::TooMany => out.write_str("a file has at most 10,000,000 records"),
+        Fault::Cell { text, fault, .. } => write_cell_fault(out, text.as_slice(), fault),
+        _ => {}
     }
 }
 
-/// Writes the column of a cell, if the fault is about one.
-fn write_column(out: &mut TextWriter, fault: LineFault) {
-    if let LineFault::Cell { column, label, .. } = fault {
-        out.fill(", column {}", &[column.saturating_add(1).into()]);
-        if let Label::Field(_) | Label::Code(_) = label {
-            out.write_char(' ');
-            write_label(out, label);
-        }
-    }
-    out.write_str(": ");
-}
-
-/// Writes what is wrong with the first row.
-fn write_header_row(
-    alloc: Global,
-    out: &mut TextWriter,
-    fields: &FileFields,
-    fault: HeaderRowFault,
-) {
+/// Writes what is wrong with a line.
+fn write_line_fault(out: &mut TextWriter, fault: Fault) {
     match fault {
-        HeaderRowFault::None => out.write_str("there is no row"),
-        HeaderRowFault::Utf16(bytes) => {
-            out.write_str("it begins with ");
-            for byte in bytes {
-                out.write_char(hex_digit(u32::from(byte / 16)));
-                out.write_char(hex_digit(u32::from(byte % 16)));
-            }
-            out.write_str(": the file is UTF-16, and UTF-8 is read");
-        }
-        HeaderRowFault::Row(fault) => write_line_fault(alloc, out, true, fault),
-        HeaderRowFault::Names(fault) => write_header_fault(alloc, out, fields, fault),
-    }
-}
-
-/// Returns where a row of a file begins. A file without rows, or of another code, is meant as a whole.
-fn place_of(file: FileName<'_>, fault: RowsFault) -> Place<'_> {
-    match fault {
-        RowsFault::Header(HeaderRowFault::Row(_) | HeaderRowFault::Names(_)) => file.line(1),
-        RowsFault::Row { line, .. } => file.line(line),
-        _ => file.whole(),
-    }
-}
-
-/// Returns the diagnostic for a row of a file.
-pub(crate) fn rows_diagnostic<'a>(
-    alloc: Global,
-    file: FileName<'a>,
-    has_header: bool,
-    fields: &FileFields,
-    fault: RowsFault,
-) -> Result<Diagnostic<'a>, AllocError> {
-    let mut draft = Draft::error(alloc, place_of(file, fault));
-    let out = &mut draft.message;
-    match fault {
-        RowsFault::Header(fault) => {
-            out.write_str("header: ");
-            write_header_row(alloc, out, fields, fault);
-        }
-        RowsFault::Row { number, fault, .. } => {
-            out.fill("row {}", &[number.into()]);
-            write_column(out, fault);
-            write_line_fault(alloc, out, has_header, fault);
-        }
-        RowsFault::Read | RowsFault::Write | RowsFault::NoMemory => {}
-    }
-    draft.finish()
-}
-
-/// Writes what is wrong with a line, after its number.
-fn write_value_fault(alloc: Global, out: &mut TextWriter, fault: ValueFault) {
-    match fault {
-        ValueFault::NoCharacter { column, byte } => {
-            out.fill("column {}: ", &[column.into()]);
-            out.write_char(hex_digit(u32::from(byte / 16)));
-            out.write_char(hex_digit(u32::from(byte % 16)));
+        Fault::NoCharacter { column, byte } => {
+            out.fill_one("column {}: ", column);
+            write_hex(out, u32::from(byte), 2);
             out.write_str(": the byte is no character");
         }
-        ValueFault::Long { columns, most } => out.fill(
-            "it has {} columns, and a record {}",
-            &[columns.into(), most.into()],
-        ),
-        ValueFault::NoType => out.write_str("this line is of no type"),
-        ValueFault::Number {
+        Fault::LongLine { columns, most } => {
+            out.fill_two("it has {} columns, and a record {}", columns, most)
+        }
+        Fault::NoType => out.write_str("this line is of no type"),
+        Fault::NoNumber {
             card,
             first,
             last,
             text,
         } => {
-            out.fill(
-                "columns {} to {} (card {}): ",
-                &[first.into(), last.into(), card.into()],
-            );
-            write_cell(alloc, out, &text);
+            out.fill_three("columns {} to {} (card {}): ", first, last, card);
+            write_cell(out, text.as_slice());
             out.write_str(": no number");
         }
-        ValueFault::TooMany => out.write_str("a file has at most 10,000,000 records"),
-        ValueFault::NoMemory => out.write_str("no memory"),
+        _ => write_row_fault(out, true, fault),
     }
 }
 
+/// Writes which row is meant, and the column of the cell.
+fn write_row(out: &mut TextWriter, number: u64, fault: Fault) {
+    out.fill_one("row {}", number);
+    if let Fault::Cell { column, label, .. } = fault {
+        out.fill_one(", column {}", column);
+        if let Label::Named(name) = label {
+            out.fill_one(" {}", name.as_slice());
+        }
+    }
+    out.write_str(": ");
+}
+
 /// Returns the columns of a line that a fault is about, if it is about some.
-fn columns_of(fault: ValueFault) -> Option<Columns> {
+fn columns_of(fault: Fault) -> Option<Columns> {
     let (first, last) = match fault {
-        ValueFault::NoCharacter { column, .. } => (column, column),
-        ValueFault::Number { first, last, .. } => (first, last),
+        Fault::NoCharacter { column, .. } => (column, column),
+        Fault::NoNumber { first, last, .. } => (first, last),
         _ => return None,
     };
     Some(Columns { first, last })
 }
 
-/// Returns the diagnostic for a line of a file.
-pub(crate) fn values_diagnostic(
+/// Returns the place of a part. A file without rows, or of another code, is meant as a whole.
+fn place_of(file: FileName<'_>, refusal: Refusal) -> Place<'_> {
+    match (refusal.part, refusal.fault) {
+        (Part::Header, Fault::NoRow | Fault::Utf16(_)) => file.whole(),
+        (Part::Header | Part::Card(_), _) => file.line(1),
+        (Part::Row { line, .. }, _) => file.line(line),
+        (Part::Line(number), fault) => file.unshown(number, columns_of(fault), &[]),
+    }
+}
+
+/// Returns the diagnostic for a part of the input. `fields` is the name of the file on the cards.
+pub(crate) fn input_diagnostic(
     alloc: Global,
     file: FileName<'_>,
-    fault: ValuesFault,
+    has_header: bool,
+    fields: FieldName,
+    refusal: Refusal,
 ) -> Result<Diagnostic<'_>, AllocError> {
-    let ValuesFault::Line { number, fault } = fault else {
-        return Draft::error(alloc, file.whole()).finish();
-    };
-    let place = file.unshown(number, columns_of(fault), &[]);
-    let mut draft = Draft::error(alloc, place);
-    write_value_fault(alloc, &mut draft.message, fault);
+    let mut draft = Draft::error(alloc, place_of(file, refusal));
+    let out = &mut draft.message;
+    let fault = refusal.fault;
+    match refusal.part {
+        Part::Header | Part::Card(_) => {
+            out.write_str("header: ");
+            write_names_fault(out, fields, fault);
+            write_row_fault(out, true, fault);
+        }
+        Part::Row { number, .. } => {
+            write_row(out, number, fault);
+            write_row_fault(out, has_header, fault);
+        }
+        Part::Line(_) => write_line_fault(out, fault),
+    }
     draft.finish()
 }

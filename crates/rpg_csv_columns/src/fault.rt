@@ -1,12 +1,27 @@
-//! Why fields have no columns.
+//! Why a deck, a row or a line is rejected.
 
-use crate::name::{FieldName, Sample};
+use crate::name::{FieldName, Label, Sample};
+use rpg_csv_rows::{RowFault, RowInputFault};
+use rpg_csv_values::CellFault;
 use std::alloc::{AllocError, AllocFailed};
 
-/// What is wrong with the card of a field.
+/// What is wrong with a cell.
 #[derive(Clone, Copy)]
-pub enum FieldFault {
-    /// A field has this name already, of the type that this card begins.
+pub enum TextFault {
+    /// It doesn't fit its columns of the line.
+    Columns(CellFault),
+    /// It is filled, and its column has no name.
+    Unnamed,
+    /// It is filled, and the type of this card has no such field.
+    OtherType { card: u16 },
+    NotUtf8 { byte: u8 },
+    Foreign { character: char },
+}
+
+/// Why a conversion ends early. Columns are counted from 1.
+#[derive(Clone, Copy)]
+pub enum Fault {
+    /// A card's field has the name of an earlier one, of the type that begins with `card`.
     Twice {
         name: FieldName,
         card: u16,
@@ -15,35 +30,15 @@ pub enum FieldFault {
     Parts {
         name: FieldName,
         entries: u16,
-        columns: u16,
+        columns: usize,
     },
     /// A number has more than 15 digits.
-    Digits,
-}
-
-/// Why a file's fields can't be columns.
-#[derive(Clone, Copy)]
-pub enum FieldsFault {
-    Card { number: u16, fault: FieldFault },
-    NoMemory,
-}
-
-impl From<AllocError> for FieldsFault {
-    fn from(_: AllocError) -> Self {
-        FieldsFault::NoMemory
-    }
-}
-
-impl<T: Drop> From<AllocFailed<T>> for FieldsFault {
-    fn from(_: AllocFailed<T>) -> Self {
-        FieldsFault::NoMemory
-    }
-}
-
-/// What is wrong with the names of columns. Columns are counted from 1.
-#[derive(Clone, Copy)]
-pub enum HeaderFault {
-    /// A column is no field.
+    LongNumber,
+    /// There is no row.
+    NoRow,
+    /// The input begins with these bytes: it is UTF-16.
+    Utf16([u8; 2]),
+    /// A column of the header is no field.
     NoField {
         column: usize,
         name: Sample,
@@ -52,7 +47,7 @@ pub enum HeaderFault {
     Both {
         first: usize,
         second: usize,
-        name: Sample,
+        name: FieldName,
     },
     /// A field has no column.
     NoColumn {
@@ -61,26 +56,123 @@ pub enum HeaderFault {
     },
     /// The position of a code has no column, and there are several types.
     NoCode {
-        position: u16,
+        name: FieldName,
         card: u16,
         types: usize,
     },
     /// The arguments name another number of columns.
-    Count {
+    Named {
         columns: usize,
         named: usize,
     },
+    Row(RowFault),
+    /// A row has more than 1,048,576 bytes.
+    LongRow,
+    EmptyRow,
+    /// A row has another number of cells.
+    Cells {
+        cells: usize,
+        columns: usize,
+    },
+    Cell {
+        column: usize,
+        label: Label,
+        text: Sample,
+        fault: TextFault,
+    },
+    NoType,
+    /// Two columns of the row put different characters into a column of the record.
+    Shared {
+        column: usize,
+        first: FieldName,
+        stands: u8,
+        second: FieldName,
+        wants: u8,
+    },
+    TooMany,
+    /// A byte of a line isn't a character.
+    NoCharacter {
+        column: usize,
+        byte: u8,
+    },
+    /// A line has more columns than a record.
+    LongLine {
+        columns: usize,
+        most: usize,
+    },
+    /// The columns of a number aren't one.
+    NoNumber {
+        card: u16,
+        first: usize,
+        last: usize,
+        text: Sample,
+    },
+    Read,
+    Write,
     NoMemory,
 }
 
-impl From<AllocError> for HeaderFault {
+/// What is rejected. Rows are numbered from 1 without the header, lines of the input from 1.
+#[derive(Clone, Copy, PartialEq, Eq)]
+pub enum Part {
+    /// The card of a field.
+    Card(u16),
+    Header,
+    Row { number: u64, line: u64 },
+    Line(u64),
+}
+
+/// What is rejected, and why.
+#[derive(Clone, Copy)]
+pub struct Refusal {
+    pub part: Part,
+    pub fault: Fault,
+}
+
+impl From<AllocError> for Refusal {
     fn from(_: AllocError) -> Self {
-        HeaderFault::NoMemory
+        Refusal {
+            part: Part::Header,
+            fault: Fault::NoMemory,
+        }
     }
 }
 
-impl<T: Drop> From<AllocFailed<T>> for HeaderFault {
+impl<T: Drop> From<AllocFailed<T>> for Refusal {
     fn from(_: AllocFailed<T>) -> Self {
-        HeaderFault::NoMemory
+        Refusal::from(AllocError)
+    }
+}
+
+impl Fault {
+    /// The fault of a cell with this text. Columns are counted from 0 here.
+    pub fn cell(column: usize, label: Label, text: &[u8], fault: TextFault) -> Self {
+        Fault::Cell {
+            column: column.saturating_add(1),
+            label,
+            text: Sample::new(text),
+            fault,
+        }
+    }
+}
+
+impl From<AllocError> for Fault {
+    fn from(_: AllocError) -> Self {
+        Fault::NoMemory
+    }
+}
+
+impl<T: Drop> From<AllocFailed<T>> for Fault {
+    fn from(_: AllocFailed<T>) -> Self {
+        Fault::NoMemory
+    }
+}
+
+impl From<RowInputFault> for Fault {
+    fn from(fault: RowInputFault) -> Self {
+        match fault {
+            RowInputFault::Device => Fault::Read,
+            RowInputFault::NoMemory => Fault::NoMemory,
+        }
     }
 }

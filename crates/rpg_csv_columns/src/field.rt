@@ -1,50 +1,56 @@
-//! The fields of a file's record types.
+//! The fields of a file's record types, from the cards of a deck.
 
-ghost use Rattle.std.specs.Prelude.{◌≡◌, ◌≤◌, ◌&&◌, IsTrue};
-
+use crate::fault::{Fault, Part, Refusal};
 use crate::name::FieldName;
-use rpg_records::{Code, NumberForm};
+use rpg_csv_values::CellKind;
+use rpg_record_decks::{DeckCard, columns, deck_cards, file_name, form_of, is_on_sheet};
+use rpg_records::{Code, Layout, NumberForm};
+use rpg_sheet::Card;
+use rpg_text::{is_blank, trimmed};
+use std::alloc::{AllocError, Global};
 
-/// A field of a record type.
+/// The most digits of a number.
+const MOST_DIGITS: usize = 15;
+
+/// A field of a record type, or the position of a code.
 #[derive(Clone, Copy)]
 pub struct Field {
     pub name: FieldName,
     pub card: u16,
-    /// Columns are counted from 1.
-    pub first: u16,
-    pub last: u16,
-    /// Of a number, how many of its digits follow the decimal point.
-    pub decimals: Option<u8>,
-    /// Of a packed or binary number, the format of its bytes.
-    pub form: Option<NumberForm>,
-    ghost from_one: { 1 ≤ first },
-    ghost ordered: { first ≤ last },
+    /// Its first column in the line, from 0, and how many it has. The digits of a packed or binary number follow the record.
+    pub start: usize,
+    pub width: usize,
+    pub kind: CellKind,
 }
 
 impl Field {
-    /// Returns how many characters it has in a line: its columns, or the digits of its bytes.
-    pub fn width(&self) -> usize {
-        let size = usize::from(self.last - self.first) + 1;
-        match self.form {
-            Some(NumberForm::Packed) => size * 2 - 1,
-            Some(NumberForm::Binary) if size == 2 => 4,
-            Some(NumberForm::Binary) => 9,
-            None => size,
+    /// Returns the field of a code.
+    fn of_code(place: usize) -> Self {
+        Field {
+            name: FieldName::of_position(place.saturating_add(1)),
+            card: 0,
+            start: place,
+            width: 1,
+            kind: CellKind::Code,
         }
     }
 
-    /// Whether a column of the record is one of its columns.
-    pub fn covers(&self, column: u16) -> bool {
-        self.first <= column && column <= self.last
+    /// Returns the first column after it.
+    pub fn end(&self) -> usize {
+        self.start.saturating_add(self.width)
+    }
+
+    /// Whether a column of the line is one of its columns.
+    pub(crate) fn covers(&self, column: usize) -> bool {
+        self.start <= column && column < self.end()
     }
 
     /// Whether another field has its name, its place and its decimals.
     pub(crate) fn is_like(&self, other: &Field) -> bool {
         self.name == other.name
-            && self.first == other.first
-            && self.last == other.last
-            && self.decimals == other.decimals
-            && other.form.is_none()
+            && self.start == other.start
+            && self.width == other.width
+            && self.kind == other.kind
     }
 }
 
@@ -54,72 +60,256 @@ pub struct FieldType {
     pub card: u16,
     pub codes: Vec<Code>,
     pub fields: Vec<Field>,
+    /// Where the digits of the next packed or binary number begin.
+    digits: usize,
 }
 
-impl FieldType {
-    /// Returns the field with this name.
-    pub(crate) fn field(&self, name: FieldName) -> Option<&Field> {
-        for field in self.fields.as_slice() {
-            if field.name == name {
-                return Some(field);
-            }
-        }
-        None
-    }
-
-    /// Whether it has a code at a position.
-    pub(crate) fn has_code(&self, position: u16) -> bool {
-        for code in self.codes.as_slice() {
-            if code.place.saturating_add(1) == usize::from(position) {
-                return true;
-            }
-        }
-        false
-    }
-}
-
-/// The record types of a file, with the positions of all codes, in order.
+/// The record types of a file.
 #[derive(Drop)]
 pub struct FileFields {
     /// The name of the file.
     pub name: FieldName,
-    /// The length of a record.
-    pub length: u16,
+    /// The most columns of a line.
+    pub width: usize,
     pub types: Vec<FieldType>,
-    pub positions: Vec<u16>,
+    /// The positions of all codes, in order.
+    pub codes: Vec<Field>,
 }
 
-impl FileFields {
-    /// Returns the name of a field that a text spells.
-    pub(crate) fn name_of(&self, text: &[u8]) -> Option<FieldName> {
-        for kind in self.types.as_slice() {
-            for field in kind.fields.as_slice() {
-                if field.name.is_spelled(text) {
-                    return Some(field.name);
-                }
-            }
+/// Returns the field with a name.
+pub(crate) fn field_named(fields: &[Field], name: FieldName) -> Option<&Field> {
+    for field in fields {
+        if field.name == name {
+            return Some(field);
         }
-        None
     }
+    None
+}
 
-    /// Whether a code has this position.
-    pub(crate) fn has_position(&self, position: u16) -> bool {
-        self.positions.as_slice().contains(&position)
+// ---- the cards
+
+/// Returns the number that digits spell.
+fn number_of(digits: &[u8]) -> u16 {
+    let mut number = 0u16;
+    for byte in digits {
+        if byte.is_ascii_digit() {
+            number = number
+                .saturating_mul(10)
+                .saturating_add(u16::from(*byte - b'0'));
+        }
+    }
+    number
+}
+
+/// Returns the decimals in a column, if it isn't blank.
+fn decimals_of(column: &[u8]) -> Option<u8> {
+    match column {
+        [digit] if digit.is_ascii_digit() => Some(*digit - b'0'),
+        _ => None,
     }
 }
 
-/// What a column is: a field, the position of a code, or nothing, if it has no name or the arguments leave it out.
-#[derive(Clone, Copy, PartialEq, Eq)]
-pub enum Label {
-    Field(FieldName),
-    Code(u16),
-    Unnamed,
-    LeftOut,
+/// Returns the name of a field: an entry of an array has its index in parentheses.
+fn name_on(card: &Card) -> FieldName {
+    let text = trimmed(columns(card, 53, 58));
+    for (place, byte) in text.iter().enumerate() {
+        if *byte == b',' {
+            return FieldName::new(&text[..place]).entry(number_of(&text[place + 1..]));
+        }
+    }
+    FieldName::new(text)
 }
 
-/// The column of a code's position. Columns are counted from 0.
+/// The columns of a card's field in the record, from 1, and what it has.
 #[derive(Clone, Copy)]
-pub struct CodeColumn {
-    pub position: u16,
-    pub column: usize,
+struct FieldCard {
+    name: FieldName,
+    card: u16,
+    first: u16,
+    last: u16,
+    decimals: Option<u8>,
+    form: Option<NumberForm>,
+}
+
+impl FieldCard {
+    fn of(card: &DeckCard) -> Self {
+        FieldCard {
+            name: name_on(&card.card),
+            card: card.number,
+            first: number_of(columns(&card.card, 44, 47)),
+            last: number_of(columns(&card.card, 48, 51)),
+            decimals: decimals_of(columns(&card.card, 52, 52)),
+            form: form_of(43, &card.card),
+        }
+    }
+}
+
+/// Returns the E card of an array.
+fn array_card(cards: &[DeckCard], name: FieldName) -> Option<&Card> {
+    for card in cards {
+        if is_on_sheet(b"E", &card.card)
+            && FieldName::new(trimmed(columns(&card.card, 27, 32))) == name
+        {
+            return Some(&card.card);
+        }
+    }
+    None
+}
+
+impl FieldType {
+    /// Adds the field of a card, unless its name is there or it has too many digits.
+    fn add(&mut self, of: FieldCard) -> Result<(), Fault> {
+        if field_named(self.fields.as_slice(), of.name).is_some() {
+            let (name, card) = (of.name, self.card);
+            return Err(Fault::Twice { name, card });
+        }
+        let size = usize::from(of.last.saturating_sub(of.first).saturating_add(1));
+        let (start, width) = match of.form {
+            Some(form) => (self.digits, form.digit_count(size)),
+            None => (usize::from(of.first).saturating_sub(1), size),
+        };
+        let kind = match (of.form, of.decimals) {
+            (Some(_), decimals) => CellKind::Digits(decimals.unwrap_or(0)),
+            (None, Some(decimals)) => CellKind::Number(decimals),
+            (None, None) => CellKind::Text,
+        };
+        if kind != CellKind::Text && width > MOST_DIGITS {
+            return Err(Fault::LongNumber);
+        }
+        if of.form.is_some() {
+            self.digits = self.digits.saturating_add(width);
+        }
+        self.fields.push(Field {
+            name: of.name,
+            card: of.card,
+            start,
+            width,
+            kind,
+        })?;
+        Ok(())
+    }
+
+    /// Adds the entries of an array.
+    fn add_entries(&mut self, whole: FieldCard, array: &Card) -> Result<(), Fault> {
+        let entries = number_of(columns(array, 36, 39));
+        let columns_of_all = (whole.last.saturating_sub(whole.first)).saturating_add(1);
+        let size = columns_of_all / entries.max(1);
+        if size == 0 || size.saturating_mul(entries) != columns_of_all {
+            return Err(Fault::Parts {
+                name: whole.name,
+                entries,
+                columns: usize::from(columns_of_all),
+            });
+        }
+        for entry in 0..entries {
+            let first = whole.first.saturating_add(entry.saturating_mul(size));
+            self.add(FieldCard {
+                name: whole.name.entry(entry + 1),
+                first,
+                last: first.saturating_add(size - 1),
+                decimals: decimals_of(columns(array, 44, 44)),
+                ..whole
+            })?;
+        }
+        Ok(())
+    }
+
+    /// Adds the field of a card, or the entries of its array.
+    fn add_card(&mut self, card: &DeckCard, cards: &[DeckCard]) -> Result<(), Fault> {
+        let field = FieldCard::of(card);
+        match array_card(cards, field.name) {
+            _ if field.first == 0 || field.last < field.first => Ok(()),
+            Some(array) => self.add_entries(field, array),
+            None => self.add(field),
+        }
+    }
+}
+
+/// Whether a card goes on with the codes of a type.
+fn goes_on(card: &Card) -> bool {
+    is_blank(columns(card, 7, 13)) && columns(card, 14, 16) == b"AND".as_slice()
+}
+
+/// Adds the fields of a type's cards.
+fn add_fields(kind: &mut FieldType, cards: &[DeckCard]) -> Result<(), Refusal> {
+    let mut is_here = false;
+    for card in cards {
+        if !is_on_sheet(b"I", &card.card) || goes_on(&card.card) {
+            continue;
+        }
+        if !is_blank(columns(&card.card, 7, 16)) {
+            is_here = card.number == kind.card;
+            continue;
+        }
+        if is_here && let Err(fault) = kind.add_card(card, cards) {
+            let part = Part::Card(card.number);
+            return Err(Refusal { part, fault });
+        }
+    }
+    Ok(())
+}
+
+/// Returns the types of a layout, with their fields.
+fn types_of(alloc: Global, layout: &Layout, cards: &[DeckCard]) -> Result<Vec<FieldType>, Refusal> {
+    let mut types = Vec::new(alloc);
+    for kind in layout.types.as_slice() {
+        let mut read = FieldType {
+            card: kind.card,
+            codes: Vec::from_slice(alloc, kind.codes.as_slice())?,
+            fields: Vec::new(alloc),
+            digits: usize::from(layout.length),
+        };
+        add_fields(&mut read, cards)?;
+        types.push(read)?;
+    }
+    Ok(types)
+}
+
+/// Adds the positions of codes that aren't there.
+fn add_codes(positions: &mut Vec<usize>, codes: &[Code]) -> Result<(), AllocError> {
+    for code in codes {
+        if !positions.as_slice().contains(&code.place) {
+            positions.push(code.place)?;
+        }
+    }
+    Ok(())
+}
+
+/// Returns the positions of all codes, in order.
+fn codes_of(alloc: Global, types: &[FieldType]) -> Result<Vec<Field>, AllocError> {
+    let mut places = Vec::new(alloc);
+    for kind in types {
+        add_codes(&mut places, kind.codes.as_slice())?;
+    }
+    places.sort()?;
+    let mut codes = Vec::new(alloc);
+    for place in places.as_slice() {
+        codes.push(Field::of_code(*place))?;
+    }
+    Ok(codes)
+}
+
+/// Returns the name of the file on the card with this number.
+fn file_on(cards: &[DeckCard], number: u16) -> FieldName {
+    for card in cards {
+        if card.number == number {
+            return FieldName::new(file_name(&card.card));
+        }
+    }
+    FieldName::new(b"")
+}
+
+/// Returns the fields of the file with this layout, by their names in the deck.
+pub fn file_fields(alloc: Global, source: &[u8], layout: &Layout) -> Result<FileFields, Refusal> {
+    let Ok(cards) = deck_cards(alloc, source) else {
+        return Err(Refusal::from(AllocError));
+    };
+    let types = types_of(alloc, layout, cards.as_slice())?;
+    let codes = codes_of(alloc, types.as_slice())?;
+    Ok(FileFields {
+        name: file_on(cards.as_slice(), layout.card),
+        width: layout.columns(),
+        types,
+        codes,
+    })
 }

@@ -1,8 +1,8 @@
 //! The names of columns.
 
-use crate::fault::HeaderFault;
-use crate::field::{FileFields, Label};
-use crate::name::{FieldName, Sample};
+use crate::fault::Fault;
+use crate::field::{FileFields, field_named};
+use crate::name::{FieldName, Label, Sample};
 use rpg_text::trimmed;
 use std::alloc::{AllocError, Global};
 
@@ -22,36 +22,15 @@ fn without_blanks(text: &[u8]) -> &[u8] {
     &[]
 }
 
-/// Returns the position in a name such as `*20`.
-fn position_in(name: &[u8]) -> Option<u16> {
-    let [b'*', digits @ ..] = name else {
-        return None;
-    };
-    if digits.is_empty() || digits[0] == b'0' {
-        return None;
-    }
-    let mut position = 0u16;
-    for byte in digits {
-        if !byte.is_ascii_digit() {
-            return None;
+impl FileFields {
+    /// Whether a field or the position of a code has this name.
+    fn has(&self, name: FieldName) -> bool {
+        for kind in self.types.as_slice() {
+            if field_named(kind.fields.as_slice(), name).is_some() {
+                return true;
+            }
         }
-        position = position
-            .saturating_mul(10)
-            .saturating_add(u16::from(*byte - b'0'));
-    }
-    Some(position)
-}
-
-/// Returns what a column with this name is.
-fn label_of(fields: &FileFields, name: &[u8]) -> Option<Label> {
-    if let Some(position) = position_in(name) {
-        return fields
-            .has_position(position)
-            .then_some(Label::Code(position));
-    }
-    match fields.name_of(name) {
-        Some(field) => Some(Label::Field(field)),
-        None => None,
+        field_named(self.codes.as_slice(), name).is_some()
     }
 }
 
@@ -60,10 +39,10 @@ impl Labels {
         self.labels.as_slice()
     }
 
-    /// Returns the column of a label, from 0.
-    pub fn column_of(&self, label: Label) -> Option<usize> {
+    /// Returns the column with this name, from 0.
+    pub(crate) fn column_of(&self, name: FieldName) -> Option<usize> {
         for (column, other) in self.labels.as_slice().iter().enumerate() {
-            if *other == label {
+            if *other == Label::Named(name) {
                 return Some(column);
             }
         }
@@ -77,32 +56,33 @@ impl Labels {
     }
 
     /// Adds the column with this name. `unnamed` is what a column without a name is.
-    fn add(&mut self, fields: &FileFields, name: &[u8], unnamed: Label) -> Result<(), HeaderFault> {
-        let name = without_blanks(name);
+    fn add(&mut self, fields: &FileFields, text: &[u8], unnamed: Label) -> Result<(), Fault> {
+        let text = without_blanks(text);
         let column = self.labels.len().saturating_add(1);
-        if name.is_empty() {
+        if text.is_empty() {
             self.labels.push(unnamed)?;
             return Ok(());
         }
-        let Some(label) = label_of(fields, name) else {
-            let name = Sample::new(name);
-            return Err(HeaderFault::NoField { column, name });
-        };
-        if let Some(before) = self.column_of(label) {
-            return Err(HeaderFault::Both {
+        let name = FieldName::upper(text);
+        if !fields.has(name) {
+            let name = Sample::new(text);
+            return Err(Fault::NoField { column, name });
+        }
+        if let Some(before) = self.column_of(name) {
+            return Err(Fault::Both {
                 first: before.saturating_add(1),
                 second: column,
-                name: Sample::new(FieldName::upper(name).as_slice()),
+                name,
             });
         }
-        self.labels.push(label)?;
+        self.labels.push(Label::Named(name))?;
         Ok(())
     }
 
-    /// Adds a label, unless it is there.
-    fn add_new(&mut self, label: Label) -> Result<(), AllocError> {
-        if self.column_of(label).is_none() {
-            self.labels.push(label)?;
+    /// Adds a name, unless it is there.
+    fn add_new(&mut self, name: FieldName) -> Result<(), AllocError> {
+        if self.column_of(name).is_none() {
+            self.labels.push(Label::Named(name))?;
         }
         Ok(())
     }
@@ -114,7 +94,7 @@ pub fn header_labels(
     fields: &FileFields,
     bytes: &[u8],
     ends: &[usize],
-) -> Result<Labels, HeaderFault> {
+) -> Result<Labels, Fault> {
     let mut labels = Labels::new(alloc);
     let mut start = 0;
     for end in ends {
@@ -126,11 +106,7 @@ pub fn header_labels(
 }
 
 /// Returns the columns that an argument names, separated by commas.
-pub fn given_labels(
-    alloc: Global,
-    fields: &FileFields,
-    names: &str,
-) -> Result<Labels, HeaderFault> {
+pub fn given_labels(alloc: Global, fields: &FileFields, names: &str) -> Result<Labels, Fault> {
     let mut labels = Labels::new(alloc);
     for name in names.split(',') {
         labels.add(fields, name.as_bytes(), Label::LeftOut)?;
@@ -142,13 +118,13 @@ pub fn given_labels(
 pub fn field_labels(alloc: Global, fields: &FileFields) -> Result<Labels, AllocError> {
     let mut labels = Labels::new(alloc);
     if fields.types.len() > 1 {
-        for position in fields.positions.as_slice() {
-            labels.add_new(Label::Code(*position))?;
+        for code in fields.codes.as_slice() {
+            labels.add_new(code.name)?;
         }
     }
     for kind in fields.types.as_slice() {
         for field in kind.fields.as_slice() {
-            labels.add_new(Label::Field(field.name))?;
+            labels.add_new(field.name)?;
         }
     }
     Ok(labels)

@@ -1,11 +1,12 @@
 //! Names of fields, and texts for diagnostics.
 
-ghost use Rattle.std.specs.Prelude.{◌≡◌, ◌≤◌};
-
 /// The most bytes of a field's name: six letters, and an index in parentheses.
 const MOST_NAME: usize = 12;
 
-/// The name of a field, as in the first row: an entry of an array has its index in parentheses.
+/// The most bytes of a text for a diagnostic: thirty-one characters of any size.
+const MOST_SAMPLE: usize = 124;
+
+/// The name of a field, as in the first row: an entry of an array has its index in parentheses, and the position of a code is `*20`.
 #[derive(Clone, Copy, PartialEq, Eq)]
 pub struct FieldName {
     bytes: [u8; 12],
@@ -26,7 +27,7 @@ impl FieldName {
     }
 
     /// Returns the name with one more byte, if it has room.
-    pub(crate) fn with(self, byte: u8) -> Self {
+    fn with(self, byte: u8) -> Self {
         let FieldName { mut bytes, len } = self;
         if usize::from(len) < MOST_NAME {
             bytes[usize::from(len)] = byte;
@@ -38,11 +39,13 @@ impl FieldName {
         self
     }
 
-    /// Keeps the first twelve bytes, in upper case.
+    /// Returns the name that a text spells, in upper or lower case. One that is too long is no field's.
     pub(crate) fn upper(text: &[u8]) -> Self {
         let mut name = FieldName::new(b"");
-        for byte in text {
-            name = name.with(byte.to_ascii_uppercase());
+        if text.len() <= MOST_NAME {
+            for byte in text {
+                name = name.with(byte.to_ascii_uppercase());
+            }
         }
         name
     }
@@ -53,18 +56,18 @@ impl FieldName {
     }
 
     /// Returns the name of a code's position.
-    pub fn of_position(position: u16) -> Self {
-        FieldName::new(b"*").with_number(position)
+    pub(crate) fn of_position(position: usize) -> Self {
+        FieldName::new(b"*").with_number(u16::try_from(position).unwrap_or(0))
     }
 
     /// Returns the name with a number after it.
-    fn with_number(self, index: u16) -> Self {
+    fn with_number(self, number: u16) -> Self {
         let digits = [
-            b'0' + (index / 10_000) as u8,
-            b'0' + (index / 1_000 % 10) as u8,
-            b'0' + (index / 100 % 10) as u8,
-            b'0' + (index / 10 % 10) as u8,
-            b'0' + (index % 10) as u8,
+            b'0' + (number / 10_000) as u8,
+            b'0' + (number / 1_000 % 10) as u8,
+            b'0' + (number / 100 % 10) as u8,
+            b'0' + (number / 10 % 10) as u8,
+            b'0' + (number % 10) as u8,
         ];
         let mut name = self;
         let mut is_begun = false;
@@ -80,21 +83,23 @@ impl FieldName {
     pub fn as_slice(&self) -> &[u8] {
         self.bytes.get(..usize::from(self.len)).unwrap_or(&[])
     }
+}
 
-    /// Whether a text is this name, in upper or lower case.
-    pub fn is_spelled(&self, text: &[u8]) -> bool {
-        let name = self.as_slice();
-        if name.len() != text.len() {
-            return false;
+/// What a column is: a field or the position of a code, or nothing, if it has no name or the arguments leave it out.
+#[derive(Clone, Copy, PartialEq, Eq)]
+pub enum Label {
+    Named(FieldName),
+    Unnamed,
+    LeftOut,
+}
+
+impl Label {
+    /// Returns its name, which may be empty.
+    pub fn name(self) -> FieldName {
+        match self {
+            Label::Named(name) => name,
+            Label::Unnamed | Label::LeftOut => FieldName::new(b""),
         }
-        let mut place = 0;
-        for byte in text {
-            if place >= name.len() || byte.to_ascii_uppercase() != name[place] {
-                return false;
-            }
-            place += 1;
-        }
-        true
     }
 }
 
@@ -106,10 +111,9 @@ pub struct Sample {
 }
 
 impl Sample {
-    /// Keeps the first 124 bytes: thirty-one characters of any size.
     pub fn new(text: &[u8]) -> Self {
         let mut bytes = [0; 124];
-        let len = text.len().min(124);
+        let len = text.len().min(MOST_SAMPLE);
         bytes[..len].copy_from_slice(&text[..len]);
         Sample { bytes, len }
     }

@@ -1,233 +1,187 @@
-//! Which column of a row each field of each type is in.
+//! Which columns of a line the cells of a row fill.
 
-use crate::fault::HeaderFault;
-use crate::field::{CodeColumn, Field, FieldType, FileFields, Label};
+use crate::fault::Fault;
+use crate::field::{Field, FieldType, FileFields, field_named};
 use crate::header::Labels;
 use rpg_records::Code;
 use std::alloc::{AllocError, Global};
 
-/// A field, and the column of a row that it is in, from 0.
+/// A field or the position of a code, and the column of the row that it is in, from 0.
 #[derive(Clone, Copy)]
-pub struct PlacedField {
-    pub field: Field,
+pub struct Cell {
     pub column: usize,
+    pub field: Field,
 }
 
-/// A record type: its card, its codes, its fields that have columns, and whether it has the field of each column.
+/// A record type: its card, its codes, and the cells of its fields in the order of their cards.
 #[derive(Drop)]
-pub struct TypeColumns {
+pub struct TypePlan {
     pub card: u16,
     pub codes: Vec<Code>,
-    pub fields: Vec<PlacedField>,
-    pub owns: Vec<bool>,
+    pub cells: Vec<Cell>,
+    /// For each column of the row its field, if the type has it.
+    pub by_column: Vec<Option<Field>>,
 }
 
-/// The columns of rows.
+/// What the rows and the lines of a file are to each other.
 #[derive(Drop)]
-pub struct Columns {
-    /// The length of a record.
-    pub length: u16,
+pub struct Plan {
+    /// The most columns of a line.
+    pub width: usize,
     pub labels: Labels,
-    pub codes: Vec<CodeColumn>,
-    /// Fields that have the same place in all types, and positions of codes: they tell the type.
-    pub common: Vec<PlacedField>,
-    pub types: Vec<TypeColumns>,
+    /// The cells that tell the type: positions of codes, and fields that have the same place in all types.
+    pub common: Vec<Cell>,
+    pub types: Vec<TypePlan>,
 }
 
-/// Returns the positions of codes that have columns.
-fn code_columns(
-    alloc: Global,
-    fields: &FileFields,
-    labels: &Labels,
-) -> Result<Vec<CodeColumn>, AllocError> {
-    let mut codes = Vec::new(alloc);
-    for position in fields.positions.as_slice() {
-        if let Some(column) = labels.column_of(Label::Code(*position)) {
-            codes.push(CodeColumn {
-                position: *position,
+/// Returns the fields that have columns.
+fn placed(alloc: Global, fields: &[Field], labels: &Labels) -> Result<Vec<Cell>, AllocError> {
+    let mut cells = Vec::new(alloc);
+    for field in fields {
+        if let Some(column) = labels.column_of(field.name) {
+            cells.push(Cell {
                 column,
+                field: *field,
             })?;
         }
     }
-    Ok(codes)
+    Ok(cells)
 }
 
-/// Whether one of these positions is a column of the record.
-fn any_is_at(codes: &[CodeColumn], column: u16) -> bool {
-    for code in codes {
-        if code.position == column {
-            return true;
-        }
-    }
-    false
+/// Whether a cell fills a column of the line.
+fn any_covers(cells: &[Cell], column: usize) -> bool {
+    cells.iter().any(|cell| cell.field.covers(column))
 }
 
-/// Whether a field of characters with a column has a column of the record.
-fn any_fills(fields: &[PlacedField], column: u16) -> bool {
-    for placed in fields {
-        if placed.field.form.is_none() && placed.field.covers(column) {
-            return true;
-        }
-    }
-    false
-}
-
-/// Whether other columns of the rows fill all columns of a field.
-fn is_filled(field: &Field, fields: &[PlacedField], codes: &[CodeColumn]) -> bool {
-    if field.form.is_some() {
-        return false;
-    }
-    for column in field.first..=field.last {
-        if !any_fills(fields, column) && !any_is_at(codes, column) {
+/// Whether cells fill all columns of a field.
+fn is_filled(field: &Field, cells: &[Cell], codes: &[Cell]) -> bool {
+    for column in field.start..field.end() {
+        if !any_covers(cells, column) && !any_covers(codes, column) {
             return false;
         }
     }
     true
 }
 
-/// Returns the fields of a type that have columns.
-fn placed_fields(
+/// Returns the field of each column.
+fn by_column(
     alloc: Global,
     kind: &FieldType,
+    codes: &[Field],
     labels: &Labels,
-) -> Result<Vec<PlacedField>, AllocError> {
-    let mut placed = Vec::new(alloc);
-    for field in kind.fields.as_slice() {
-        if let Some(column) = labels.column_of(Label::Field(field.name)) {
-            placed.push(PlacedField {
-                field: *field,
-                column,
-            })?;
-        }
-    }
-    Ok(placed)
-}
-
-/// Returns whether a type has the field of each column.
-fn owned(alloc: Global, kind: &FieldType, labels: &Labels) -> Result<Vec<bool>, AllocError> {
-    let mut owns = Vec::new(alloc);
+) -> Result<Vec<Option<Field>>, AllocError> {
+    let mut columns = Vec::new(alloc);
     for label in labels.as_slice() {
-        let is_own = match label {
-            Label::Field(name) => kind.field(*name).is_some(),
-            Label::Code(_) | Label::Unnamed | Label::LeftOut => true,
-        };
-        owns.push(is_own)?;
+        let name = label.name();
+        let field = field_named(codes, name).or(field_named(kind.fields.as_slice(), name));
+        columns.push(field.copied())?;
     }
-    Ok(owns)
+    Ok(columns)
 }
 
-/// Returns the columns of a type.
+/// Returns the plan of a type.
 ///
 /// # Errors
 ///
 /// A field has no column, and other columns don't fill its place.
-fn type_columns(
+fn type_plan(
     alloc: Global,
+    fields: &FileFields,
     kind: &FieldType,
     labels: &Labels,
-    codes: &[CodeColumn],
-) -> Result<TypeColumns, HeaderFault> {
-    let placed = placed_fields(alloc, kind, labels)?;
+    codes: &[Cell],
+) -> Result<TypePlan, Fault> {
+    let cells = placed(alloc, kind.fields.as_slice(), labels)?;
     for field in kind.fields.as_slice() {
-        let has_column = labels.column_of(Label::Field(field.name)).is_some();
-        if !has_column && !is_filled(field, placed.as_slice(), codes) {
+        if !is_filled(field, cells.as_slice(), codes) {
             let (name, card) = (field.name, field.card);
-            return Err(HeaderFault::NoColumn { name, card });
+            return Err(Fault::NoColumn { name, card });
         }
     }
-    let own_codes = Vec::from_slice(alloc, kind.codes.as_slice())?;
-    let owns = owned(alloc, kind, labels)?;
-    Ok(TypeColumns {
+    Ok(TypePlan {
         card: kind.card,
-        codes: own_codes,
-        fields: placed,
-        owns,
+        codes: Vec::from_slice(alloc, kind.codes.as_slice())?,
+        cells,
+        by_column: by_column(alloc, kind, fields.codes.as_slice(), labels)?,
     })
 }
 
 /// Whether all types have a field like this one.
 fn is_common(field: &Field, types: &[FieldType]) -> bool {
     for kind in types {
-        match kind.field(field.name) {
+        match field_named(kind.fields.as_slice(), field.name) {
             Some(other) if field.is_like(other) => {}
             _ => return false,
         }
     }
-    field.form.is_none()
+    true
 }
 
-/// Adds the fields that all types have, and that have a column of the record. Returns whether there is one.
+/// Adds the cells of fields that all types have, and that cover a code. Returns whether there is one.
 fn add_common(
-    common: &mut Vec<PlacedField>,
-    first: &[PlacedField],
+    common: &mut Vec<Cell>,
+    first: &[Cell],
     types: &[FieldType],
-    position: u16,
+    code: &Field,
 ) -> Result<bool, AllocError> {
     let mut is_there = false;
-    for placed in first {
-        if placed.field.covers(position) && is_common(&placed.field, types) {
-            common.push(*placed)?;
+    for cell in first {
+        if cell.field.covers(code.start) && is_common(&cell.field, types) {
+            common.push(*cell)?;
             is_there = true;
         }
     }
     Ok(is_there)
 }
 
-/// Returns the card of the first type with a code at a position.
-fn card_with_code(types: &[FieldType], position: u16) -> u16 {
+/// Returns the card of the first type with a code at this place.
+fn card_with_code(types: &[FieldType], place: usize) -> u16 {
     for kind in types {
-        if kind.has_code(position) {
+        if kind.codes.as_slice().iter().any(|code| code.place == place) {
             return kind.card;
         }
     }
     0
 }
 
-/// Returns the fields that tell the type.
+/// Adds the cells of fields that tell the type.
 ///
 /// # Errors
 ///
 /// A position of a code has neither a column nor such a field.
-fn common_fields(
-    alloc: Global,
+fn add_all_common(
+    common: &mut Vec<Cell>,
     fields: &FileFields,
-    codes: &[CodeColumn],
-    first: &[PlacedField],
-) -> Result<Vec<PlacedField>, HeaderFault> {
-    let mut common = Vec::new(alloc);
+    labels: &Labels,
+    first: &[Cell],
+) -> Result<(), Fault> {
     let types = fields.types.as_slice();
-    if types.len() < 2 {
-        return Ok(common);
-    }
-    for position in fields.positions.as_slice() {
-        if !any_is_at(codes, *position) && !add_common(&mut common, first, types, *position)? {
-            return Err(HeaderFault::NoCode {
-                position: *position,
-                card: card_with_code(types, *position),
+    for code in fields.codes.as_slice() {
+        if labels.column_of(code.name).is_none() && !add_common(common, first, types, code)? {
+            return Err(Fault::NoCode {
+                name: code.name,
+                card: card_with_code(types, code.start),
                 types: types.len(),
             });
         }
     }
-    Ok(common)
+    Ok(())
 }
 
-impl Columns {
-    /// Returns the columns of a file's rows, by their labels.
-    pub fn new(alloc: Global, fields: &FileFields, labels: Labels) -> Result<Self, HeaderFault> {
-        let codes = code_columns(alloc, fields, &labels)?;
+impl Plan {
+    /// Returns the plan of a file's rows, by their labels.
+    pub fn new(alloc: Global, fields: &FileFields, labels: Labels) -> Result<Self, Fault> {
+        let mut common = placed(alloc, fields.codes.as_slice(), &labels)?;
         let mut types = Vec::new(alloc);
         for kind in fields.types.as_slice() {
-            let columns = type_columns(alloc, kind, &labels, codes.as_slice())?;
-            types.push(columns)?;
+            types.push(type_plan(alloc, fields, kind, &labels, common.as_slice())?)?;
         }
-        let common = match types.as_slice() {
-            [first, ..] => common_fields(alloc, fields, codes.as_slice(), first.fields.as_slice())?,
-            [] => Vec::new(alloc),
-        };
-        Ok(Columns {
-            length: fields.length,
+        if let [first, _, ..] = types.as_slice() {
+            add_all_common(&mut common, fields, &labels, first.cells.as_slice())?;
+        }
+        Ok(Plan {
+            width: fields.width,
             labels,
-            codes,
             common,
             types,
         })

@@ -1,13 +1,15 @@
-//! Rows of comma-separated values as lines of fixed columns, over any reader and writer.
+//! Rows of comma-separated values as lines of fixed columns, and lines as rows, over any reader and writer.
 #![tactic(auto)]
 
-mod conversion;
-mod fault;
+mod input;
 mod line;
-mod number;
+mod lines;
+mod row;
+mod rows;
+mod stop;
 mod texts;
 
-pub use conversion::{Header, RowSetting, RowsFault, rows_to_lines};
-pub use fault::{CellNumberFault, CellTextFault, HeaderRowFault, LineFault};
-pub use number::NumberFormat;
-pub use texts::CellFormat;
+pub use lines::rows_to_lines;
+pub use rows::lines_to_rows;
+pub use stop::Stop;
+pub use texts::{Format, Header, Setting};

@@ -1,11 +1,10 @@
 //! The line of a row.
 
-use crate::fault::{CellNumberFault, CellTextFault, LineFault};
-use crate::number::{NumberShape, without_blanks, write_number};
-use crate::texts::{CellFormat, Texts};
-use rpg_csv_columns::{CodeColumn, Columns, Field, Label, PlacedField, Sample, TypeColumns};
+use crate::texts::{Format, Texts};
+use rpg_csv_columns::{Cell, Fault, Label, Plan, TextFault, TypePlan};
+use rpg_csv_values::{CellFault, CellKind, write_cell};
 use rpg_records::Code;
-use rpg_text::trimmed;
+use rpg_text::{is_blank, trimmed};
 use std::alloc::{AllocError, Global};
 
 /// A line that is put together: its columns, 0 where nothing is yet, and for each the column of the row that filled it.
@@ -13,25 +12,40 @@ use std::alloc::{AllocError, Global};
 pub(crate) struct Line {
     columns: Vec<u8>,
     owners: Vec<usize>,
-    /// The digits of packed and binary fields.
-    digits: Vec<u8>,
+    /// The columns of a cell.
+    room: Vec<u8>,
 }
 
-/// A text that a column of the row puts into the line.
-#[derive(Clone, Copy)]
-struct Put<'a> {
-    /// The first column of the record, from 0.
-    first: usize,
-    text: &'a [u8],
-    column: usize,
+/// Whether all codes hold in a line's columns. A blank stands after their end, and where nothing is.
+pub(crate) fn fits(columns: &[u8], codes: &[Code]) -> bool {
+    for code in codes {
+        let character = match columns.get(code.place) {
+            Some(0) | None => b' ',
+            Some(byte) => *byte,
+        };
+        if (character == code.character) == code.is_negated {
+            return false;
+        }
+    }
+    true
+}
+
+/// Returns the first type all of whose codes hold.
+pub(crate) fn type_of<'a>(columns: &[u8], types: &'a [TypePlan]) -> Option<&'a TypePlan> {
+    for kind in types {
+        if fits(columns, kind.codes.as_slice()) {
+            return Some(kind);
+        }
+    }
+    None
 }
 
 impl Line {
-    pub fn new(alloc: Global, length: u16) -> Result<Self, AllocError> {
+    pub fn new(alloc: Global, width: usize) -> Result<Self, AllocError> {
         Ok(Line {
-            columns: vec![in alloc; 0; usize::from(length)]?,
-            owners: vec![in alloc; 0; usize::from(length)]?,
-            digits: Vec::new(alloc),
+            columns: vec![in alloc; 0; width]?,
+            owners: vec![in alloc; 0; width]?,
+            room: vec![in alloc; 0; width]?,
         })
     }
 
@@ -40,50 +54,31 @@ impl Line {
         for byte in self.columns.as_mut_slice() {
             *byte = 0;
         }
-        self.digits.clear();
     }
 
-    /// Puts a text into its columns. Characters that are there already must be the same.
-    fn put(&mut self, put: Put<'_>, labels: &[Label]) -> Result<(), LineFault> {
+    /// Puts the room's characters into the columns of a cell. Characters that are there already must be the same.
+    fn put(&mut self, cell: &Cell, labels: &[Label]) -> Result<(), Fault> {
+        let room = self.room.as_slice();
         let columns = self.columns.as_mut_slice();
         let owners = self.owners.as_mut_slice();
-        for (place, wants) in put.text.iter().enumerate() {
-            let at = put.first.saturating_add(place);
-            if at >= columns.len() || at >= owners.len() {
-                return Ok(());
+        for at in cell.field.start..cell.field.end() {
+            if at >= columns.len() || at >= owners.len() || at >= room.len() {
+                break;
             }
-            let stands = columns[at];
-            if stands != 0 && stands != *wants {
-                return Err(LineFault::Shared {
+            let (stands, wants) = (columns[at], room[at]);
+            if stands != 0 && stands != wants {
+                return Err(Fault::Shared {
                     column: at.saturating_add(1),
-                    first: label_at(labels, owners[at]),
+                    first: label_at(labels, owners[at]).name(),
                     stands,
-                    second: label_at(labels, put.column),
-                    wants: *wants,
+                    second: cell.field.name,
+                    wants,
                 });
             }
-            columns[at] = *wants;
-            owners[at] = put.column;
+            columns[at] = wants;
+            owners[at] = cell.column;
         }
         Ok(())
-    }
-
-    /// Returns the character in a column, from 0; a blank where nothing is.
-    fn character(&self, place: usize) -> u8 {
-        match self.columns.as_slice().get(place) {
-            Some(0) | None => b' ',
-            Some(byte) => *byte,
-        }
-    }
-
-    /// Whether all codes hold.
-    fn fits(&self, codes: &[Code]) -> bool {
-        for code in codes {
-            if (self.character(code.place) == code.character) == code.is_negated {
-                return false;
-            }
-        }
-        true
     }
 
     /// Puts the codes of a type where nothing is.
@@ -98,16 +93,13 @@ impl Line {
 
     /// Writes the line with its line feed, without blanks at its end.
     fn write(&mut self, out: &mut Vec<u8>) -> Result<(), AllocError> {
-        out.clear();
         for byte in self.columns.as_mut_slice() {
             if *byte == 0 {
                 *byte = b' ';
             }
         }
-        out.extend_from_slice(self.columns.as_slice())?;
-        out.extend_from_slice(self.digits.as_slice())?;
-        let end = trimmed(out.as_slice()).len();
-        out.truncate(end);
+        out.clear();
+        out.extend_from_slice(trimmed(self.columns.as_slice()))?;
         out.push(b'\n')?;
         Ok(())
     }
@@ -117,189 +109,65 @@ fn label_at(labels: &[Label], column: usize) -> Label {
     labels.get(column).copied().unwrap_or(Label::Unnamed)
 }
 
-/// Returns the first type all of whose codes hold.
-fn type_of<'a>(line: &Line, types: &'a [TypeColumns]) -> Option<&'a TypeColumns> {
-    for kind in types {
-        if line.fits(kind.codes.as_slice()) {
-            return Some(kind);
-        }
-    }
-    None
-}
-
 /// The rows of a file: their columns, and how their cells are written.
 #[derive(Clone, Copy)]
 pub(crate) struct RowMaker<'a> {
-    pub columns: &'a Columns,
-    pub format: CellFormat,
+    pub plan: &'a Plan,
+    pub format: Format,
 }
 
-/// The form of a field's number.
-fn shape_of(field: &Field, decimals: u8) -> NumberShape {
-    NumberShape {
-        digits: field.width().min(15) as u8,
-        decimals,
-    }
+/// Returns the fault of a cell with this text.
+fn cell_fault(cell: &Cell, text: &[u8], fault: CellFault) -> Fault {
+    let text = match cell.field.kind {
+        CellKind::Text => trimmed(text),
+        _ => text,
+    };
+    let label = Label::Named(cell.field.name);
+    Fault::cell(cell.column, label, text, TextFault::Columns(fault))
 }
 
 impl RowMaker<'_> {
-    fn labels(&self) -> &[Label] {
-        self.columns.labels.as_slice()
-    }
-
-    /// Returns the fault of a column's cell.
-    fn cell_fault(&self, column: usize, fault: CellTextFault) -> LineFault {
-        LineFault::cell(column, label_at(self.labels(), column), fault)
-    }
-
-    /// Writes the characters of a number.
-    fn write_number(
-        &self,
-        placed: &PlacedField,
-        decimals: u8,
-        cell: &[u8],
-        text: &mut [u8],
-    ) -> Result<(), LineFault> {
-        let field = &placed.field;
-        let is_empty = field.form.is_some() && without_blanks(cell).is_empty();
-        let written = if is_empty {
-            Err(CellNumberFault::Empty)
-        } else {
-            write_number(self.format.number, cell, shape_of(field, decimals), text)
+    /// Puts a cell into the line.
+    fn put_cell(&self, cell: &Cell, texts: &Texts, line: &mut Line) -> Result<(), Fault> {
+        let text = texts.text(cell.column);
+        let (start, end) = (cell.field.start, cell.field.end());
+        let Some(columns) = line.room.as_mut_slice().get_mut(start..end) else {
+            return Ok(());
         };
-        match written {
-            Ok(()) => Ok(()),
-            Err(fault) => {
-                let cell = Sample::new(cell);
-                Err(self.cell_fault(placed.column, CellTextFault::Number { cell, fault }))
-            }
-        }
-    }
-
-    /// Puts a number into the line, or its digits after it.
-    fn put_number(
-        &self,
-        placed: &PlacedField,
-        decimals: u8,
-        cell: &[u8],
-        line: &mut Line,
-    ) -> Result<(), LineFault> {
-        let mut room = [b' '; 15];
-        let width = placed.field.width().min(15);
-        let text = &mut room[..width];
-        self.write_number(placed, decimals, cell, text)?;
-        if placed.field.form.is_some() {
-            line.digits.extend_from_slice(text)?;
+        if columns.is_empty() {
             return Ok(());
         }
-        let put = Put {
-            first: usize::from(placed.field.first - 1),
-            text,
-            column: placed.column,
-        };
-        line.put(put, self.labels())
+        if let Err(fault) = write_cell(self.format.number, cell.field.kind, text, columns) {
+            return Err(cell_fault(cell, text, fault));
+        }
+        line.put(cell, self.plan.labels.as_slice())
     }
 
-    /// Puts a text into the line, with blanks after it.
-    fn put_text(
-        &self,
-        placed: &PlacedField,
-        cell: &[u8],
-        line: &mut Line,
-    ) -> Result<(), LineFault> {
-        let text = trimmed(cell);
-        let width = placed.field.width();
-        if text.len() > width {
-            let fault = CellTextFault::LongText {
-                cell: Sample::new(text),
-                length: text.len(),
-                width,
-            };
-            return Err(self.cell_fault(placed.column, fault));
-        }
-        let first = usize::from(placed.field.first - 1);
-        let column = placed.column;
-        let put = Put {
-            first,
-            text,
-            column,
-        };
-        line.put(put, self.labels())?;
-        for place in text.len()..width {
-            let put = Put {
-                first: first.saturating_add(place),
-                text: b" ",
-                column,
-            };
-            line.put(put, self.labels())?;
-        }
-        Ok(())
-    }
-
-    fn put_field(
-        &self,
-        placed: &PlacedField,
-        texts: &Texts,
-        line: &mut Line,
-    ) -> Result<(), LineFault> {
-        let cell = texts.text(placed.column);
-        match placed.field.decimals {
-            Some(decimals) => self.put_number(placed, decimals, cell, line),
-            None => self.put_text(placed, cell, line),
-        }
-    }
-
-    fn put_fields(
-        &self,
-        fields: &[PlacedField],
-        texts: &Texts,
-        line: &mut Line,
-    ) -> Result<(), LineFault> {
-        for placed in fields {
-            self.put_field(placed, texts, line)?;
-        }
-        Ok(())
-    }
-
-    /// Puts the characters at the positions of codes.
-    fn put_positions(&self, texts: &Texts, line: &mut Line) -> Result<(), LineFault> {
-        for code in self.columns.codes.as_slice() {
-            let CodeColumn { position, column } = *code;
-            let cell = texts.text(column);
-            if cell.len() > 1 {
-                let cell = Sample::new(cell);
-                return Err(self.cell_fault(column, CellTextFault::LongCode { cell }));
-            }
-            let put = Put {
-                first: usize::from(position).saturating_sub(1),
-                text: if cell.is_empty() { b" " } else { cell },
-                column,
-            };
-            line.put(put, self.labels())?;
+    fn put_cells(&self, cells: &[Cell], texts: &Texts, line: &mut Line) -> Result<(), Fault> {
+        for cell in cells {
+            self.put_cell(cell, texts, line)?;
         }
         Ok(())
     }
 
     /// Checks that the cells of fields that a type hasn't are empty.
-    fn check_other_cells(&self, kind: &TypeColumns, texts: &Texts) -> Result<(), LineFault> {
-        for (column, is_own) in kind.owns.as_slice().iter().enumerate() {
-            let cell = texts.text(column);
-            if !*is_own && !without_blanks(cell).is_empty() {
-                let fault = CellTextFault::OtherType {
-                    cell: Sample::new(cell),
-                    card: kind.card,
-                };
-                return Err(self.cell_fault(column, fault));
+    fn check_other_cells(&self, kind: &TypePlan, texts: &Texts) -> Result<(), Fault> {
+        for (column, field) in kind.by_column.as_slice().iter().enumerate() {
+            let text = texts.text(column);
+            if field.is_none() && !is_blank(text) {
+                let label = label_at(self.plan.labels.as_slice(), column);
+                let fault = TextFault::OtherType { card: kind.card };
+                return Err(Fault::cell(column, label, text, fault));
             }
         }
         Ok(())
     }
 
     /// Returns the type of the row: the only one, or the first one all of whose codes hold.
-    fn type_of_row(&self, line: &Line) -> Option<&TypeColumns> {
-        match self.columns.types.as_slice() {
+    fn type_of_row(&self, line: &Line) -> Option<&TypePlan> {
+        match self.plan.types.as_slice() {
             [only] => Some(only),
-            types => type_of(line, types),
+            types => type_of(line.columns.as_slice(), types),
         }
     }
 
@@ -309,19 +177,18 @@ impl RowMaker<'_> {
         texts: &Texts,
         line: &mut Line,
         out: &mut Vec<u8>,
-    ) -> Result<(), LineFault> {
+    ) -> Result<(), Fault> {
         line.clear();
-        self.put_positions(texts, line)?;
-        self.put_fields(self.columns.common.as_slice(), texts, line)?;
+        self.put_cells(self.plan.common.as_slice(), texts, line)?;
         let Some(kind) = self.type_of_row(line) else {
-            return Err(LineFault::NoType);
+            return Err(Fault::NoType);
         };
         self.check_other_cells(kind, texts)?;
-        self.put_fields(kind.fields.as_slice(), texts, line)?;
+        self.put_cells(kind.cells.as_slice(), texts, line)?;
         line.put_codes(kind.codes.as_slice());
-        match type_of(line, self.columns.types.as_slice()) {
+        match type_of(line.columns.as_slice(), self.plan.types.as_slice()) {
             Some(found) if found.card == kind.card => {}
-            _ => return Err(LineFault::NoType),
+            _ => return Err(Fault::NoType),
         }
         line.write(out)?;
         Ok(())

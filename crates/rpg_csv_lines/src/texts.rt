@@ -1,19 +1,37 @@
 //! The texts of a row's cells.
 
-use crate::fault::{CellTextFault, LineFault};
-use crate::number::{NumberFormat, without_blanks};
-use rpg_csv_columns::{Label, Sample};
+use rpg_csv_columns::{Fault, FileFields, Label, TextFault};
 use rpg_csv_rows::{add_content, first_cell};
-use rpg_text::{has_only_characters, is_character};
+use rpg_csv_values::NumberFormat;
+use rpg_text::{has_only_characters, is_blank, is_character};
 use std::alloc::{AllocError, Global};
 
 /// How cells are written.
 #[derive(Clone, Copy)]
-pub struct CellFormat {
+pub struct Format {
     pub delimiter: u8,
     pub number: NumberFormat,
-    /// Stands for each character that rpg2 has not.
+    /// Replaces each character that rpg2 doesn't have.
     pub replacement: Option<u8>,
+}
+
+/// What the columns are named by.
+#[derive(Clone, Copy)]
+pub enum Header<'a> {
+    /// The first row.
+    FirstRow,
+    /// The fields, in the order of their cards.
+    Fields,
+    /// Names with commas between them. The first row may be passed over.
+    Given { names: &'a str, passes_row: bool },
+}
+
+/// The fields of a file, and how its rows are written.
+#[derive(Clone, Copy)]
+pub struct Setting<'a> {
+    pub fields: &'a FileFields,
+    pub format: Format,
+    pub header: Header<'a>,
 }
 
 /// The texts of a row's cells, one after the other, and where each ends.
@@ -25,12 +43,12 @@ pub(crate) struct Texts {
     content: Vec<u8>,
 }
 
-/// Appends a text with its foreign characters replaced.
+/// Appends a text with its foreign characters replaced. Returns the first one if nothing replaces it.
 fn add_replaced(
     text: &str,
     replacement: Option<u8>,
     out: &mut Vec<u8>,
-) -> Result<(), CellTextFault> {
+) -> Result<Option<char>, AllocError> {
     for character in text.chars() {
         let byte = u8::try_from(u32::from(character)).unwrap_or(0);
         if is_character(byte) {
@@ -38,28 +56,10 @@ fn add_replaced(
         } else if let Some(stand_in) = replacement {
             out.push(stand_in)?;
         } else {
-            return Err(CellTextFault::NoCharacter { character });
+            return Ok(Some(character));
         }
     }
-    Ok(())
-}
-
-/// Appends a cell's text in characters of rpg2.
-fn add_text(
-    content: &[u8],
-    replacement: Option<u8>,
-    out: &mut Vec<u8>,
-) -> Result<(), CellTextFault> {
-    if has_only_characters(content) {
-        out.extend_from_slice(content)?;
-        return Ok(());
-    }
-    match str::from_utf8(content) {
-        Ok(text) => add_replaced(text, replacement, out),
-        Err(error) => Err(CellTextFault::NoUtf8 {
-            byte: content.get(error.valid_up_to()).copied().unwrap_or(0),
-        }),
-    }
+    Ok(None)
 }
 
 impl Texts {
@@ -90,67 +90,65 @@ impl Texts {
         self.ends.as_slice()
     }
 
-    /// Takes the contents of a row's cells, as they are.
-    pub fn take_contents(&mut self, row: &[u8], delimiter: u8) -> Result<(), AllocError> {
-        self.bytes.clear();
-        self.ends.clear();
-        let mut rest = Some(row);
-        for _ in 0..=row.len() {
-            let Some(cells) = rest else {
-                break;
-            };
-            let first = first_cell(cells, delimiter);
-            add_content(first.raw, &mut self.bytes)?;
-            self.ends.push(self.bytes.len())?;
-            rest = first.rest;
+    /// Appends the content of the cell in a column with this label, in characters of rpg2.
+    fn add_text(&mut self, format: Format, column: usize, label: Label) -> Result<(), Fault> {
+        let content = self.content.as_slice();
+        if has_only_characters(content) {
+            self.bytes.extend_from_slice(content)?;
+            return Ok(());
         }
-        Ok(())
+        match str::from_utf8(content) {
+            Ok(text) => match add_replaced(text, format.replacement, &mut self.bytes)? {
+                Some(character) => {
+                    let fault = TextFault::Foreign { character };
+                    Err(Fault::cell(column, label, content, fault))
+                }
+                None => Ok(()),
+            },
+            Err(error) => {
+                let byte = content.get(error.valid_up_to()).copied().unwrap_or(0);
+                Err(Fault::cell(column, label, content, TextFault::NotUtf8 { byte }))
+            }
+        }
     }
 
-    /// Takes the text of a cell, by what its column is. The text of a column without a name is empty.
+    /// Takes a cell, by what its column is: without a label as it is, and nothing of a column without a name.
     fn take_cell(
         &mut self,
-        format: CellFormat,
-        label: Label,
+        format: Format,
+        column: usize,
+        label: Option<Label>,
         raw: &[u8],
-    ) -> Result<(), CellTextFault> {
+    ) -> Result<(), Fault> {
         self.content.clear();
         add_content(raw, &mut self.content)?;
-        let content = self.content.as_slice();
         match label {
-            Label::LeftOut => {}
-            Label::Unnamed => {
-                if !without_blanks(content).is_empty() {
-                    let cell = Sample::new(content);
-                    return Err(CellTextFault::Unnamed { cell });
+            Some(Label::LeftOut) => {}
+            Some(Label::Unnamed) => {
+                let content = self.content.as_slice();
+                if !is_blank(content) {
+                    return Err(Fault::cell(column, Label::Unnamed, content, TextFault::Unnamed));
                 }
             }
-            Label::Field(_) | Label::Code(_) => {
-                add_text(content, format.replacement, &mut self.bytes)?
-            }
+            Some(label) => self.add_text(format, column, label)?,
+            None => self.bytes.extend_from_slice(self.content.as_slice())?,
         }
         self.ends.push(self.bytes.len())?;
         Ok(())
     }
 
-    /// Takes the texts of a row's cells.
-    pub fn take_row(
-        &mut self,
-        format: CellFormat,
-        labels: &[Label],
-        row: &[u8],
-    ) -> Result<(), LineFault> {
+    /// Takes the texts of a row's cells, by their labels; without labels as they are.
+    pub fn take_row(&mut self, format: Format, labels: &[Label], row: &[u8]) -> Result<(), Fault> {
         self.bytes.clear();
         self.ends.clear();
         let mut rest = Some(row);
-        for (column, label) in labels.iter().enumerate() {
+        for column in 0..=row.len() {
             let Some(cells) = rest else {
-                return Ok(());
+                break;
             };
             let first = first_cell(cells, format.delimiter);
-            if let Err(fault) = self.take_cell(format, *label, first.raw) {
-                return Err(LineFault::cell(column, *label, fault));
-            }
+            let label = labels.get(column).copied();
+            self.take_cell(format, column, label, first.raw)?;
             rest = first.rest;
         }
         Ok(())

@@ -9,9 +9,6 @@ use Rattle.rpg_csv_rows.specs.Cells.{is_open_after}
 use Rattle.rpg_csv_rows.specs.Inputs.{GivesRow}
 use Rattle.rpg_csv_rows.specs.Rows.{ends_row, is_open_through, row_through}
 
-pub nothing_before : (a : Option (List ℕ)) → prepend_known [] a ≡ a
-nothing_before = prepend_known-nil
-
 no_range : (xs : List ℕ) (start end : ℕ) → end ≤ start → slice_range xs start end ≡ []
 no_range xs start end h = let none : end - start ≡ 0 = omega arith in ap (λ (k : ℕ). take k (drop start xs)) none
 
@@ -39,19 +36,19 @@ given_front : (a : Option (List ℕ)) (bs : List ℕ) (n : ℕ) → Consumes (pr
 given_front None bs n = tt
 given_front (Some x) bs n = ap (λ l. l ++ x) (sym (take-append-drop n bs)) ∙ append_assoc (take n bs) (drop n bs) x
 
-slice_range-add : (xs : List ℕ) (start end n : ℕ) → n ≤ length (slice_range xs start end) → slice_range xs (start + n) end ≡ drop n (slice_range xs start end)
-slice_range-add xs start end n few =
+-- the rest of a buffer after n more bytes
+pub left_after_more : (xs : List ℕ) (start end n : ℕ) → n ≤ length (slice_range xs start end) → slice_range xs (start + n) end ≡ drop n (slice_range xs start end)
+left_after_more xs start end n few =
     let m = end - (start + n) in
     let within : n ≤ end - start = omega (arith, few, length-take (end - start) (drop start xs)) in
     let parts : end - start ≡ n + m = omega arith in
     sym (ap (λ (k : ℕ). drop n (take k (drop start xs))) parts ∙ drop-take n m (drop start xs) ∙ ap (take m) (drop-drop n start xs))
 
--- the first n bytes of a buffer were given
-pub given_bytes : (a : Option (List ℕ)) (xs : List ℕ) (start end n : ℕ) → n ≤ length (slice_range xs start end)
-    → Consumes (prepend_known (slice_range xs start end) a) (prepend_known (slice_range xs (start + n) end) a) (take n (slice_range xs start end))
-given_bytes a xs start end n few =
-    let left = slice_range xs start end in
-    subst (λ (l : List ℕ). Consumes (prepend_known left a) (prepend_known l a) (take n left)) (sym (slice_range-add xs start end n few)) (given_front a left n)
+-- a front of the bytes that are left was given
+given_part : (r : Option (List ℕ)) (left piece rest : List ℕ) → take (length piece) left ≡ piece → rest ≡ drop (length piece) left → Consumes (prepend_known left r) (prepend_known rest r) piece
+given_part r left piece rest e f =
+    subst (λ (l : List ℕ). Consumes (prepend_known left r) (prepend_known l r) piece) (sym f)
+    (subst (Consumes (prepend_known left r) (prepend_known (drop (length piece) left) r)) e (given_front r left (length piece)))
 
 pub unchanged : (a : Option (List ℕ)) → Keeps a a
 unchanged = Keeps-refl
@@ -205,19 +202,24 @@ row_ended n inside a b c got p k e = at_end n inside a c got (so_far_kept n insi
 
 -- ---- after the buffer was filled, by how many bytes there may be
 
-pub row_more : (n k : ℕ) (inside after : Bool) (a b c d : Option (List ℕ)) (left got new : List ℕ) → k ≡ n - length got → SoFar n inside a b got → Keeps b c
-    → ends_row inside (take k left) ≡ false → after ≡ is_open_through inside (take k left) → Consumes c d (first_row inside k left) → new ≡ got ++ first_row inside k left → SoFar n after a d new
-row_more n k inside after a b c d left got new e p q none o r f =
+pub row_more : (n k : ℕ) (inside after : Bool) (a b r : Option (List ℕ)) (left rest got new : List ℕ) → k ≡ n - length got → SoFar n inside a b got → Keeps b (prepend_known left r)
+    → ends_row inside (take k left) ≡ false → after ≡ is_open_through inside (take k left) → rest ≡ drop (length (first_row inside k left)) left → new ≡ got ++ first_row inside k left
+    → SoFar n after a (prepend_known rest r) new
+row_more n k inside after a b r left rest got new e p q none o s f =
     let piece = take k left in
+    let c = prepend_known left r in
+    let d = prepend_known rest r in
     let whole : first_row inside k left ≡ piece = no_end inside piece none in
     let few : length piece ≤ n - length got = omega (arith, e, length-take k left) in
-    let next = so_far_more n inside a c d got piece (so_far_kept n inside a b c got p q) few none (subst (Consumes c d) whole r) in
+    let given = given_part r left (first_row inside k left) rest (part_front inside k left) s in
+    let next = so_far_more n inside a c d got piece (so_far_kept n inside a b c got p q) few none (subst (Consumes c d) whole given) in
     subst (λ (l : List ℕ). SoFar n after a d l) (sym (f ∙ ap (λ l. got ++ l) whole)) (subst (λ (o : Bool). SoFar n o a d (got ++ piece)) (sym o) next)
 
-pub row_found : (n k : ℕ) (inside : Bool) (a b r d : Option (List ℕ)) (left got new : List ℕ) → k ≡ n - length got → SoFar n inside a b got → Keeps b (prepend_known left r)
-    → ends_row inside (take k left) ≡ true → Consumes (prepend_known left r) d (first_row inside k left) → new ≡ got ++ first_row inside k left → GivesRow n a d new
-row_found n k inside a b r d left got new e p q some s f =
-    let same = λ (j : ℕ). first_row inside j left in
+pub row_found : (n k : ℕ) (inside : Bool) (a b r : Option (List ℕ)) (left rest got new : List ℕ) → k ≡ n - length got → SoFar n inside a b got → Keeps b (prepend_known left r)
+    → ends_row inside (take k left) ≡ true → rest ≡ drop (length (first_row inside k left)) left → new ≡ got ++ first_row inside k left → GivesRow n a (prepend_known rest r) new
+row_found n k inside a b r left rest got new e p q some t f =
+    let d = prepend_known rest r in
+    let s = given_part r left (first_row inside k left) rest (part_front inside k left) t in
     subst (GivesRow n a d) (sym (f ∙ ap (λ (j : ℕ). got ++ first_row inside j left) e))
     (so_far_found n inside a r d left got (so_far_kept n inside a b (prepend_known left r) got p q) (subst (λ (j : ℕ). ends_row inside (take j left) ≡ true) e some)
     (subst (λ (j : ℕ). Consumes (prepend_known left r) d (first_row inside j left)) e s))

@@ -1,7 +1,8 @@
 //! Rows of a reader's input.
 
-ghost use Rattle.std.specs.Prelude.{◌≡◌, ◌^◌, ◌-◌, ◌+◌, ◌<◌, ◌≤◌, ◌++◌, false, length, take, true, vec_len, Err, IfOk, OnOk, IfErr};
+ghost use Rattle.std.specs.Prelude.{◌≡◌, ◌^◌, ◌-◌, ◌+◌, ◌<◌, ◌≤◌, ◌++◌, false, length, take, true, vec_len, [], drop, Err, IfOk, OnOk, IfErr};
 ghost use Rattle.std.specs.Io.BufRead.{ends_with_byte, strip_last};
+ghost use Rattle.rpg_files.specs.Counting.{faults_of};
 ghost use Rattle.rpg_csv_rows.specs.declared.input.RowInputFault.TheVariants.{Device, NoMemory};
 ghost use Rattle.rpg_csv_rows.specs.Rows.{ends_row, is_open_through, row_text, row_through};
 
@@ -148,10 +149,9 @@ fn line_part(bytes: &[u8]) -> &[u8]
     bytes
 }
 
-/// A reader of rows, with the bytes `buf[start..end]`, which were read but not yet returned.
+/// The bytes of a reader that were read but not yet returned: `buf[start..end]`.
 #[derive(Drop)]
-pub struct RowInput<R> {
-    reader: Counted<R>,
+pub struct RowInput {
     buf: Vec<u8>,
     start: usize,
     end: usize,
@@ -167,21 +167,16 @@ fn front(bytes: &[u8], most: usize) -> &[u8]
     &bytes[..most.min(bytes.len())]
 }
 
-impl<R: Read> RowInput<R> {
-    ghost use Rattle.std.specs.Io.KnownBytes.{Consumes, IsAtEnd, Keeps};
-    ghost use Rattle.rpg_csv_rows.specs.Inputs.{GivesRow, faults_in, left_in, remaining_in};
+impl RowInput {
+    ghost use Rattle.std.specs.Io.KnownBytes.{IsAtEnd, Keeps};
+    ghost use Rattle.rpg_csv_rows.specs.Inputs.{GivesRow, left_in, remaining_in};
 
-    /// A reader of the rows of another reader. It takes room for a whole row.
-    #[tactic(auto, using(crate::proofs::InputLemmas::nothing_before))]
-    pub fn new(alloc: Global, reader: R) -> Result<Self, AllocError>
-    where
-        R: Drop,
-        ensures remaining { IfOk result (λ input. remaining_in R.remaining input ≡ R.remaining reader) }
-        ensures faults { IfOk result (λ input. faults_in input ≡ 0) }
+    /// Nothing was read yet.
+    pub fn new(alloc: Global) -> Result<Self, AllocError>
+        ensures { IfOk result (λ input. left_in input ≡ []) }
     {
         let buf = vec![in alloc; 0; READ_ROOM]?;
         Ok(RowInput {
-            reader: Counted::new(reader),
             buf,
             start: 0,
             end: 0,
@@ -195,50 +190,45 @@ impl<R: Read> RowInput<R> {
         &all[self.start..self.end]
     }
 
-    /// Reads if the buffer is empty. Returns whether it has bytes now; it has none at the end of the input.
+    /// Reads if no bytes are left. Returns whether there are any now; there are none at the end of the input.
     #[tactic(auto, using(crate::proofs::InputLemmas::filled, crate::proofs::InputLemmas::filled_end, crate::proofs::InputLemmas::unchanged))]
-    fn fill(&mut self) -> Result<bool, DeviceFault>
-        ensures kept { OnOk result (Keeps (remaining_in R.remaining self.old) (remaining_in R.remaining self.new)) }
+    fn fill<R: Read>(&mut self, reader: &mut Counted<R>) -> Result<bool, DeviceFault>
+        requires { faults_of reader.old < 2 ^ 64 - 1 }
+        ensures kept { OnOk result (Keeps (remaining_in R.remaining reader.old self.old) (remaining_in R.remaining reader.new self.new)) }
         ensures some { IfOk result (λ are_any. are_any ≡ true → 0 < length (left_in self.new)) }
-        ensures end { IfOk result (λ are_any. are_any ≡ false → IsAtEnd (remaining_in R.remaining self.new)) }
-        ensures faults { OnOk result (faults_in self.new ≡ faults_in self.old) }
-        ensures fault { IfErr result (λ _. 0 < faults_in self.new) }
+        ensures end { IfOk result (λ are_any. are_any ≡ false → IsAtEnd (remaining_in R.remaining reader.new self.new)) }
+        ensures faults { OnOk result (faults_of reader.new ≡ faults_of reader.old) }
+        ensures fault { IfErr result (λ _. faults_of reader.new ≡ faults_of reader.old + 1) }
     {
         if self.start < self.end {
             return Ok(true);
         }
-        if self.reader.faults() > 0 {
-            return Err(DeviceFault);
-        }
-        let n = self.reader.read(self.buf.as_mut_slice())?;
+        let n = reader.read(self.buf.as_mut_slice())?;
         self.start = 0;
         self.end = n;
         Ok(n > 0)
     }
 
-    #[tactic(auto, using(crate::proofs::InputLemmas::given_bytes))]
+    #[tactic(auto, using(crate::proofs::InputLemmas::left_after_more))]
     fn consume(&mut self, n: usize)
         requires { n ≤ length (left_in self.old) }
-        ensures bytes { Consumes (remaining_in R.remaining self.old) (remaining_in R.remaining self.new) (take n (left_in self.old)) }
-        ensures faults { faults_in self.new ≡ faults_in self.old }
+        ensures { left_in self.new ≡ drop n (left_in self.old) }
     {
         self.start += n;
     }
 
-    /// Appends the first row of the buffered bytes, at most `most` of them, given whether a quotation mark is open before.
-    #[tactic(auto, using(crate::proofs::InputLemmas::part_front, crate::proofs::InputLemmas::part_shorter))]
+    /// Appends the first row of the bytes that are left, at most `most` of them, given whether a quotation mark is open before.
+    #[tactic(auto, using(crate::proofs::InputLemmas::part_shorter))]
     fn append_part(
         &mut self,
         most: usize,
         was_open: bool,
         row: &mut Vec<u8>,
-    ) -> Result<PartEnd, RowInputFault>
+    ) -> Result<PartEnd, AllocError>
         ensures appended { OnOk result (row.new.items ≡ row.old.items ++ row_through was_open (take most (left_in self.old))) }
-        ensures bytes { OnOk result (Consumes (remaining_in R.remaining self.old) (remaining_in R.remaining self.new) (row_through was_open (take most (left_in self.old)))) }
+        ensures left { OnOk result (left_in self.new ≡ drop (length (row_through was_open (take most (left_in self.old)))) (left_in self.old)) }
         ensures ended { IfOk result (λ end. end.is_ended ≡ ends_row was_open (take most (left_in self.old))) }
         ensures open { IfOk result (λ end. end.is_ended ≡ false → end.is_open ≡ is_open_through was_open (take most (left_in self.old))) }
-        ensures faults { faults_in self.new ≡ faults_in self.old }
-        ensures fault { IfErr result (λ fault. fault ≡ NoMemory) }
     {
         let part = row_part(front(self.bytes(), most), was_open);
         row.extend_from_slice(part.bytes)?;
@@ -251,7 +241,7 @@ impl<R: Read> RowInput<R> {
         Ok(end)
     }
 
-    /// Appends a line of the buffered bytes, at most `most` of them. Returns whether it ended.
+    /// Appends a line of the bytes that are left, at most `most` of them. Returns whether it ended.
     fn append_line(&mut self, most: usize, line: &mut Vec<u8>) -> Result<bool, AllocError> {
         let piece = line_part(front(self.bytes(), most));
         line.extend_from_slice(piece)?;
@@ -262,10 +252,20 @@ impl<R: Read> RowInput<R> {
 
     /// Reads the first line, which replaces the bytes there: with its line feed, if it has one; none at the end of the input. A line of more
     /// than `most` bytes is cut.
-    pub fn read_line(&mut self, most: usize, line: &mut Vec<u8>) -> Result<(), RowInputFault> {
+    pub fn read_line<R: Read>(
+        &mut self,
+        reader: &mut Counted<R>,
+        most: usize,
+        line: &mut Vec<u8>,
+    ) -> Result<(), RowInputFault>
+        requires { faults_of reader.old < 2 ^ 64 - 1 }
+        ensures faults { OnOk result (faults_of reader.new ≡ faults_of reader.old) }
+        ensures device { result ≡ Err Device → faults_of reader.new ≡ faults_of reader.old + 1 }
+        ensures memory { result ≡ Err NoMemory → faults_of reader.new ≡ faults_of reader.old }
+    {
         line.clear();
         for _ in 0..most {
-            if line.len() >= most || !self.fill()? {
+            if line.len() >= most || !self.fill(reader)? {
                 break;
             }
             if self.append_line(most - line.len(), line)? {
@@ -278,16 +278,21 @@ impl<R: Read> RowInput<R> {
     /// Reads the first row, which replaces the bytes there: with its line end, if it has one; none at the end of the input. A row that is
     /// too long is cut.
     #[tactic(auto, using(crate::proofs::InputLemmas::row_start, crate::proofs::InputLemmas::row_ended, crate::proofs::InputLemmas::row_full))]
-    pub fn read_row(&mut self, row: &mut Vec<u8>) -> Result<(), RowInputFault>
-        ensures row { OnOk result (GivesRow 1048579 (remaining_in R.remaining self.old) (remaining_in R.remaining self.new) row.new.items) }
-        ensures faults { OnOk result (faults_in self.new ≡ faults_in self.old) }
-        ensures device { result ≡ Err Device → 0 < faults_in self.new }
-        ensures memory { result ≡ Err NoMemory → faults_in self.new ≡ faults_in self.old }
+    pub fn read_row<R: Read>(
+        &mut self,
+        reader: &mut Counted<R>,
+        row: &mut Vec<u8>,
+    ) -> Result<(), RowInputFault>
+        requires { faults_of reader.old < 2 ^ 64 - 1 }
+        ensures row { OnOk result (GivesRow 1048579 (remaining_in R.remaining reader.old self.old) (remaining_in R.remaining reader.new self.new) row.new.items) }
+        ensures faults { OnOk result (faults_of reader.new ≡ faults_of reader.old) }
+        ensures device { result ≡ Err Device → faults_of reader.new ≡ faults_of reader.old + 1 }
+        ensures memory { result ≡ Err NoMemory → faults_of reader.new ≡ faults_of reader.old }
     {
         row.clear();
         let mut is_open = false;
         while row.len() < ROW_ROOM {
-            if !self.fill()? {
+            if !self.fill(reader)? {
                 return Ok(());
             }
             let end = self.append_part(ROW_ROOM - row.len(), is_open, row)?;

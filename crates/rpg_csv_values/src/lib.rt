@@ -1,9 +1,10 @@
-//! Lines of fixed columns as rows of comma-separated values, over any reader and writer.
+//! The cells of a row as characters of a line's columns, and such columns as cells.
 #![tactic(auto)]
 
-mod conversion;
-mod row;
-mod value;
+mod cell;
+mod column;
+mod number;
 
-pub use conversion::{ValueSetting, ValuesFault, lines_to_rows};
-pub use row::ValueFault;
+pub use cell::{CellFault, CellKind, write_cell};
+pub use column::add_content_of;
+pub use number::NumberFormat;

@@ -10,8 +10,8 @@ returns-then-end-clause-row g c =
     let left = left_in c.fill.new.self in
     let got = c.loop-self.row.items in
     let e : k ≡ 1048579 - length got = omega (arith, c.len-in-loop-self.ensures) in
-    row_found 1048579 k c.loop-self.is_open (remaining_in g.R.Read.remaining c.args.self.now) (remaining_in g.R.Read.remaining c.loop-self.self) (g.R.Read.remaining (device_of c.fill.new.self.reader)) (remaining_in g.R.Read.remaining c.append_part.new.self) left got c.append_part.new.row.items e
-    c.loop-self.invariant.row c.in_ok-fill.ensures.kept (sym c.in_ok-end.ensures.ended ∙ c.if-end.true) c.in_ok-end.ensures.bytes c.in_ok-end.ensures.appended
+    row_found 1048579 k c.loop-self.is_open (remaining_in g.R.Read.remaining c.args.reader.now c.args.self.now) (remaining_in g.R.Read.remaining c.loop-self.reader c.loop-self.self) (g.R.Read.remaining (device_of c.fill.new.reader)) left (left_in c.append_part.new.self) got c.append_part.new.row.items e
+    c.loop-self.invariant.row c.in_ok-fill.ensures.kept (sym c.in_ok-end.ensures.ended ∙ c.if-end.true) c.in_ok-end.ensures.left c.in_ok-end.ensures.appended
 
 pub loop-self-smaller : goal.loop-self-smaller
 loop-self-smaller g c =
@@ -35,7 +35,7 @@ loop-self-preserved g c =
     let long = row_within 1048579 k c.loop-self.is_open left got new e few c.in_ok-end.ensures.appended in
     record {
       within = omega (arith, long);
-      row = row_more 1048579 k c.loop-self.is_open c.in_ok-end.end.is_open (remaining_in g.R.Read.remaining c.args.self.now) (remaining_in g.R.Read.remaining c.loop-self.self) (remaining_in g.R.Read.remaining c.fill.new.self) (remaining_in g.R.Read.remaining c.append_part.new.self) left got new e
-          c.loop-self.invariant.row c.in_ok-fill.ensures.kept (sym c.in_ok-end.ensures.ended ∙ c.if-end.false) (c.in_ok-end.ensures.open c.if-end.false) c.in_ok-end.ensures.bytes c.in_ok-end.ensures.appended;
-      faults = omega (arith, c.append_part.ensures.faults, c.in_ok-fill.ensures.faults, c.loop-self.invariant.faults);
+      row = row_more 1048579 k c.loop-self.is_open c.in_ok-end.end.is_open (remaining_in g.R.Read.remaining c.args.reader.now c.args.self.now) (remaining_in g.R.Read.remaining c.loop-self.reader c.loop-self.self) (g.R.Read.remaining (device_of c.fill.new.reader)) left (left_in c.append_part.new.self) got new e
+          c.loop-self.invariant.row c.in_ok-fill.ensures.kept (sym c.in_ok-end.ensures.ended ∙ c.if-end.false) (c.in_ok-end.ensures.open c.if-end.false) c.in_ok-end.ensures.left c.in_ok-end.ensures.appended;
+      faults = omega (arith, c.in_ok-fill.ensures.faults, c.loop-self.invariant.faults);
     }

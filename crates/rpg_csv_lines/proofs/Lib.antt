@@ -1,0 +1,2 @@
+-- Lemmas about faults.
+mod StopLemmas

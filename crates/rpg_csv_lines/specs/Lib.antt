@@ -1,0 +1,2 @@
+-- How a conversion ends.
+pub mod Stops

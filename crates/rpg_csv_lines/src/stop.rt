@@ -1,0 +1,83 @@
+//! Why a conversion ends early.
+
+ghost use Rattle.std.specs.Prelude.{◌≡◌, ◌^◌, ◌-◌, ◌<◌, IfErr, OnOk};
+ghost use Rattle.rpg_files.specs.Counting.{faults_of};
+ghost use Rattle.rpg_csv_lines.specs.Stops.{IsCounted};
+ghost use Rattle.rpg_csv_lines.specs.declared.stop.Stop.TheVariants.{NoMemory, Read};
+ghost use Rattle.rpg_csv_rows.specs.declared.input.RowInputFault.TheVariants as RowInputFault;
+ghost use Rattle.rpg_csv_rows.specs.declared.input.RowInputFault.TheVariants.{Device};
+
+use rpg_csv_columns::{Fault, Part, Refusal};
+use rpg_csv_rows::RowInputFault;
+use rpg_files::{Counted, send};
+use std::alloc::{AllocError, AllocFailed};
+use std::io;
+
+/// Why a conversion ends early.
+#[derive(Clone, Copy)]
+pub enum Stop {
+    /// A part of the input is rejected.
+    Refused(Refusal),
+    /// The reader failed.
+    Read,
+    /// The writer failed.
+    Write,
+    NoMemory,
+}
+
+impl Stop {
+    /// The fault of a part, unless memory ran out.
+    pub(crate) fn at(part: Part, fault: Fault) -> Self
+        ensures { IsCounted 0 0 0 0 result }
+    {
+        match fault {
+            Fault::NoMemory => Stop::NoMemory,
+            fault => Stop::Refused(Refusal { part, fault }),
+        }
+    }
+}
+
+impl From<AllocError> for Stop {
+    ghost use Rattle.std.specs.Prelude.{◌≡◌};
+    ghost use Rattle.rpg_csv_lines.specs.declared.stop.Stop.TheVariants.{NoMemory};
+
+    ghost from_gives = { λ _ e. e ≡ NoMemory };
+
+    fn from(_: AllocError) -> Self {
+        Stop::NoMemory
+    }
+}
+
+impl<T: Drop> From<AllocFailed<T>> for Stop {
+    ghost use Rattle.std.specs.Prelude.{◌≡◌};
+    ghost use Rattle.rpg_csv_lines.specs.declared.stop.Stop.TheVariants.{NoMemory};
+
+    ghost from_gives = { λ _ e. e ≡ NoMemory };
+
+    fn from(_: AllocFailed<T>) -> Self {
+        Stop::NoMemory
+    }
+}
+
+/// Returns why a conversion ends if no row can be read.
+pub(crate) fn input_stop(fault: RowInputFault) -> Stop
+    ensures device { fault ≡ Device → result ≡ Read }
+    ensures memory { fault ≡ RowInputFault.NoMemory → result ≡ NoMemory }
+{
+    match fault {
+        RowInputFault::Device => Stop::Read,
+        RowInputFault::NoMemory => Stop::NoMemory,
+    }
+}
+
+/// Writes all bytes.
+pub(crate) fn send_all<W: io::Write>(writer: &mut Counted<W>, bytes: &[u8]) -> Result<(), Stop>
+    requires { faults_of writer.old < 2 ^ 64 - 1 }
+    ensures ok { OnOk result (faults_of writer.new ≡ faults_of writer.old) }
+    ensures stop { IfErr result (IsCounted 0 0 (faults_of writer.old) (faults_of writer.new)) }
+{
+    match send(writer, bytes) {
+        Ok(()) => Ok(()),
+        Err(_) => Err(Stop::Write),
+    }
+}

@@ -1,0 +1,8 @@
+use Rattle.std.proofs.Common.{◌≡◌}
+use Rattle.rpg_files.specs.Counting.{faults_of}
+use Rattle.rpg_csv_rows.proofs.input.RowInput.read_line.Given as goal
+
+abbrev pub invariant-loop : goal.invariant-loop
+invariant-loop g l = record {
+  faults : faults_of l.reader ≡ faults_of l.initial.reader;
+}

@@ -1,0 +1,2 @@
+-- Lemmas about numbers.
+mod NumberLemmas

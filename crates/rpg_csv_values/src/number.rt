@@ -1,0 +1,223 @@
+//! The numbers of cells.
+
+ghost use Rattle.std.specs.Prelude.{◌≡◌, ◌≤◌, ◌<◌, ◌^◌, ◌-◌, ◌+◌, false, length, true};
+ghost use Rattle.rpg_csv_values.specs.Numbers.{after_point, before_point, cell_number, digits_number, has_minus, is_grouped, is_separator, number_size, whole_number, without_blanks, without_sign, without_zeros};
+
+use crate::cell::CellFault;
+use rpg_text::trimmed;
+
+/// How the numbers of cells are written.
+#[derive(Clone, Copy)]
+pub struct NumberFormat {
+    /// The decimal point.
+    pub decimal: u8,
+    /// What separates groups of three digits.
+    pub group: Option<u8>,
+}
+
+/// Returns a text without blanks at its ends.
+pub(crate) fn without_blanks(text: &[u8]) -> &[u8]
+    ensures { result.now ≡ without_blanks text.now }
+{
+    for (place, byte) in text.iter().enumerate() {
+        if *byte != b' ' {
+            return trimmed(&text[place..]);
+        }
+    }
+    &[]
+}
+
+/// A text without its sign.
+#[derive(Clone, Copy)]
+struct Signed<'a> {
+    is_minus: bool,
+    digits: &'a [u8],
+}
+
+/// Splits a sign off: before the digits, or a minus after them.
+fn split_sign(text: &[u8]) -> Signed<'_>
+    ensures minus { result.is_minus ≡ has_minus text.now }
+    ensures digits { result.digits.now ≡ without_sign text.now }
+{
+    match text {
+        [b'-', digits @ ..] => Signed {
+            is_minus: true,
+            digits,
+        },
+        [b'+', digits @ ..] => Signed {
+            is_minus: false,
+            digits,
+        },
+        [digits @ .., b'-'] => Signed {
+            is_minus: true,
+            digits,
+        },
+        _ => Signed {
+            is_minus: false,
+            digits: text,
+        },
+    }
+}
+
+/// The digits before the decimal point, and those after it.
+#[derive(Clone, Copy)]
+struct Parts<'a> {
+    whole: &'a [u8],
+    part: &'a [u8],
+}
+
+/// Splits digits at the decimal point.
+fn split_point(digits: &[u8], decimal: u8) -> Parts<'_>
+    ensures whole { result.whole.now ≡ before_point decimal digits.now }
+    ensures part { result.part.now ≡ after_point decimal digits.now }
+{
+    for (place, byte) in digits.iter().enumerate() {
+        if *byte == decimal {
+            return Parts {
+                whole: &digits[..place],
+                part: &digits[place + 1..],
+            };
+        }
+    }
+    Parts {
+        whole: digits,
+        part: &[],
+    }
+}
+
+/// Returns digits without zeros at their end.
+fn without_zeros(part: &[u8]) -> &[u8]
+    ensures { result.now ≡ without_zeros part.now }
+{
+    let mut end = part.len();
+    while end > 0 && part[end - 1] == b'0' {
+        end -= 1;
+    }
+    &part[..end]
+}
+
+/// Whether separators stand between groups of three digits, the first of one to three.
+fn is_grouped(text: &[u8], group: u8) -> bool
+    ensures { result ≡ is_grouped group true 0 text.now }
+{
+    let mut is_first = true;
+    let mut digits = 0u8;
+    for byte in text {
+        if *byte != group {
+            if digits >= 3 {
+                return false;
+            }
+            digits += 1;
+        } else if digits == 3 || (is_first && digits > 0) {
+            is_first = false;
+            digits = 0;
+        } else {
+            return false;
+        }
+    }
+    digits == 3
+}
+
+/// Whether a byte separates groups.
+fn is_separator(group: Option<u8>, byte: u8) -> bool
+    ensures { result ≡ is_separator group byte }
+{
+    match group {
+        Some(group) => byte == group,
+        None => false,
+    }
+}
+
+/// Returns the number of a text's digits, at most the largest of 64 bits, if all but the separators are digits.
+#[tactic(auto, using(crate::proofs::NumberLemmas::all_digits))]
+fn digits_number(text: &[u8], group: Option<u8>) -> Option<u64>
+    ensures { result ≡ digits_number group text.now }
+{
+    let mut number = 0u64;
+    for byte in text {
+        if is_separator(group, *byte) {
+            continue;
+        }
+        if !byte.is_ascii_digit() {
+            return None;
+        }
+        number = number
+            .saturating_mul(10)
+            .saturating_add(u64::from(*byte - b'0'));
+    }
+    Some(number)
+}
+
+/// Returns ten to a power.
+fn power_of_ten(exponent: u8) -> u64
+    requires { exponent ≤ 15 }
+    ensures { result ≡ 10 ^ exponent }
+{
+    10u64.pow(u32::from(exponent))
+}
+
+/// Returns a number in units of the last of a field's decimals, which has `before` digits before these.
+fn number_size(
+    before: u8,
+    decimals: u8,
+    whole: u64,
+    part_length: usize,
+    part: u64,
+) -> Result<u64, CellFault>
+    requires before_in { before ≤ 15 }
+    requires decimals_in { decimals ≤ 15 }
+    ensures { result ≡ number_size before decimals whole part_length part }
+{
+    if part_length > usize::from(decimals) {
+        return Err(CellFault::Decimals(decimals));
+    }
+    if whole >= power_of_ten(before) {
+        return Err(CellFault::Digits(before));
+    }
+    let unit = power_of_ten(decimals - part_length as u8);
+    Ok(
+        whole
+            .saturating_mul(power_of_ten(decimals))
+            .saturating_add(part.saturating_mul(unit)),
+    )
+}
+
+impl NumberFormat {
+    /// Returns the number before the point.
+    fn whole_number(self, text: &[u8]) -> Option<u64>
+        ensures { result ≡ whole_number self.group text.now }
+    {
+        match self.group {
+            Some(group) if text.contains(&group) && !is_grouped(text, group) => None,
+            group => digits_number(text, group),
+        }
+    }
+
+    /// Returns the number of a cell that isn't blank, in units of the last of its field's decimals. The field has `width` digits.
+    pub(crate) fn cell_number(self, decimals: u8, width: u8, text: &[u8]) -> Result<i64, CellFault>
+        requires ordered { decimals ≤ width }
+        requires few { width ≤ 15 }
+        ensures { result ≡ cell_number self decimals width text.now }
+    {
+        let Signed { is_minus, digits } = split_sign(text);
+        let Parts { whole, part } = split_point(digits, self.decimal);
+        if whole.is_empty() && part.is_empty() {
+            return Err(CellFault::NoNumber);
+        }
+        let part = without_zeros(part);
+        let (Some(number), Some(rest)) = (self.whole_number(whole), digits_number(part, None))
+        else {
+            return Err(CellFault::NoNumber);
+        };
+        let before = width - decimals;
+        let size = number_size(before, decimals, number, part.len(), rest)?;
+        if size >= power_of_ten(width) {
+            return Err(CellFault::Digits(before));
+        }
+        Ok(if is_minus {
+            -(size as i64)
+        } else {
+            size as i64
+        })
+    }
+}
