@@ -3,23 +3,13 @@
 use crate::fault::Fault;
 use crate::field::{FileFields, field_named};
 use crate::name::{FieldName, Label, Sample};
-use rpg_text::trimmed;
+use rpg_csv_values::without_blanks;
 use std::alloc::{AllocError, Global};
 
 /// What each column is.
 #[derive(Drop)]
 pub struct Labels {
     labels: Vec<Label>,
-}
-
-/// Returns a text without blanks at its ends.
-fn without_blanks(text: &[u8]) -> &[u8] {
-    for place in 0..text.len() {
-        if text[place] != b' ' {
-            return trimmed(&text[place..]);
-        }
-    }
-    &[]
 }
 
 impl FileFields {

@@ -10,7 +10,7 @@ ghost use Rattle.rpg_csv_rows.specs.declared.input.RowInputFault.TheVariants.{De
 use rpg_csv_columns::{Fault, Part, Refusal};
 use rpg_csv_rows::RowInputFault;
 use rpg_files::{Counted, send};
-use std::alloc::{AllocError, AllocFailed};
+use std::alloc::AllocError;
 use std::io;
 
 /// Why a conversion ends early.
@@ -44,17 +44,6 @@ impl From<AllocError> for Stop {
     ghost from_gives = { λ _ e. e ≡ NoMemory };
 
     fn from(_: AllocError) -> Self {
-        Stop::NoMemory
-    }
-}
-
-impl<T: Drop> From<AllocFailed<T>> for Stop {
-    ghost use Rattle.std.specs.Prelude.{◌≡◌};
-    ghost use Rattle.rpg_csv_lines.specs.declared.stop.Stop.TheVariants.{NoMemory};
-
-    ghost from_gives = { λ _ e. e ≡ NoMemory };
-
-    fn from(_: AllocFailed<T>) -> Self {
         Stop::NoMemory
     }
 }

@@ -7,4 +7,4 @@ mod number;
 
 pub use cell::{CellFault, CellKind, write_cell};
 pub use column::add_content_of;
-pub use number::NumberFormat;
+pub use number::{NumberFormat, without_blanks};

@@ -16,7 +16,7 @@ pub struct NumberFormat {
 }
 
 /// Returns a text without blanks at its ends.
-pub(crate) fn without_blanks(text: &[u8]) -> &[u8]
+pub fn without_blanks(text: &[u8]) -> &[u8]
     ensures { result.now ≡ without_blanks text.now }
 {
     for (place, byte) in text.iter().enumerate() {
