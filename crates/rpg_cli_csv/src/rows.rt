@@ -1,5 +1,8 @@
 //! Rows of comma-separated values that become lines, and lines that become rows.
 
+ghost use Rattle.std.specs.Prelude.{◌^◌, ◌-◌, ◌<◌};
+ghost use Rattle.rpg_files.specs.Counting.{faults_of};
+
 use crate::messages::{card_diagnostic, input_diagnostic};
 use rpg_cli_answers::{Answer, Listener, RefusedRow, file_of, tell_made};
 use rpg_cli_files::{FileFault, LineTarget, Reason, RecordSource};
@@ -80,7 +83,10 @@ impl FileRows<'_> {
         alloc: Global,
         reader: &mut Counted<R>,
         writer: &mut Counted<W>,
-    ) -> Result<Counts, Stop> {
+    ) -> Result<Counts, Stop>
+        requires read { faults_of reader.old < 2 ^ 64 - 1 }
+        requires write { faults_of writer.old < 2 ^ 64 - 1 }
+    {
         let setting = self.setting();
         let records = match self.arguments.way {
             RowsWay::ToLines => rows_to_lines(alloc, setting, reader, writer)?,
@@ -135,7 +141,8 @@ pub fn convert_rows<
     let Ok(buffered) = BufWriter::with_capacity(alloc, WRITE_ROOM, target) else {
         return Err(Answer::NoMemory);
     };
-    let (mut reader, mut writer) = (Counted::new(source), Counted::new(buffered));
+    let mut reader = Counted::new(source);
+    let mut writer = Counted::new(buffered);
     let (argument, fault) = match rows.convert(alloc, &mut reader, &mut writer) {
         Ok(counts) => return Ok(counts),
         Err(Stop::NoMemory) => return Err(Answer::NoMemory),

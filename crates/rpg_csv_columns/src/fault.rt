@@ -1,7 +1,7 @@
 //! Why a deck, a row or a line is rejected.
 
 use crate::name::{FieldName, Label, Sample};
-use rpg_csv_rows::{RowFault, RowInputFault};
+use rpg_csv_rows::RowFault;
 use rpg_csv_values::CellFault;
 use std::alloc::{AllocError, AllocFailed};
 
@@ -165,14 +165,5 @@ impl From<AllocError> for Fault {
 impl<T: Drop> From<AllocFailed<T>> for Fault {
     fn from(_: AllocFailed<T>) -> Self {
         Fault::NoMemory
-    }
-}
-
-impl From<RowInputFault> for Fault {
-    fn from(fault: RowInputFault) -> Self {
-        match fault {
-            RowInputFault::Device => Fault::Read,
-            RowInputFault::NoMemory => Fault::NoMemory,
-        }
     }
 }

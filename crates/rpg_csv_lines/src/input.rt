@@ -4,9 +4,9 @@ ghost use Rattle.std.specs.Prelude.{◌≡◌, ◌^◌, ◌-◌, ◌<◌, IfErr,
 ghost use Rattle.rpg_files.specs.Counting.{faults_of};
 ghost use Rattle.rpg_csv_lines.specs.Stops.{IsCounted};
 
-use crate::stop::{Stop, input_stop};
+use crate::stop::Stop;
 use rpg_csv_columns::{Fault, Part};
-use rpg_csv_rows::{CellFault, RowInput, check_row, whole_row};
+use rpg_csv_rows::{CellFault, RowInput, RowInputFault, check_row, whole_row};
 use rpg_files::Counted;
 use std::alloc::{AllocError, Global};
 use std::io::Read;
@@ -53,8 +53,10 @@ impl Rows {
         ensures ok { OnOk result (faults_of reader.new ≡ faults_of reader.old) }
         ensures stop { IfErr result (IsCounted (faults_of reader.old) (faults_of reader.new) 0 0) }
     {
-        if let Err(fault) = self.input.read_row(reader, &mut self.row) {
-            return Err(input_stop(fault));
+        match self.input.read_row(reader, &mut self.row) {
+            Ok(()) => {}
+            Err(RowInputFault::Device) => return Err(Stop::Read),
+            Err(RowInputFault::NoMemory) => return Err(Stop::NoMemory),
         }
         self.skipped = 0;
         self.line = self.next_line;

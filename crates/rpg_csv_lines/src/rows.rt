@@ -5,10 +5,10 @@ ghost use Rattle.rpg_files.specs.Counting.{faults_of};
 ghost use Rattle.rpg_csv_lines.specs.Stops.{IsCounted};
 
 use crate::row::{RowRoom, RowWriter};
-use crate::stop::{Stop, input_stop, send_all};
+use crate::stop::{Stop, send_all};
 use crate::texts::Setting;
 use rpg_csv_columns::{Fault, Part, Plan, field_labels};
-use rpg_csv_rows::RowInput;
+use rpg_csv_rows::{RowInput, RowInputFault};
 use rpg_files::Counted;
 use std::alloc::Global;
 use std::io::{Read, Write};
@@ -35,8 +35,10 @@ fn convert_lines<R: Read, W: Write>(
     ensures stop { IfErr result (IsCounted (faults_of reader.old) (faults_of reader.new) (faults_of writer.old) (faults_of writer.new)) }
 {
     for count in 0..=MOST_LINES {
-        if let Err(fault) = input.read_line(reader, MOST_BYTES, &mut room.read) {
-            return Err(input_stop(fault));
+        match input.read_line(reader, MOST_BYTES, &mut room.read) {
+            Ok(()) => {}
+            Err(RowInputFault::Device) => return Err(Stop::Read),
+            Err(RowInputFault::NoMemory) => return Err(Stop::NoMemory),
         }
         if room.read.is_empty() {
             return Ok(count);

@@ -3,12 +3,8 @@
 ghost use Rattle.std.specs.Prelude.{◌≡◌, ◌^◌, ◌-◌, ◌<◌, IfErr, OnOk};
 ghost use Rattle.rpg_files.specs.Counting.{faults_of};
 ghost use Rattle.rpg_csv_lines.specs.Stops.{IsCounted};
-ghost use Rattle.rpg_csv_lines.specs.declared.stop.Stop.TheVariants.{NoMemory, Read};
-ghost use Rattle.rpg_csv_rows.specs.declared.input.RowInputFault.TheVariants as RowInputFault;
-ghost use Rattle.rpg_csv_rows.specs.declared.input.RowInputFault.TheVariants.{Device};
 
 use rpg_csv_columns::{Fault, Part, Refusal};
-use rpg_csv_rows::RowInputFault;
 use rpg_files::{Counted, send};
 use std::alloc::AllocError;
 use std::io;
@@ -45,17 +41,6 @@ impl From<AllocError> for Stop {
 
     fn from(_: AllocError) -> Self {
         Stop::NoMemory
-    }
-}
-
-/// Returns why a conversion ends if no row can be read.
-pub(crate) fn input_stop(fault: RowInputFault) -> Stop
-    ensures device { fault ≡ Device → result ≡ Read }
-    ensures memory { fault ≡ RowInputFault.NoMemory → result ≡ NoMemory }
-{
-    match fault {
-        RowInputFault::Device => Stop::Read,
-        RowInputFault::NoMemory => Stop::NoMemory,
     }
 }
 
