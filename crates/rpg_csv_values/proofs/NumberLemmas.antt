@@ -1,10 +1,11 @@
 -- The number of digits, one after the other.
-use Rattle.std.proofs.Common.{◌≡◌, ℕ, suc, ◌+◌, ◌-◌, ◌*◌, ◌^◌, ◌<◌, ◌≤◌, ◌&&◌, not, Bool, true, false, cond, List, [], ◌∷◌, length, map, refl, sym, ap, ap₂, ◌∙◌, arith, pow-suc, Option, None, Some, inl, inr, ℤ, unsigned_abs}
+use Rattle.std.proofs.Common.{◌≡◌, ℕ, suc, ◌+◌, ◌-◌, ◌*◌, ◌^◌, ◌<◌, ◌≤◌, ◌&&◌, not, Bool, true, false, cond, List, [], ◌∷◌, length, map, refl, sym, ap, ap₂, ◌∙◌, arith, pow-suc, ◌++◌, append-nil, Option, None, Some, option_map, inl, inr, ℤ, unsigned_abs}
 use Rattle.std.proofs.Math.Nat.{le-mul_of_pos_right, one-le-pow, pow-le-pow_right}
 use Rattle.std.proofs.lemmas.Bool.{cases_lt}
 use Rattle.std.specs.List.{list_all}
 use Rattle.rpg_decimal_words.specs.Place.{place_value}
 use Rattle.rpg_decimal_words.specs.Zoned.{digit_of, is_digit, is_letter_from}
+use Rattle.rpg_csv_values.specs.Contents.{AppendsContent}
 use Rattle.rpg_csv_values.specs.Numbers.{counted, digits_number, is_separator, ungrouped}
 
 -- one more digit after a number
@@ -19,7 +20,7 @@ digits_after group n (c ∷ cs) =
 
 -- the same by their places
 abbrev pub number_after : ℕ → List ℕ → Option ℕ
-number_after n ds = cond (list_all is_digit ds) (Some (counted (n * 10 ^ length ds + place_value (map digit_of ds)))) None
+number_after n ds = cond (list_all is_digit ds) (Some (counted (n * 10 ^ length (map digit_of ds) + place_value (map digit_of ds)))) None
 
 -- a number that was cut is still too large
 counted_more : (x p q : ℕ) → 1 ≤ p → counted (counted x * p + q) ≡ counted (x * p + q)
@@ -33,26 +34,26 @@ counted_more x p q h = elim (cases_lt x (2 ^ 64)) [
 ]
 
 digit_next : (n c : ℕ) (ds : List ℕ) → is_digit c ≡ true
-    → counted (next_number n c * 10 ^ length ds + place_value (map digit_of ds)) ≡ counted (n * 10 ^ suc (length ds) + (digit_of c * 10 ^ length ds + place_value (map digit_of ds)))
+    → counted (next_number n c * 10 ^ length (map digit_of ds) + place_value (map digit_of ds)) ≡ counted (n * 10 ^ suc (length (map digit_of ds)) + (digit_of c * 10 ^ length (map digit_of ds) + place_value (map digit_of ds)))
 digit_next n c ds d =
-    let p = 10 ^ length ds in
+    let p = 10 ^ length (map digit_of ds) in
     let v = place_value (map digit_of ds) in
     let one : next_number n c ≡ counted (n * 10 + (c - 48)) = omega arith in
     let digit : digit_of c ≡ c - 48 = ap (λ (b : Bool). cond b (c - 48) (cond (is_letter_from 65 c) (c - 64) (cond (is_letter_from 74 c) (c - 73) 0))) d in
-    let high : n * 10 ^ suc (length ds) ≡ n * 10 * p = omega (arith, pow-suc 10 (length ds)) in
+    let high : n * 10 ^ suc (length (map digit_of ds)) ≡ n * 10 * p = omega (arith, ap (λ (q : ℕ). n * q) (pow-suc 10 (length (map digit_of ds)))) in
     let low : digit_of c * p ≡ (c - 48) * p = ap (λ (k : ℕ). k * p) digit in
-    let split : (n * 10 + (c - 48)) * p + v ≡ n * 10 ^ suc (length ds) + (digit_of c * p + v) = omega (arith, high, low) in
-    ap (λ (k : ℕ). counted (k * p + v)) one ∙ counted_more (n * 10 + (c - 48)) p v (one-le-pow (length ds) 10 (omega arith)) ∙ ap (λ (k : ℕ). counted k) split
+    let split : (n * 10 + (c - 48)) * p + v ≡ n * 10 ^ suc (length (map digit_of ds)) + (digit_of c * p + v) = omega (arith, high, low) in
+    ap (λ (k : ℕ). counted (k * p + v)) one ∙ counted_more (n * 10 + (c - 48)) p v (one-le-pow (length (map digit_of ds)) 10 (omega arith)) ∙ ap (λ (k : ℕ). counted k) split
 
 -- a digit
 digit_step : (n c : ℕ) (us : List ℕ) (l : Bool) → is_digit c ≡ true → list_all is_digit us ≡ l → number_after (next_number n c) us ≡ number_after n (c ∷ us)
 digit_step n c us true e f =
-    let a = Some (counted (next_number n c * 10 ^ length us + place_value (map digit_of us))) in
-    let b = Some (counted (n * 10 ^ suc (length us) + (digit_of c * 10 ^ length us + place_value (map digit_of us)))) in
+    let a = Some (counted (next_number n c * 10 ^ length (map digit_of us) + place_value (map digit_of us))) in
+    let b = Some (counted (n * 10 ^ suc (length (map digit_of us)) + (digit_of c * 10 ^ length (map digit_of us) + place_value (map digit_of us)))) in
     ap (λ (x : Bool). cond x a None) f ∙ ap (λ (k : ℕ). Some k) (digit_next n c us e) ∙ sym (ap₂ (λ (x y : Bool). cond (x && y) b None) e f)
 digit_step n c us false e f =
-    let a = Some (counted (next_number n c * 10 ^ length us + place_value (map digit_of us))) in
-    let b = Some (counted (n * 10 ^ suc (length us) + (digit_of c * 10 ^ length us + place_value (map digit_of us)))) in
+    let a = Some (counted (next_number n c * 10 ^ length (map digit_of us) + place_value (map digit_of us))) in
+    let b = Some (counted (n * 10 ^ suc (length (map digit_of us)) + (digit_of c * 10 ^ length (map digit_of us) + place_value (map digit_of us)))) in
     ap (λ (x : Bool). cond x a None) f ∙ sym (ap₂ (λ (x y : Bool). cond (x && y) b None) e f)
 
 -- any byte
@@ -62,13 +63,13 @@ byte_step : (group : Option ℕ) (n c : ℕ) (cs us : List ℕ) (s d : Bool) →
 byte_step group n c cs us true d e same more = same
 byte_step group n c cs us false true e same more = more ∙ digit_step n c us (list_all is_digit us) e refl
 byte_step group n c cs us false false e same more =
-    sym (ap (λ (x : Bool). cond (x && list_all is_digit us) (Some (counted (n * 10 ^ suc (length us) + (digit_of c * 10 ^ length us + place_value (map digit_of us))))) None) e)
+    sym (ap (λ (x : Bool). cond (x && list_all is_digit us) (Some (counted (n * 10 ^ suc (length (map digit_of us)) + (digit_of c * 10 ^ length (map digit_of us) + place_value (map digit_of us))))) None) e)
 
 counted_within : (n : ℕ) → counted n ≤ 2 ^ 64 - 1
 counted_within n = omega arith
 
 after_digits : (group : Option ℕ) (n : ℕ) (text : List ℕ) → n ≤ 2 ^ 64 - 1 → digits_after group n text ≡ number_after n (ungrouped group text)
-after_digits group n [] h = let e : n ≡ counted (n * 1 + 0) = omega arith in ap (λ (k : ℕ). Some k) e
+after_digits group n [] h = let e : n ≡ counted (n * 10 ^ 0 + 0) = omega arith in ap (λ (k : ℕ). Some k) e
 after_digits group n (c ∷ cs) h =
     byte_step group n c cs (ungrouped group cs) (is_separator group c) (is_digit c) refl (after_digits group n cs h)
     (after_digits group (next_number n c) cs (counted_within (counted (n * 10) + (c - 48))))
@@ -78,3 +79,13 @@ all_digits group text = after_digits group 0 text (omega arith)
 
 pub few_digits : (n : ℤ) (k : ℕ) → k ≤ 15 → unsigned_abs n < 10 ^ k → unsigned_abs n < 10 ^ 15
 few_digits n k h l = let more : 10 ^ k ≤ 10 ^ 15 = pow-le-pow_right (omega arith) h in omega (arith, l, more)
+
+pub ten_few : (r k : ℕ) → r ≡ 10 ^ k → k ≤ 15 → r ≤ 10 ^ 15
+ten_few r k e h = let more : 10 ^ k ≤ 10 ^ 15 = pow-le-pow_right (omega arith) h in omega (arith, e, more)
+
+pub nothing_more : (xs : List ℕ) → xs ≡ xs ++ []
+nothing_more xs = sym (append-nil xs)
+
+-- a content that was appended
+pub appended : (old new : List ℕ) (f : ℤ → List ℕ) (m : Option ℤ) (n : ℤ) → m ≡ Some n → new ≡ old ++ f n → AppendsContent old (option_map f m) new true
+appended old new f m n e h = ap (λ (x : Option ℤ). option_map (λ c. old ++ c) (option_map f x)) e ∙ ap (λ (l : List ℕ). Some l) (sym h)

@@ -15,12 +15,15 @@ without_leading_zeros (c ∷ cs) = if c == 48 && nat_lt 0 (length cs) then witho
 -- fifteen digits with a point before the decimals
 abbrev pub pointed : ℕ → ℕ → List ℕ → List ℕ
 pointed decimals point digits =
-    without_leading_zeros (take (15 - min decimals 14) digits) ++ (if nat_lt 0 decimals then point ∷ drop (15 - min decimals 14) digits else [])
+    let whole = without_leading_zeros (take (15 - min decimals 14) digits) in if decimals == 0 then whole else whole ++ point ∷ drop (15 - min decimals 14) digits
 
--- a number with all its decimals, and a minus before it if it is below zero
+-- a minus before a number below zero
+abbrev pub minus_of : ℤ → List ℕ
+minus_of n = if is_negative n then 45 ∷ [] else []
+
+-- a number with all its decimals
 abbrev pub plain_number : ℕ → ℕ → ℤ → List ℕ
-plain_number decimals point n =
-    let digits = zoned_text 15 (pos (unsigned_abs n)) in if is_negative n then 45 ∷ pointed decimals point digits else pointed decimals point digits
+plain_number decimals point n = minus_of n ++ pointed decimals point (zoned_text 15 (pos (unsigned_abs n)))
 
 -- the number of one to fifteen columns, in which a blank is a zero
 abbrev pub columns_number : List ℕ → Option ℤ

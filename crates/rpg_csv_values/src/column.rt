@@ -1,7 +1,7 @@
 //! The contents of cells, by the columns of a line.
 
-ghost use Rattle.std.specs.Prelude.{◌≡◌, ◌<◌, ◌^◌, ◌++◌, option_map, unsigned_abs, IfOk, IfSome, OnOk};
-ghost use Rattle.rpg_csv_values.specs.Contents.{AppendsContent, cell_content, columns_number, plain_number, without_leading_zeros};
+ghost use Rattle.std.specs.Prelude.{◌≡◌, ◌<◌, ◌^◌, ◌++◌, length, option_map, unsigned_abs, IfOk, IfSome, OnOk};
+ghost use Rattle.rpg_csv_values.specs.Contents.{AppendsContent, cell_content, columns_number, minus_of, plain_number, pointed, without_leading_zeros};
 
 use crate::cell::CellKind;
 use rpg_decimal::{read_zoned, write_zoned};
@@ -20,26 +20,43 @@ fn without_leading_zeros(digits: &[u8]) -> &[u8]
             return &digits[place..];
         }
     }
-    digits
+    &[]
 }
 
-/// Appends a number with all its decimals, without zeros before the last whole digit.
+/// Appends fifteen digits with a point before the decimals, without zeros before the last whole digit.
+fn add_pointed(decimals: u8, point: u8, digits: &[u8], out: &mut Vec<u8>) -> Result<(), AllocError>
+    requires { length digits.now ≡ 15 }
+    ensures { OnOk result (out.new.items ≡ out.old.items ++ pointed decimals point digits.now) }
+{
+    let (whole, part) = digits.split_at(MOST_DIGITS - usize::from(decimals.min(14)));
+    out.extend_from_slice(without_leading_zeros(whole))?;
+    if decimals == 0 {
+        return Ok(());
+    }
+    out.push(point)?;
+    out.extend_from_slice(part)
+}
+
+/// Appends a minus for a number below zero.
+#[tactic(auto, using(crate::proofs::NumberLemmas::nothing_more))]
+fn add_minus(number: i64, out: &mut Vec<u8>) -> Result<(), AllocError>
+    ensures { OnOk result (out.new.items ≡ out.old.items ++ minus_of number) }
+{
+    if number < 0 {
+        out.push(b'-')?;
+    }
+    Ok(())
+}
+
+/// Appends a number with all its decimals.
 fn add_number(number: i64, decimals: u8, point: u8, out: &mut Vec<u8>) -> Result<(), AllocError>
     requires { unsigned_abs number < 10 ^ 15 }
     ensures { OnOk result (out.new.items ≡ out.old.items ++ plain_number decimals point number) }
 {
     let mut room = [b'0'; MOST_DIGITS];
     write_zoned(number.unsigned_abs() as i64, &mut room);
-    let (whole, part) = room.split_at(MOST_DIGITS - usize::from(decimals.min(14)));
-    if number < 0 {
-        out.push(b'-')?;
-    }
-    out.extend_from_slice(without_leading_zeros(whole))?;
-    if decimals > 0 {
-        out.push(point)?;
-        out.extend_from_slice(part)?;
-    }
-    Ok(())
+    add_minus(number, out)?;
+    add_pointed(decimals, point, &room, out)
 }
 
 /// Returns the number that columns have, if they have one. A blank is a zero.
@@ -55,6 +72,7 @@ fn columns_number(columns: &[u8]) -> Option<i64>
 }
 
 /// Appends the number that columns have. Returns whether they have one.
+#[tactic(auto, using(crate::proofs::NumberLemmas::appended))]
 fn add_number_of(
     decimals: u8,
     point: u8,

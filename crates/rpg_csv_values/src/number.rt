@@ -1,7 +1,7 @@
 //! The numbers of cells.
 
-ghost use Rattle.std.specs.Prelude.{◌≡◌, ◌≤◌, ◌<◌, ◌^◌, ◌-◌, ◌+◌, false, length, true};
-ghost use Rattle.rpg_csv_values.specs.Numbers.{after_point, before_point, cell_number, digits_number, has_minus, is_grouped, is_separator, number_size, whole_number, without_blanks, without_sign, without_zeros};
+ghost use Rattle.std.specs.Prelude.{◌≡◌, ◌≤◌, ◌<◌, ◌^◌, length, true, unsigned_abs, IfOk, Ok};
+ghost use Rattle.rpg_csv_values.specs.Numbers.{after_point, before_point, cell_number, digits_number, digits_with_point, has_minus, is_grouped, is_separator, number_size, parts_number, signed_size, whole_number, without_blanks, without_sign, without_zeros};
 
 use crate::cell::CellFault;
 use rpg_text::trimmed;
@@ -149,9 +149,11 @@ fn digits_number(text: &[u8], group: Option<u8>) -> Option<u64>
 }
 
 /// Returns ten to a power.
+#[tactic(auto, using(crate::proofs::NumberLemmas::ten_few))]
 fn power_of_ten(exponent: u8) -> u64
     requires { exponent ≤ 15 }
-    ensures { result ≡ 10 ^ exponent }
+    ensures value { result ≡ 10 ^ exponent }
+    ensures few { result ≤ 10 ^ 15 }
 {
     10u64.pow(u32::from(exponent))
 }
@@ -182,42 +184,93 @@ fn number_size(
     )
 }
 
+/// Returns a number under its sign, if it has at most so many digits.
+fn signed_size(before: u8, width: u8, is_minus: bool, size: u64) -> Result<i64, CellFault>
+    requires { width ≤ 15 }
+    ensures value { result ≡ signed_size before width is_minus (Ok size) }
+    ensures few { IfOk result (λ number. unsigned_abs number < 10 ^ width) }
+{
+    if size >= power_of_ten(width) {
+        return Err(CellFault::Digits(before));
+    }
+    let number = size as i64;
+    Ok(if is_minus { -number } else { number })
+}
+
+/// Returns the number of what stands before the point and after it.
+fn parts_number(
+    decimals: u8,
+    width: u8,
+    is_minus: bool,
+    whole: Option<u64>,
+    part_length: usize,
+    part: Option<u64>,
+) -> Result<i64, CellFault>
+    requires ordered { decimals ≤ width }
+    requires within { width ≤ 15 }
+    ensures value { result ≡ parts_number decimals width is_minus whole part_length part }
+    ensures few { IfOk result (λ number. unsigned_abs number < 10 ^ width) }
+{
+    let Some(whole) = whole else {
+        return Err(CellFault::NoNumber);
+    };
+    let Some(part) = part else {
+        return Err(CellFault::NoNumber);
+    };
+    let before = width - decimals;
+    match number_size(before, decimals, whole, part_length, part) {
+        Ok(size) => signed_size(before, width, is_minus, size),
+        Err(fault) => Err(fault),
+    }
+}
+
 impl NumberFormat {
     /// Returns the number before the point.
     fn whole_number(self, text: &[u8]) -> Option<u64>
         ensures { result ≡ whole_number self.group text.now }
     {
         match self.group {
-            Some(group) if text.contains(&group) && !is_grouped(text, group) => None,
-            group => digits_number(text, group),
+            None => digits_number(text, None),
+            Some(group) => {
+                if text.contains(&group) && !is_grouped(text, group) {
+                    return None;
+                }
+                digits_number(text, Some(group))
+            }
         }
+    }
+
+    /// Returns the number of digits with a point.
+    fn digits_with_point(
+        self,
+        decimals: u8,
+        width: u8,
+        is_minus: bool,
+        digits: &[u8],
+    ) -> Result<i64, CellFault>
+        requires ordered { decimals ≤ width }
+        requires within { width ≤ 15 }
+        ensures value { result ≡ digits_with_point self decimals width is_minus digits.now }
+        ensures few { IfOk result (λ number. unsigned_abs number < 10 ^ width) }
+    {
+        let parts = split_point(digits, self.decimal);
+        if parts.whole.is_empty() && parts.part.is_empty() {
+            return Err(CellFault::NoNumber);
+        }
+        let whole = self.whole_number(parts.whole);
+        let part = without_zeros(parts.part);
+        let rest = digits_number(part, None);
+        parts_number(decimals, width, is_minus, whole, part.len(), rest)
     }
 
     /// Returns the number of a cell that isn't blank, in units of the last of its field's decimals. The field has `width` digits.
     pub(crate) fn cell_number(self, decimals: u8, width: u8, text: &[u8]) -> Result<i64, CellFault>
         requires ordered { decimals ≤ width }
-        requires few { width ≤ 15 }
-        ensures { result ≡ cell_number self decimals width text.now }
+        requires within { width ≤ 15 }
+        ensures value { result ≡ cell_number self decimals width text.now }
+        ensures few { IfOk result (λ number. unsigned_abs number < 10 ^ width) }
     {
-        let Signed { is_minus, digits } = split_sign(text);
-        let Parts { whole, part } = split_point(digits, self.decimal);
-        if whole.is_empty() && part.is_empty() {
-            return Err(CellFault::NoNumber);
-        }
-        let part = without_zeros(part);
-        let (Some(number), Some(rest)) = (self.whole_number(whole), digits_number(part, None))
-        else {
-            return Err(CellFault::NoNumber);
-        };
-        let before = width - decimals;
-        let size = number_size(before, decimals, number, part.len(), rest)?;
-        if size >= power_of_ten(width) {
-            return Err(CellFault::Digits(before));
-        }
-        Ok(if is_minus {
-            -(size as i64)
-        } else {
-            size as i64
-        })
+        let signed = split_sign(text);
+        self.digits_with_point(decimals, width, signed.is_minus, signed.digits)
     }
 }
