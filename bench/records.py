@@ -5,7 +5,8 @@ usage: bench/records.py [RECORDS]        100,000 where it isn't given; RPG2 name
 
 It makes decks and records by chance: texts, zoned, packed and binary numbers of all sizes, two record types, the three framings, code page 037
 and ASCII. A converter of its own, over Python's cp037, says which lines and which new deck are wanted, and which records lines go back to. Lines
-with something that has no place must be refused, each for its reason. All 256 bytes are held against the code page. Records of text are compared with `dd conv=ascii` and with `iconv`. Last, `rpg2 records` and
+with something that has no place must be refused, each for its reason. Decks with packed and binary output get their new decks, and their lines
+become records (written_records.py). All 256 bytes are held against the code page. Records of text are compared with `dd conv=ascii` and with `iconv`. Last, `rpg2 records` and
 `iconv | fold` are timed side by side. It prints a line for each comparison; the status is 1 where one differs.
 """
 
@@ -18,6 +19,8 @@ import tempfile
 import time
 from dataclasses import dataclass
 from pathlib import Path
+
+from written_records import compare_outputs
 
 TOP = Path(__file__).resolve().parent.parent
 RPG2 = os.environ.get("RPG2", str(TOP / "crates/rpg2/out/rpg2"))
@@ -298,6 +301,7 @@ def main(words):
             for framing in ([], ["--rdw"]):
                 compare_layout(done, folder, max(1, count // 10), page, framing)
         compare_damaged(done, folder, 500)
+        compare_outputs(done, RPG2, folder, 100, max(1, count // 100))
         compare_tools(done, folder, count)
         compare_times(folder, 10 * count)
     sys.exit(1 if done.failed else 0)

@@ -209,6 +209,6 @@ end positions count from the start of the line, without a sign|a number that end
  D 40-43 +
  D 40-43 .+
  D 40-43 ..+
-packed and binary fields aren't written|blank column 44, and the field is written as digits
+packed and binary fields aren't written|rpg2 records --deck moves their digits behind the record, and --to packs them
  D 44-44 P
  D 44-44 B";

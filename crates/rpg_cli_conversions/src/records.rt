@@ -14,11 +14,12 @@ use rpg_cli_messages::{is_object, object_diagnostic};
 use rpg_cli_words::{
     FileArgument, RecordFraming, RecordsWay, Request, SameFile, Shared, is_standard,
 };
-use rpg_record_decks::{DeckArguments, DeckFault, fitted_deck, layout_changes, layout_of};
+use rpg_record_decks::{CardChange, DeckArguments, DeckFault, fitted_deck};
 use rpg_record_lines::{
     ConversionFault, Counts, Framing, Layout, Page, RecordFormat, lines_to_records,
     records_to_lines,
 };
+use rpg_record_outputs::{BackLayout, back_layout, deck_changes, input_layout};
 use std::alloc::Global;
 use std::fs::OpenFile;
 use std::io::{self, BufWriter, Read, Write};
@@ -36,20 +37,16 @@ fn refusal(fault: DeckFault) -> Answer {
     }
 }
 
-/// Returns the layout of the records, from the deck. Reports a bad card.
-fn layout<L: Listener>(
+/// Returns what the deck determines. Reports a bad card.
+fn accepted<T: Drop, L: Listener>(
     alloc: Global,
     request: &Request,
     source: &[u8],
+    read: Result<T, DeckFault>,
     listener: &mut L,
-) -> Result<Layout, Answer> {
-    let deck_arguments = DeckArguments {
-        file: request.file_name,
-        length: request.length,
-        are_lines: request.framing == RecordFraming::Lines,
-    };
-    match layout_of(alloc, source, deck_arguments) {
-        Ok(layout) => Ok(layout),
+) -> Result<T, Answer> {
+    match read {
+        Ok(value) => Ok(value),
         Err(fault) => {
             let file = file_of(request, request.deck_argument());
             let told = if is_object(source) {
@@ -60,6 +57,35 @@ fn layout<L: Listener>(
             tell_made(listener, told);
             Err(refusal(fault))
         }
+    }
+}
+
+/// Returns the layout of the records: for `--to` that of an output file, if lines of one become records.
+fn layout(alloc: Global, request: &Request, source: &[u8]) -> Result<BackLayout, DeckFault> {
+    let arguments = DeckArguments {
+        file: request.file_name,
+        length: request.length,
+        are_lines: request.framing == RecordFraming::Lines,
+    };
+    if request.way == RecordsWay::ToRecords && request.rows_of_values.is_none() {
+        return back_layout(alloc, source, arguments);
+    }
+    Ok(BackLayout {
+        layout: input_layout(alloc, source, arguments)?,
+        written: None,
+    })
+}
+
+/// Returns the changes of the cards in the deck that reads the lines, if the arguments ask for it.
+fn changes(
+    alloc: Global,
+    request: &Request,
+    source: &[u8],
+    layout: &Layout,
+) -> Result<Vec<CardChange>, DeckFault> {
+    match request.new_deck {
+        Some(_) => deck_changes(alloc, source, layout),
+        None => Ok(Vec::new(alloc)),
     }
 }
 
@@ -218,6 +244,7 @@ fn reason_of(fault: Option<Reason>) -> Reason {
 fn early_answer<L: Listener>(
     alloc: Global,
     request: &Request,
+    deck: RecordDeck<'_>,
     fault: ConversionFault,
     read: Option<Reason>,
     written: Option<Reason>,
@@ -231,6 +258,7 @@ fn early_answer<L: Listener>(
         } => {
             let refused = RefusedRecord {
                 way: request.way,
+                lines_of: deck.written,
                 number,
                 offset,
                 fault,
@@ -280,7 +308,7 @@ fn convert<
 >(
     alloc: Global,
     request: &Request,
-    layout: &Layout,
+    deck: RecordDeck<'_>,
     mut source: RecordSource<F, S>,
     target: LineTarget<'_, T, P>,
     listener: &mut L,
@@ -288,11 +316,11 @@ fn convert<
     let Ok(mut writer) = BufWriter::with_capacity(alloc, WRITE_ROOM, target) else {
         return Err(Answer::NoMemory);
     };
-    match convert_all(alloc, request, layout, &mut source, &mut writer) {
+    match convert_all(alloc, request, deck.layout, &mut source, &mut writer) {
         Ok(counts) => Ok(counts),
         Err(fault) => {
             let (read, written) = (source.fault(), writer.get_ref().fault());
-            Err(early_answer(alloc, request, fault, read, written, listener))
+            Err(early_answer(alloc, request, deck, fault, read, written, listener))
         }
     }
 }
@@ -302,6 +330,10 @@ fn convert<
 struct RecordDeck<'a> {
     source: &'a [u8],
     layout: &'a Layout,
+    /// The output file whose lines become records, if it is one.
+    written: Option<[u8; 8]>,
+    /// The changes of the deck's cards, if the arguments ask for a new deck.
+    changes: &'a [CardChange],
     rows: Option<&'a FileRows<'a>>,
 }
 
@@ -314,10 +346,7 @@ fn write_deck<R: Files + Print + AllocGlobal>(
     if let Opened::Nothing = opened {
         return Ok(());
     }
-    let Ok(changes) = layout_changes(rt.alloc(), deck.layout) else {
-        return Err(Answer::NoMemory);
-    };
-    let Ok(text) = fitted_deck(rt.alloc(), deck.source, changes.as_slice()) else {
+    let Ok(text) = fitted_deck(rt.alloc(), deck.source, deck.changes) else {
         return Err(Answer::NoMemory);
     };
     named(FileArgument::NewDeck, opened.empty())?;
@@ -360,7 +389,7 @@ fn convert_opened<'a, R: Files + Input + Print + AllocGlobal, L: Listener>(
     let (from, to) = (records(rt, input), lines(rt, output, None));
     let counts = match deck.rows {
         Some(rows) => convert_rows(rt.alloc(), request, rows, from, to, listener)?,
-        None => convert(rt.alloc(), request, deck.layout, from, to, listener)?,
+        None => convert(rt.alloc(), request, deck, from, to, listener)?,
     };
     write_deck(rt, deck, new_deck)?;
     Ok(counts)
@@ -394,11 +423,16 @@ pub fn records_file<R: Files + Input + Print + AllocGlobal, L: Listener>(
 ) -> Result<Answer, CommandStop> {
     let deck = request.deck_argument();
     let source = named(deck, file_bytes(rt, request.file(deck)))?;
-    let layout = layout(rt.alloc(), request, &source, listener)?;
+    let read = layout(rt.alloc(), request, &source);
+    let BackLayout { layout, written } = accepted(rt.alloc(), request, &source, read, listener)?;
+    let made = changes(rt.alloc(), request, &source, &layout);
+    let changes = accepted(rt.alloc(), request, &source, made, listener)?;
     let rows = file_rows(rt.alloc(), request, &source, &layout, listener)?;
     let deck = RecordDeck {
         source: &source,
         layout: &layout,
+        written,
+        changes: changes.as_slice(),
         rows: rows.as_ref(),
     };
     let Counts { records, dropped } = convert_file(rt, request, deck, listener)?;

@@ -53,6 +53,35 @@ fn write_card_fault(out: &mut TextWriter, fault: CardFault) {
         CardFault::BytesInLines => out.write_str(
             "with --lines no field may be packed or binary: its bytes could end a line",
         ),
+        fault => write_array_fault(out, fault),
+    }
+}
+
+/// Writes what is wrong with an array that is read, or with an output field.
+fn write_array_fault(out: &mut TextWriter, fault: CardFault) {
+    match fault {
+        CardFault::Entries {
+            name,
+            entries,
+            bytes,
+            columns,
+        } => out.fill(
+            "the array {} has {} entries of {} bytes, and {} columns aren't as many",
+            &[
+                trimmed(&name).into(),
+                entries.into(),
+                bytes.into(),
+                columns.into(),
+            ],
+        ),
+        CardFault::EntryDigits {
+            name,
+            digits,
+            bytes,
+        } => out.fill(
+            "the array {} has entries of {} digits, fewer than their {} bytes have",
+            &[trimmed(&name).into(), digits.into(), bytes.into()],
+        ),
         fault => write_output_fault(out, fault),
     }
 }
@@ -238,6 +267,8 @@ fn write_record_fault(out: &mut TextWriter, fault: RecordFault) {
 #[derive(Clone, Copy)]
 pub(crate) struct RefusedRecord {
     pub way: RecordsWay,
+    /// The output file whose lines they are, if they are those of one.
+    pub lines_of: Option<[u8; 8]>,
     pub number: u64,
     pub offset: u64,
     pub fault: RecordFault,
@@ -271,6 +302,14 @@ impl RefusedRecord {
     }
 }
 
+/// Writes that a line is none of those that the cards describe.
+fn write_no_type(out: &mut TextWriter, lines_of: Option<[u8; 8]>) {
+    match lines_of {
+        Some(name) => out.fill("it is none of the lines of {}", &[trimmed(&name).into()]),
+        None => out.write_str("this line is of no type"),
+    }
+}
+
 /// Returns the diagnostic for a record or a line of a file. A text has no place for a record, so the message has it.
 pub(crate) fn record_diagnostic(
     alloc: Global,
@@ -280,7 +319,7 @@ pub(crate) fn record_diagnostic(
     let mut draft = Draft::error(alloc, refused.place(file));
     let out = &mut draft.message;
     match (refused.way, refused.fault) {
-        (RecordsWay::ToRecords, RecordFault::NoType) => out.write_str("this line is of no type"),
+        (RecordsWay::ToRecords, RecordFault::NoType) => write_no_type(out, refused.lines_of),
         (RecordsWay::ToRecords, fault) => write_record_fault(out, fault),
         (RecordsWay::ToLines, RecordFault::NoType) => out.fill_two(
             "record {} at byte {} is of no type",

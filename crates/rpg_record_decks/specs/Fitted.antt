@@ -1,9 +1,9 @@
 -- A deck with changes of its cards: the one that reads the lines of a layout.
-use Rattle.std.specs.Prelude.{ℕ, ◌+◌, ◌==◌, List, [], ◌∷◌, ◌++◌, drop, find, length, map, Option, Some, None}
+use Rattle.std.specs.Prelude.{ℕ, ◌+◌, ◌==◌, List, [], ◌∷◌, ◌++◌, drop, find, length, Option, Some, None}
 use Rattle.std.specs.List.{flat_map, join_with_byte, slice_split}
 use Rattle.std.specs.Str.Lines.{strip_carriage_return}
 use Rattle.rpg_text.specs.Lines.{is_line_feed}
-use Rattle.rpg_records.specs.Seen.{LayoutSeen, NumberSeen, columns_seen, digits_seen}
+use Rattle.rpg_records.specs.Seen.{LayoutSeen, NumberSeen, digits_seen}
 use Rattle.rpg_records.specs.Sizes.{counted}
 use Rattle.rpg_record_decks.specs.Edits.{number_columns, with_columns}
 use Rattle.rpg_record_decks.specs.declared.fitted.CardChange.{CardChange}
@@ -25,10 +25,6 @@ length_change card columns = record { card = card; first = 24; text = number_col
 -- on a field's I card a blank in 43, and the columns of the digits
 abbrev pub digits_change : DigitColumns → CardChange
 digits_change d = record { card = d.card; first = 43; text = 32 ∷ number_columns d.first ++ number_columns d.last }
-
--- on the cards of a layout
-abbrev pub layout_changes : LayoutSeen → List CardChange
-layout_changes layout = length_change layout.card (columns_seen layout) ∷ map digits_change (all_digit_columns layout)
 
 -- a line with a change; a carriage return at its end stays
 abbrev pub with_change : CardChange → List ℕ → List ℕ

@@ -33,6 +33,19 @@ pub enum CardFault {
     Shared {
         card: u16,
     },
+    /// The columns of a packed or binary array aren't those of its entries.
+    Entries {
+        name: [u8; 6],
+        entries: u16,
+        bytes: u16,
+        columns: u16,
+    },
+    /// The entries of a packed or binary array have fewer digits than their bytes.
+    EntryDigits {
+        name: [u8; 6],
+        digits: u16,
+        bytes: u16,
+    },
     /// The longest line would have more than 9,999 columns.
     Wide {
         columns: usize,

@@ -5,7 +5,7 @@ ghost use Rattle.std.specs.Str.Lines.{strip_carriage_return};
 ghost use Rattle.rpg_text.specs.Lines.{is_line_feed};
 ghost use Rattle.rpg_records.specs.Seen.{layout_seen, number_seen};
 ghost use Rattle.rpg_record_decks.specs.Edits.{with_columns};
-ghost use Rattle.rpg_record_decks.specs.Fitted.{all_digit_columns, changed, digit_columns_after, digits_change, fitted, layout_changes, length_change, with_change};
+ghost use Rattle.rpg_record_decks.specs.Fitted.{all_digit_columns, changed, digit_columns_after, digits_change, fitted, length_change, with_change};
 
 use crate::edits::{number_columns, with_columns};
 use rpg_records::{Layout, NumberField};
@@ -32,7 +32,7 @@ pub struct CardChange {
 }
 
 /// Adds the columns of the digits of a type's fields, which follow a record of `length` bytes.
-pub fn add_digits(
+fn add_digits(
     all: &mut Vec<DigitColumns>,
     length: u16,
     numbers: &[NumberField],
@@ -75,7 +75,7 @@ pub fn length_change(card: u16, columns: usize) -> CardChange
 }
 
 /// Returns the change of a field's I card: a blank instead of P or B, and the columns of its digits.
-fn digits_change(digits: &DigitColumns) -> CardChange
+pub fn digits_change(digits: &DigitColumns) -> CardChange
     ensures { result ≡ digits_change digits.now }
 {
     let first = number_columns(digits.first);
@@ -87,28 +87,6 @@ fn digits_change(digits: &DigitColumns) -> CardChange
             b' ', first[0], first[1], first[2], first[3], last[0], last[1], last[2], last[3],
         ]),
     }
-}
-
-/// Adds the changes of the I cards of fields, given their digits.
-fn add_changes(changes: &mut Vec<CardChange>, all: &[DigitColumns]) -> Result<(), AllocError>
-    ensures { OnOk result (changes.new.items ≡ changes.old.items ++ map digits_change all.now) }
-{
-    for digits in all {
-        changes.push(digits_change(digits))?;
-    }
-    Ok(())
-}
-
-/// Returns the changes of the cards of a layout in the deck that reads its lines.
-#[tactic(auto, using(crate::proofs::SeenLemmas::columns_are_seen))]
-pub fn layout_changes(alloc: Global, layout: &Layout) -> Result<Vec<CardChange>, AllocError>
-    ensures { IfOk result (λ changes. changes.items ≡ layout_changes (layout_seen layout.now)) }
-{
-    let all = all_digits(alloc, layout)?;
-    let mut changes = Vec::new(alloc);
-    changes.push(length_change(layout.card, layout.columns()))?;
-    add_changes(&mut changes, all.as_slice())?;
-    Ok(changes)
 }
 
 /// Returns the first change of the card with this number.

@@ -16,8 +16,6 @@ pub use deck::{DeckArguments, DeckCard, deck_cards};
 pub use edits::{changed_card, columns, file_name, number_columns};
 pub use fault::{CardFault, DeckFault, bad_columns};
 pub use file::{file_length, find_file, is_read};
-pub use fitted::{
-    CardChange, DigitColumns, add_digits, all_digits, fitted_deck, layout_changes, length_change,
-};
+pub use fitted::{CardChange, DigitColumns, all_digits, digits_change, fitted_deck, length_change};
 pub use layout::{MOST_COLUMNS, layout_by_cards, layout_of, narrow};
-pub use types::{form_of, is_of_file, is_on_sheet};
+pub use types::{form_of, goes_on, is_of_file, is_on_sheet};

@@ -6,7 +6,7 @@ ghost use Rattle.rpg_sheet_specs.specs.Tables.{input_card};
 ghost use Rattle.rpg_record_decks.specs.Files.{or_columns};
 ghost use Rattle.rpg_record_decks.specs.Outcomes.{IsDeckFaultOf, at_card, onto};
 ghost use Rattle.rpg_record_decks.specs.Reading.{GoOnAlike, all_types, type_now, type_read, types_done};
-ghost use Rattle.rpg_record_decks.specs.Types.{cards_of_file, field_type, number_form_on, input_spec_of, is_of_file, is_on_sheet, new_type, type_after, type_before, types_read_after, types_read, with_code, with_codes, with_columns_of, with_type_field, with_three};
+ghost use Rattle.rpg_record_decks.specs.Types.{cards_of_file, field_type, goes_on, number_form_on, input_spec_of, is_of_file, is_on_sheet, new_type, type_after, type_before, types_read_after, types_read, with_code, with_codes, with_columns_of, with_type_field, with_three};
 ghost use Rattle.rpg_sheet_specs.specs.declared.input.InputSpec.TheVariants as inputs;
 ghost use Rattle.rpg_record_decks.specs.declared.deck.DeckCard.{DeckCard};
 ghost use Rattle.rpg_record_decks.specs.declared.fault.CardFault.TheVariants as card_faults;
@@ -30,15 +30,20 @@ pub fn is_on_sheet(sheet: &[u8], card: &Card) -> bool
     columns(card, 6, 6) == sheet
 }
 
+/// Whether an I or an O card is an AND or an OR card.
+pub fn goes_on(card: &Card) -> bool
+    ensures { result ≡ goes_on card.now }
+{
+    is_blank(columns(card, 7, 13))
+        && (columns(card, 14, 16) == b"AND".as_slice() || columns(card, 14, 15) == b"OR".as_slice())
+}
+
 /// Whether an I or an O card belongs to the file with this name, given whether the previous card of its sheet does.
 pub fn is_of_file(card: &Card, name: &[u8], before: bool) -> bool
     ensures { result ≡ is_of_file name.now before card.now }
 {
-    let goes_on = is_blank(columns(card, 7, 13))
-        && (columns(card, 14, 16) == b"AND".as_slice()
-            || columns(card, 14, 15) == b"OR".as_slice());
     let file = file_name(card);
-    if goes_on || file.is_empty() {
+    if goes_on(card) || file.is_empty() {
         before
     } else {
         file == name

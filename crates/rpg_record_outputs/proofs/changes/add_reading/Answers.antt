@@ -3,7 +3,7 @@ use Rattle.std.proofs.lemmas.List.{at_drop_more}
 use Rattle.rpg_record_decks.specs.Fitted.{digits_change}
 use Rattle.rpg_record_decks.specs.declared.fitted.CardChange.{CardChange}
 use Rattle.rpg_record_decks.specs.declared.fitted.DigitColumns.{DigitColumns}
-use Rattle.rpg_record_decks.proofs.fitted.add_changes.Goals as goal
+use Rattle.rpg_record_outputs.proofs.changes.add_reading.Goals as goal
 
 abbrev no_digits : DigitColumns
 no_digits = record { card = 0; first = 0; last = 0 }
