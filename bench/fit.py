@@ -78,9 +78,21 @@ class Room:
         printer = ["--printer", self.job.printer] if self.job.printer else []
         return self.answer("fit", source, new, *tables, *printer, "--switches", self.job.switches)
 
-    def go(self):
-        secondary = ["--secondary", "second"] if len(self.job.records) > 1 else []
-        return self.answer("go", "new", "records", "print", "--date", DATE, "--disk", "disk", *secondary, "--allowance", ALLOWANCE)
+    def converted(self, *words):
+        answer = self.answer("records", *words)
+        require(answer.status == 0, f"records: {answer.line}\n{answer.errors}")
+
+    def go(self, told):
+        """Runs the new deck, over the files that the sentences ask for."""
+        records, second = "records", "second"
+        if "[A25]" in told:
+            self.converted("--merge", "deck", "merged", "IN3=third", "IN2=second")
+            second = "merged"
+        if ahead := re.search(r": rpg2 records --ahead (\S+) puts", told):
+            self.converted("records", "ahead", "--ahead", ahead[1], "--length", "80")
+            records = "ahead"
+        secondary = ["--secondary", second] if len(self.job.records) > 1 else []
+        return self.answer("go", "new", records, "print", "--date", DATE, "--disk", "disk", *secondary, "--allowance", ALLOWANCE)
 
 
 # ---- what fit does to the cards
@@ -170,7 +182,7 @@ def compared_in(room):
         return Result("rejected", answer.line)
     check_rewritten(room, answer)
     deck, wanted = course_of(room.job)
-    return Result(check_run(room, deck, wanted, room.go(), answer.errors), answer.line)
+    return Result(check_run(room, deck, wanted, room.go(answer.errors), answer.errors), answer.line)
 
 
 def compared(program, seed):

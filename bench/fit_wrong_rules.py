@@ -161,7 +161,7 @@ def differs(seed, feature, printed):
         (room.folder / "new").write_text(printed.partition("--- new\n")[2], encoding="latin-1")
         deck, wanted = fit.course_of(job)
         try:
-            fit.check_run(room, deck, wanted, room.go(), printed)
+            fit.check_run(room, deck, wanted, room.go(printed), printed)
         except fit.Differs as how:
             return str(how)
     return None

@@ -47,7 +47,6 @@ MORE_FEATURES = {
     "ahead": "look ahead",
     "root": "SQRT",
 }
-LEFT_FEATURES = {"third", "ahead"}  # no rule rewrites these: only decks that are asked for have them
 TABLE_FILE = "TABF"
 NO_INDICATORS = "      "
 DIVISIONS = ("AA", "AB", "BA", "CC")
@@ -99,7 +98,7 @@ class Source:
         self.features = set(features) if features is not None else {it for it in FEATURES if self.by.random() < share}
         if features is None:
             more = random.Random(f"{seed} more")
-            chosen = {it for it in MORE_FEATURES if more.random() < 0.2} - LEFT_FEATURES
+            chosen = {it for it in MORE_FEATURES if more.random() < 0.2}
             if chosen:
                 self.features = chosen | {it for it in FEATURES if more.random() < 0.06}
         self.halts = self.by.random() < 0.12

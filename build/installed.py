@@ -15,14 +15,14 @@ from pathlib import Path
 
 TOP = Path(__file__).resolve().parent.parent
 
-PLACED = re.compile(r"  (?P<name>[<\[][A-Z]+[>\]](?:\.\.\.)?) +(?P<help>\S.*)")
-OPTION = re.compile(r"  (?:-(?P<short>\w), |    )--(?P<name>[\w-]+)(?: <(?P<value>[\w=]+)>|\[=<(?P<maybe>[\w=]+)>\])?(?:\.\.\.)? +(?P<help>\S.*)")
+PLACED = re.compile(r"  (?P<name>[<\[][A-Z=]+[>\]](?:\.\.\.)?) +(?P<help>\S.*)")
+OPTION = re.compile(r"  (?:-(?P<short>\w), |    )--(?P<name>[\w-]+)(?: <(?P<value>[\w=-]+)>|\[=<(?P<maybe>[\w=]+)>\])?(?:\.\.\.)? +(?P<help>\S.*)")
 COMMAND = re.compile(r"  (?P<name>[a-z]+) +\S.*")
 CHOICES = re.compile(r"\[possible values: ([^\]]+)\]")
 CODE = re.compile(r"^## ([A-Z]\d+):", re.MULTILINE)
 
 # What the values of options and arguments that aren't here are: names of files.
-NOT_FILES = {"N", "XX", "CODE", "DATE", "FORMAT", "FORM", "NAME", "NAMES", "C", "NAME=FILE", "00000000"}
+NOT_FILES = {"N", "XX", "A-B", "CODE", "DATE", "FORMAT", "FORM", "NAME", "NAMES", "C", "NAME=FILE", "00000000"}
 # Options that may be given several times.
 MANY = {"allow", "deny", "table"}
 # The words of --date that aren't digits.

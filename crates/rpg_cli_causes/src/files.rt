@@ -17,7 +17,7 @@ const fn use_name(serves_as: FileUse) -> &'static str {
 }
 
 const THIRD_INPUT: &str =
-    "; a second input file has S in 16, and a third isn't supported: merge two beforehand (docs/OLD_PROGRAMS.md)";
+    "; a second input file has S in 16, and a third isn't supported (rpg2 fit reads several secondary files as one: A25)";
 
 const MORE_PRINTERS: &str =
     "; more than one printer isn't supported (rpg2 fit --printer writes the deck of one: A23)";

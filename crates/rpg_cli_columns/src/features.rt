@@ -111,7 +111,7 @@ sequence by number isn't supported|blank column 17
  T 17-17 N
 sequence by number isn't supported|blank column 18
  T 18-18 O
-look ahead isn't supported
+look ahead isn't supported|rpg2 records --ahead puts columns of the next record after each (rpg2 fit rewrites it: A26)
  T 19-20 **
 spread cards aren't supported|write each part in a record of its own
  T 19-20 TR

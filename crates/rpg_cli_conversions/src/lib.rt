@@ -4,6 +4,7 @@
 mod changes;
 mod fitting;
 mod law;
+mod merging;
 mod new_deck;
 mod records;
 mod refused;

@@ -1,5 +1,6 @@
 //! The command that converts records to lines, and such lines to records.
 
+use crate::merging::lines_file;
 use crate::refused::{RefusedRecord, deck_diagnostic, record_diagnostic};
 use rpg_cli_answers::{
     Answer, CommandStop, Listener, NamedFile, file_of, named, refuse_replacing, refuse_same_file,
@@ -421,6 +422,9 @@ pub fn records_file<R: Files + Input + Print + AllocGlobal, L: Listener>(
     request: &Request,
     listener: &mut L,
 ) -> Result<Answer, CommandStop> {
+    if let Some(way) = request.lines_way {
+        return lines_file(rt, request, way, listener);
+    }
     let deck = request.deck_argument();
     let source = named(deck, file_bytes(rt, request.file(deck)))?;
     let read = layout(rt.alloc(), request, &source);

@@ -98,8 +98,14 @@ pub(crate) const REWRITINGS: &str = "\
     %     FDATE    IP  F      80            READ40\n     FMASTER  ISE F      80            TAPE\
     %     FDATE    IP  F      80            READ40\n     FMASTER  IS  F      80            TAPE\
     %nothing: the last file is read last. Where files are matched, or the last one has no E,\nthe old job ends with records left: take these out of the data, and put E on all files or on none\
-    @\
-    @\
+    @A25%three and more input files become two, the secondary ones merged%\
+    %     FONHAND  IP  F      80            READ40\n     FISSUES  IS  F      80            DISK\n     FRECPTS  IS  F      80            DISK\n     IONHAND  AA  01   1 CH\n     I                                        2   6 ITEM    M1\n     IISSUES  BB  02   1 CI\n     I                                        2   6 ITEM    M1\n     IRECPTS  CC  03\n     I                                        2   6 ITEM    M1\
+    %     FONHAND  IP  F      80            READ40\n     FISSUES  IS  F      81            DISK\n     IONHAND  AA  01   1 CH\n     I                                        2   6 ITEM    M1\n     IISSUES  BB  02   2 CI   1 CA\n     I                                        3   7 ITEM    M1\n     IISSUES  CC  03   1 CB\n     I                                        3   7 ITEM    M1\
+    %merge the files: `rpg2 records --merge OLD.rpg OUT ISSUES=FILE RECPTS=FILE` takes the least\nmatch value first, as the old job did, and puts a letter in front of each record. Packed fields are\nunpacked first, by rpg2 records --by. Rejected are a sequence by number and look ahead in these\nfiles, and files that are written too\
+    @A26%look ahead fields are read after each record%\
+    %     FCARDS   IP  F      80            READ40\n     ICARDS   AA  01   1 CA\n     I                                        2   6 ITEM\n     I        ZZ  **\n     I                                        2   6 NEXT\
+    %     FCARDS   IP  F      85            READ40\n     ICARDS   AA  01   1 CA\n     I                                        2   6 ITEM\n     I                                       81  85 NEXT\
+    %put the columns there: `rpg2 records IN OUT --ahead 2-6 --length 80`. After the last record\nthey are nines. Rejected are arrays, fields that other types read too, packed fields, and beside\nanother input file a field that is used where no record of this one need be\
     @A27%a combined file, or one that is updated in place, is read, and a new one written%\
     %     FCARDS   CP  F      80            MFCU1\n     ICARDS   AA  01   1 CA\n     I                                        2   60AMT\n     OCARDS   D        01 30\n     O                         AMT       40\
     %     FCARDS   IP  F      80            MFCU1\n     FNEW     O   F      80            DISK\n     ICARDS   AA  01   1 CA\n     I                                        2   60AMT\n     I                                        1  80 REC#\n     ONEW     D        01 30\n     O                         REC#      80\n     O                         AMT       40\n     ONEW     D        01N30\n     O                         REC#      80\

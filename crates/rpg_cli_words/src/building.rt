@@ -49,7 +49,7 @@ fn equalled<'a>(alloc: Global, argument: Argument) -> Arg<'a> {
 fn arg<'a>(alloc: Global, argument: Argument) -> Result<Arg<'a>, AllocError> {
     equalled(alloc, argument)
         .conflicts_with_all(argument.other.as_slice())?
-        .required_unless_present_any(argument.unless().as_slice())
+        .required_unless_present_any(argument.unless())
 }
 
 /// Appends what was built, unless memory ran out for it.

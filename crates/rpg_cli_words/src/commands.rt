@@ -10,7 +10,7 @@ pub(crate) const COMMANDS: &str =
 check: SRC.each faults deny allow format quiet: Reports all faults of each source SRC on standard error, and writes nothing
 list: SRC format: Lists the source SRC: its cards with their faults, record layouts, names, indicators and printed lines
 cards: SRC.short short ruler: Turns the lines of shorthand in SRC into cards, such as O 32=TOT 42=10
-records: IN OUT by to csv to-csv file length rdw lines ascii low-blank drop columns no-header delimiter decimal group replace deck format: Converts a shop's records to lines, guided by the deck that reads them, or back
+records: IN OUT FILES by to merge ahead csv to-csv file length rdw lines ascii low-blank drop columns no-header delimiter decimal group replace deck format: Converts a shop's records to lines, guided by the deck that reads them, or back
 fit: SRC.old NEW force table switches forms printer format: Rewrites the old deck SRC as cards that are read, and reports each change
 verify: OBJ format quiet: Verifies the object program OBJ, and prints the most steps that a cycle can take
 explain: CODE list: Explains codes, such as F16, S5, V21, B5 or halt 4, or all of them
@@ -33,7 +33,7 @@ paper: PRINT.paper PDF form length.paper columns.paper bars format quiet: Puts e
 /// | `Q` | nothing: the flag with the short form `-q` |
 /// | `V` | a value |
 /// | `O` | a value, with the short form `-o` |
-/// | `E` | a value, unless the other argument is there |
+/// | `E` | a value, unless the other argument, or `--merge` or `--ahead`, is there |
 /// | `W` | a value, several times |
 /// | `A` | an allowance: a number from 1 on, 1000 by default |
 /// | `N` | how many lines: a number from 0 on, 20 by default |
@@ -58,8 +58,9 @@ PRINT R Where the printed lines go; - is standard output, and the answer's line 
 PRINT.paper R What run or go printed; - is standard input
 PDF R Where the PDF goes
 PRINT.go P Where the printed lines go; standard output if it isn't given
-IN R The records; - is standard input
-OUT R Where the lines go; with --to, IN has the lines and the records go here
+IN R The records; - is standard input. With --merge, where the lines go
+OUT R Where the lines go; with --to, IN has the lines and the records go here. With --merge, the first secondary file, as NAME=FILE
+FILES M=NAME=FILE The other secondary files that --merge reads, by their names on the cards
 NEW P Where the new deck goes; without it the changes are only reported
 force F Replaces NEW if it exists
 CODE M The codes, such as F16 or halt 4; all if none is given
@@ -73,6 +74,8 @@ short F!ruler Prints the shorthand of the cards in SRC
 ruler F Puts a ruler, which is a comment, before the cards
 by E=SRC!to The deck that reads the records; P and B may stand in column 43 of its I cards
 to V=SRC The deck, to turn lines back into records
+merge V=SRC The old deck whose secondary files are merged by match fields, with a letter in front of each record
+ahead V=A-B Puts columns A to B of the next record after each record, and nines after the last
 csv F!to IN is rows of comma-separated values: OUT has the lines that the deck reads
 to-csv F!to IN is lines of the file: OUT has a row of comma-separated values for each
 file V=NAME The file of the deck, if it isn't the primary one
@@ -287,12 +290,12 @@ impl Argument {
         }
     }
 
-    /// Returns the argument that can replace it.
-    pub fn unless(self) -> Option<&'static str> {
-        if matches!(self.letter, b'E' | b'U') {
-            self.other
-        } else {
-            None
+    /// Returns the arguments that can replace it.
+    pub fn unless(self) -> &'static [&'static str] {
+        match self.letter {
+            b'E' => &["to", "merge", "ahead"],
+            b'U' => &["output"],
+            _ => &[],
         }
     }
 }

@@ -2,6 +2,7 @@
 
 use crate::commands::cut;
 use crate::files::may_be_standard;
+use crate::merging::bad_lines;
 use crate::options::{Cycles, TableArgument};
 use crate::rows::bad_rows;
 use clap::ArgMatches;
@@ -12,6 +13,7 @@ const FILES: &str = ". OBJ '<OBJ>' can't be '-', a standard stream; a file of th
 . output '--output <OBJ>' can't be '-', a standard stream; a file of that name is './-'
 . source '--source <SRC>' can't be '-', a standard stream; a file of that name is './-'
 . by '--by <SRC>' can't be '-', a standard stream; a file of that name is './-'
+. merge '--merge <SRC>' can't be '-', a standard stream; a file of that name is './-'
 . to '--to <SRC>' can't be '-', a standard stream; a file of that name is './-'
 records OUT '<OUT>' must be a file: what went to standard output can't be taken back
 records deck '--deck <NEW>' must be a file: what went to standard output can't be taken back
@@ -31,7 +33,7 @@ fn bad_file(command: &str, given: &ArgMatches<'_>) -> Option<&'static str> {
 }
 
 /// Whether one of these arguments names a table file by this name.
-fn have_table(texts: &[&str], name: &str) -> bool {
+pub(crate) fn have_table(texts: &[&str], name: &str) -> bool {
     let mut tables = texts.iter().copied().filter_map(TableArgument::of);
     tables.any(|table| table.name == name)
 }
@@ -67,7 +69,7 @@ pub(crate) fn bad_value(matches: &ArgMatches<'_>) -> Option<&'static str> {
     let (command, given) = matches.subcommand()?;
     let file = bad_file(command, given);
     let rows = match command {
-        "records" => bad_rows(given),
+        "records" => bad_lines(given).or(bad_rows(given)),
         _ => None,
     };
     match (given.get_str("drop"), given.get_str("switches")) {

@@ -21,6 +21,8 @@ pub enum FileArgument {
     By,
     /// The deck of records that lines are converted to.
     To,
+    /// The old deck whose secondary files are merged.
+    Merge,
     /// The deck that reads the lines.
     NewDeck,
     /// The rewritten form of an old deck.
@@ -30,6 +32,8 @@ pub enum FileArgument {
     Pdf,
     /// The records of a table file, by its place among those that the arguments name.
     Table(usize),
+    /// A file that is merged, by its place among them.
+    Merged(usize),
 }
 
 impl FileArgument {
@@ -46,11 +50,13 @@ impl FileArgument {
             FileArgument::OwnSource => "--source SRC",
             FileArgument::By => "--by SRC",
             FileArgument::To => "--to SRC",
+            FileArgument::Merge => "--merge SRC",
             FileArgument::In => "IN",
             FileArgument::Out => "OUT",
             FileArgument::NewDeck => "--deck NEW",
             FileArgument::Fitted => "NEW",
             FileArgument::Table(_) => "--table NAME=FILE",
+            FileArgument::Merged(_) => "NAME=FILE",
         }
     }
 
@@ -69,9 +75,11 @@ impl FileArgument {
             FileArgument::Out => "<OUT>",
             FileArgument::By => "--by <SRC>",
             FileArgument::To => "--to <SRC>",
+            FileArgument::Merge => "--merge <SRC>",
             FileArgument::NewDeck => "--deck <NEW>",
             FileArgument::Fitted => "[NEW]",
             FileArgument::Table(_) => "--table <NAME=FILE>",
+            FileArgument::Merged(_) => "<NAME=FILE>",
         }
     }
 }
@@ -128,9 +136,11 @@ impl<'a> Request<'a> {
             FileArgument::Disk => self.disk,
             FileArgument::OwnSource => self.own_source,
             FileArgument::Out | FileArgument::Pdf => self.output,
-            FileArgument::By | FileArgument::To => self.deck,
+            FileArgument::By | FileArgument::To | FileArgument::Merge => self.deck,
             FileArgument::NewDeck | FileArgument::Fitted => self.new_deck,
-            FileArgument::Table(place) => Some(self.tables.get(place)?.path),
+            FileArgument::Table(place) | FileArgument::Merged(place) => {
+                Some(self.tables.get(place)?.path)
+            }
         }
     }
 

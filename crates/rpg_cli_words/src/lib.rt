@@ -6,6 +6,7 @@ mod commands;
 mod faults;
 mod files;
 mod joined;
+mod merging;
 mod options;
 mod outputs;
 mod paper;
@@ -15,6 +16,7 @@ mod rows;
 
 pub use files::{FileArgument, SameFile, Shared, is_standard};
 pub use joined::join_codes;
+pub use merging::LinesWay;
 pub use options::{
     AnswerArguments, CardsWanted, Cycles, Format, LookArguments, RecordFraming, RecordsWay,
     TableArgument, WarningArguments,

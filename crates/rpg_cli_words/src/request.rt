@@ -5,6 +5,7 @@ ghost use Rattle.std.specs.Prelude.{◌<◌};
 use crate::building::matches_of;
 use crate::commands::{Argument, CommandRow, line_of};
 use crate::faults::bad_value;
+use crate::merging::{LinesWay, in_and_out, push_merged};
 use crate::options::{
     AnswerArguments, CardsWanted, LookArguments, RecordFraming, RecordsWay, TableArgument,
     WarningArguments,
@@ -57,10 +58,9 @@ impl CommandName {
         (self == CommandName::Go).then_some("-")
     }
 
-    /// Returns the argument that names its records or, of `paper`, its print.
+    /// Returns the argument that names its records, except for `records`, or, of `paper`, its print.
     fn input(self) -> &'static str {
         match self {
-            CommandName::Records => "IN",
             CommandName::Paper => "PRINT",
             _ => "INPUT",
         }
@@ -120,12 +120,15 @@ pub struct Request<'a> {
     pub low_blank: bool,
     /// The first byte of records that are left out.
     pub dropped: Option<u8>,
+    /// What `records` does with whole lines, if it takes them as they are.
+    pub lines_way: Option<LinesWay>,
     /// How rows of comma-separated values are written, if these are converted.
     pub rows_of_values: Option<RowArguments<'a>>,
     /// The deck that reads the lines, or the rewritten form of an old deck.
     pub new_deck: Option<&'a str>,
     /// Whether that form replaces a deck.
     pub forces: bool,
+    /// Table files, or the secondary files that are merged.
     pub tables: Vec<TableArgument<'a>>,
     /// Eight digits: for each of U1 to U8 whether it is on. All are off by default.
     pub switches: Option<&'a str>,
@@ -157,11 +160,19 @@ impl Request<'_> {
 
 /// Whether an argument, or the one that can replace it, is there, or it is optional.
 fn is_there(argument: Argument, given: &ArgMatches<'_>) -> bool {
-    match argument.unless() {
-        _ if given.get_str(argument.name).is_some() => true,
-        Some(other) => given.get_str(other).is_some(),
-        None => !argument.is_required(),
+    let others = argument.unless();
+    if given.get_str(argument.name).is_some() {
+        return true;
     }
+    if others.is_empty() {
+        return !argument.is_required();
+    }
+    for other in others {
+        if given.get_str(*other).is_some() {
+            return true;
+        }
+    }
+    false
 }
 
 /// Whether the command exists and all arguments that it requires are there. Clap accepts nothing else; if it did, no other command would
@@ -197,7 +208,10 @@ impl<'a> Lists<'a> {
         let sources = texts(alloc, given, "SRC")?;
         let codes = texts(alloc, given, "CODE")?;
         let tables = given.get_strs("table").unwrap_or(&[]).iter().copied();
-        let tables = tables.filter_map(TableArgument::of).collect(alloc)?;
+        let mut tables: Vec<TableArgument<'a>> = tables
+            .filter_map(TableArgument::of)
+            .collect(alloc)?;
+        push_merged(&mut tables, given)?;
         Ok(Lists {
             sources,
             tables,
@@ -208,7 +222,7 @@ impl<'a> Lists<'a> {
 
 /// Returns the deck that describes records, and the direction.
 fn deck<'a>(given: &ArgMatches<'a>) -> (Option<&'a str>, RecordsWay) {
-    match given.get_str("by") {
+    match given.get_str("by").or(given.get_str("merge")) {
         None => (given.get_str("to"), RecordsWay::ToRecords),
         deck => (deck, RecordsWay::ToLines),
     }
@@ -218,11 +232,12 @@ fn deck<'a>(given: &ArgMatches<'a>) -> (Option<&'a str>, RecordsWay) {
 fn request_with<'a>(command: CommandName, given: &ArgMatches<'a>, lists: Lists<'a>) -> Request<'a> {
     let own_source = given.get_str("source");
     let (deck, way) = deck(given);
+    let (input, output) = in_and_out(given);
     Request {
         command,
         sources: lists.sources,
         object: given.get_str("OBJ").or(given.get_str("output")),
-        input: given.get_str(command.input()),
+        input: input.or(given.get_str(command.input())),
         print: command.print(given),
         date: given.get_str("date").map(DateArgument::of),
         secondary: given.get_str("secondary"),
@@ -237,7 +252,7 @@ fn request_with<'a>(command: CommandName, given: &ArgMatches<'a>, lists: Lists<'
         answer: AnswerArguments::of(given),
         cards: CardsWanted::of(given),
         rows: given.get_flag("rows") || own_source.is_some(),
-        output: given.get_str("OUT").or(given.get_str("PDF")),
+        output: output.or(given.get_str("PDF")),
         paper: PaperArguments::of(given),
         deck,
         way,
@@ -247,6 +262,7 @@ fn request_with<'a>(command: CommandName, given: &ArgMatches<'a>, lists: Lists<'
         is_ascii: given.get_flag("ascii"),
         low_blank: given.get_flag("low-blank"),
         dropped: given.get_str("drop").and_then(byte_of),
+        lines_way: LinesWay::of(given),
         rows_of_values: RowArguments::of(given),
         new_deck: given.get_str("deck").or(given.get_str("NEW")),
         forces: given.get_flag("force"),

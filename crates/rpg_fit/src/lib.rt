@@ -6,7 +6,6 @@ mod array_input;
 mod fault;
 mod fitting;
 mod note;
-mod or_type;
 mod order;
 mod order_test;
 mod rules;

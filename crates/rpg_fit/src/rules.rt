@@ -3,21 +3,20 @@
 ghost use Rattle.rpg_fit.specs.Applied.{Applied, AppliedInTurn};
 
 use crate::array_input::input_arrays;
-use crate::or_type::or_types;
 use crate::sequenced::sequence;
 use rpg_fit_calculations::{dates, figures, moves, square_roots, whole_calculations};
 use rpg_fit_cards::{
     Settings, columns, comments, disks, forms, job_control, numbered_pages, switches, tables,
 };
 use rpg_fit_deck::{Editor, Rule};
-use rpg_fit_files::{end_of_files, printers, updated_files};
+use rpg_fit_files::{end_of_files, merged_files, printers, updated_files};
 use rpg_fit_lines::{dollars, or_spaces, places, whole_outputs, words};
 use rpg_fit_overflow::{fetch, pages};
-use rpg_fit_records::{structures, zone_codes};
+use rpg_fit_records::{look_ahead, or_types, structures, zone_codes};
 use rpg_fit_terms::settle;
 
 /// The rules in order, since they depend on one another.
-pub const RULES: [Rule; 28] = [
+pub const RULES: [Rule; 30] = [
     Rule::JobControl,
     Rule::Comments,
     Rule::Columns,
@@ -29,7 +28,9 @@ pub const RULES: [Rule; 28] = [
     Rule::ZoneCodes,
     Rule::OrTypes,
     Rule::EndOfFiles,
+    Rule::MergedFiles,
     Rule::UpdatedFiles,
+    Rule::LookAhead,
     Rule::Sequence,
     Rule::NumberedPages,
     Rule::OrSpaces,
@@ -87,7 +88,9 @@ fn apply_to_cycle(editor: &mut Editor, settings: &Settings, rule: Rule) {
     let outcome = match rule {
         Rule::Printers => printers(editor, settings.printer),
         Rule::EndOfFiles => end_of_files(editor),
+        Rule::MergedFiles => merged_files(editor),
         Rule::UpdatedFiles => updated_files(editor),
+        Rule::LookAhead => look_ahead(editor),
         Rule::Structures => structures(editor),
         Rule::ZoneCodes => zone_codes(editor),
         Rule::OrTypes => or_types(editor),

@@ -1,8 +1,7 @@
 //! The end of the job with one of several input files: `E` in 17 of F.
 
-use crate::file::{files_read, name_of};
 use rpg_fit_deck::{Editor, Seen, Sentence, View, Word};
-use rpg_fit_words::{Done, List, RuleStop, record_types};
+use rpg_fit_words::{Done, List, RuleStop, file_name, files_read, record_types};
 use std::alloc::Global;
 
 /// Blanks `E` in 17 if only some files have it and the last file is among them, which is read last.
@@ -30,7 +29,7 @@ pub fn end_of_files(editor: &mut Editor) -> Done {
 }
 
 fn name(file: &Seen) -> Word {
-    Word::of(name_of(file))
+    Word::of(file_name(file))
 }
 
 fn refused(file: &Seen, why: Sentence) -> RuleStop {

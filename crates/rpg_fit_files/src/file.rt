@@ -1,32 +1,11 @@
-//! The F cards of a deck.
+//! The printers of a deck, and the fields that they print.
 
 use rpg_fit_deck::{Card, Seen, View};
 use rpg_fit_words::{List, Operand, is_card};
 
-/// Returns the name of an F card's file.
-pub(crate) fn name_of(file: &Seen) -> &[u8] {
-    file.card.value(7, 14)
-}
-
-/// Whether an F card describes a primary or secondary file.
-fn is_read(card: &Card) -> bool {
-    matches!(card.column(15), b'I' | b'C' | b'U') && matches!(card.column(16), b'P' | b'S')
-}
-
 /// Whether an F card describes a file that is printed.
 fn is_printed(card: &Card) -> bool {
     card.column(15) == b'O' && matches!(card.value(40, 46), [b'P', b'R', b'I', b'N', b'T', ..])
-}
-
-/// Returns the cards of the primary and secondary files.
-pub(crate) fn files_read(view: &View) -> List<Seen> {
-    let mut found = List::new(view.alloc);
-    for seen in &view.cards {
-        if is_card(seen, b'F') && is_read(&seen.card) {
-            found.push(*seen);
-        }
-    }
-    found
 }
 
 /// Returns the cards of the files that are printed.

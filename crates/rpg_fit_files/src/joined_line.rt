@@ -152,7 +152,7 @@ impl Joined {
         };
         let with = updated.file.number;
         let mut conditions = List::new(editor.alloc());
-        for indicator in updated.indicators.checked()? {
+        for indicator in updated.types.indicators.as_slice() {
             conditions.push(Conjunction::on(*indicator));
         }
         let mut cards = List::new(editor.alloc());

@@ -4,6 +4,7 @@
 mod end_of_file;
 mod file;
 mod joined_line;
+mod merged;
 mod other_printer;
 mod printer;
 mod record_text;
@@ -11,5 +12,6 @@ mod updated;
 mod updated_line;
 
 pub use end_of_file::end_of_files;
+pub use merged::{merged_files, secondary_files};
 pub use printer::printers;
 pub use updated::updated_files;

@@ -1,11 +1,11 @@
 //! The lines of a printer whose deck isn't wanted.
 
-use crate::file::{base_of, is_page, name_of};
+use crate::file::{base_of, is_page};
 use rpg_fit_deck::{Address, Card, Editor, Seen, Sentence, Word};
 use rpg_fit_terms::is_name_on;
 use rpg_fit_words::{
     Conjunction, DeckLines, Done, Indicator, Line, List, NewCard, Operand, RuleStop, Term, Time,
-    UseKind, indicator_uses, is_card, name_files, push_conditions, put_cards,
+    UseKind, file_name, indicator_uses, is_card, name_files, push_conditions, put_cards,
 };
 
 /// A printer whose lines are taken out, and the deck before that.
@@ -41,11 +41,11 @@ impl OtherPrinter {
     }
 
     fn name(&self) -> Word {
-        Word::of(name_of(&self.file))
+        Word::of(file_name(&self.file))
     }
 
     fn has(&self, line: &Line) -> bool {
-        line.file.text() == name_of(&self.file)
+        line.file.text() == file_name(&self.file)
     }
 
     /// Rejects its overflow indicator anywhere but in the alternatives of its own lines.
@@ -158,7 +158,7 @@ impl OtherPrinter {
     /// Takes out the forms of the printer.
     fn remove_forms(&self, editor: &mut Editor) {
         for seen in &self.deck.view.cards {
-            if is_card(seen, b'L') && seen.card.value(7, 14) == name_of(&self.file) {
+            if is_card(seen, b'L') && seen.card.value(7, 14) == file_name(&self.file) {
                 editor.remove(seen.at, self.file.number);
             }
         }

@@ -1,9 +1,9 @@
 //! Printers by other names than PRINTER, and several of them.
 
-use crate::file::{files_printed, name_of};
+use crate::file::files_printed;
 use crate::other_printer::OtherPrinter;
 use rpg_fit_deck::{Editor, Seen, Sentence, Word};
-use rpg_fit_words::{Done, RuleStop};
+use rpg_fit_words::{Done, RuleStop, file_name};
 
 /// Makes each printer a PRINTER. Of several, the deck keeps the one that is `wanted`.
 pub fn printers(editor: &mut Editor, wanted: Option<&[u8]>) -> Done {
@@ -20,7 +20,7 @@ pub fn printers(editor: &mut Editor, wanted: Option<&[u8]>) -> Done {
         return Err(RuleStop::refused(second.number, several(files)));
     };
     for file in files {
-        if name_of(file) != name_of(kept) {
+        if file_name(file) != file_name(kept) {
             OtherPrinter::of(editor, file)?.take_out(editor)?;
         }
     }
@@ -39,7 +39,7 @@ fn name_device(editor: &mut Editor, file: &Seen) {
 /// Returns the printer that the arguments name, if it is one of these.
 fn kept_of<'a>(files: &'a [Seen], wanted: Option<&[u8]>) -> Option<&'a Seen> {
     for file in files {
-        if wanted == Some(name_of(file)) {
+        if wanted == Some(file_name(file)) {
             return Some(file);
         }
     }
@@ -52,7 +52,7 @@ fn several(files: &[Seen]) -> Sentence {
     words[0] = Word::of_number(files.len());
     for (place, file) in files.iter().enumerate() {
         if let Some(word) = words.get_mut(place.saturating_add(1)) {
-            *word = Word::of(name_of(file));
+            *word = Word::of(file_name(file));
         }
     }
     let text = if files.len() == 2 {

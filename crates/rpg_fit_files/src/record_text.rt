@@ -54,11 +54,12 @@ impl RecordText {
                     .with_number(48, 51, part.last),
             );
         }
-        let last = match kind.fields.last() {
-            Some(field) => field,
-            None => kind.more.last().unwrap_or(&kind.head),
-        };
-        put_cards(editor, address_after(view, last.at), cards.checked()?, with)
+        put_cards(
+            editor,
+            address_after(view, kind.last().at),
+            cards.checked()?,
+            with,
+        )
     }
 
     /// Appends the fields as those of a line, derived from a card.

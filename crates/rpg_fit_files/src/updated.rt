@@ -1,15 +1,14 @@
 //! Combined files, and files that are updated in place: their records go to a new file.
 
-use crate::file::{files_read, name_of};
 use crate::joined_line::{check_joined, join_lines};
 use crate::record_text::RecordText;
 use crate::updated_line::write_lines;
 use rpg_fit_deck::{Card, Editor, Seen, Sentence, View, Word};
 use rpg_fit_terms::address_after;
 use rpg_fit_words::{
-    Conjunction, DeckLines, Done, FreeIndicators, Indicator, IndicatorUse, Line, List, NewCard,
-    RecordType, RuleStop, UseKind, indicator_uses, is_card, is_put_first, name_files, name_types,
-    printer_of, put_cards, record_types,
+    Conjunction, DeckLines, Done, FileTypes, FreeIndicators, Indicator, IndicatorUse, Line, List,
+    NewCard, RuleStop, UseKind, file_name, files_read, indicator_uses, is_card, is_put_first,
+    name_files, name_types, printer_of, put_cards, record_length, record_types,
 };
 
 /// LR, which ends the job.
@@ -50,19 +49,8 @@ pub(crate) struct Updated {
     /// The new file.
     pub new: Word,
     pub deck: DeckLines,
-    types: Vec<RecordType>,
-    /// The indicators of its types, each once.
-    pub indicators: List<Indicator>,
+    pub types: FileTypes,
     pub record: RecordText,
-}
-
-/// Returns the length of a file's records.
-fn length_of(file: &Card) -> Option<usize> {
-    if file.is_blank(24, 27) {
-        file.number(20, 23)
-    } else {
-        file.number(24, 27)
-    }
 }
 
 /// Returns a name that no file has.
@@ -80,16 +68,11 @@ fn fresh_file(view: &View) -> Word {
 /// Whether a deck has a file with a name.
 fn is_file(view: &View, name: &[u8]) -> bool {
     for seen in &view.cards {
-        if is_card(seen, b'F') && name_of(seen) == name {
+        if is_card(seen, b'F') && file_name(seen) == name {
             return true;
         }
     }
     false
-}
-
-/// Whether a record type is of a file, and isn't looked ahead.
-fn is_of(kind: &RecordType, file: &Seen) -> bool {
-    kind.file.text() == name_of(file) && !matches!(kind.head.card.columns(19, 20), b"**")
 }
 
 /// Rejects a file with keys or new records, and a deck that ends the job before the last record.
@@ -116,7 +99,7 @@ fn complete_types(editor: &mut Editor, free: &mut FreeIndicators, file: &Seen) -
     let types = record_types(&view)?;
     for kind in types.iter() {
         let head = &kind.head;
-        if is_of(kind, file) && Indicator::at(&head.card, 19).is_blank() {
+        if kind.is_of(file_name(file)) && Indicator::at(&head.card, 19).is_blank() {
             let indicator = free.take(&view, head.number)?;
             let card = head.card.with(19, 20, indicator.word().text());
             editor.change(head.at, card, file.number);
@@ -125,42 +108,19 @@ fn complete_types(editor: &mut Editor, free: &mut FreeIndicators, file: &Seen) -
     Ok(())
 }
 
-/// Returns the indicators of a file's types, each once.
-fn indicators_of(view: &View, types: &[RecordType], file: &Seen) -> List<Indicator> {
-    let mut found = List::new(view.alloc);
-    for kind in types {
-        let indicator = Indicator::at(&kind.head.card, 19);
-        if is_of(kind, file) && !is_among(found.as_slice(), indicator) {
-            found.push(indicator);
-        }
-    }
-    found
-}
-
-fn is_among(indicators: &[Indicator], one: Indicator) -> bool {
-    for indicator in indicators {
-        if *indicator == one {
-            return true;
-        }
-    }
-    false
-}
-
 /// Writes the records of a file to a new one. A file whose length can't be read stays, for the compiler to report.
 fn write_back(editor: &mut Editor, free: &mut FreeIndicators, file: &Seen) -> Done {
-    let Some(length) = length_of(&file.card) else {
+    let Some(length) = record_length(&file.card) else {
         return Ok(());
     };
     check_file(&editor.view()?, file)?;
     complete_types(editor, free, file)?;
     let deck = DeckLines::of(editor)?;
-    let types = record_types(&deck.view)?;
     let updated = Updated {
         file: *file,
         new: fresh_file(&deck.view),
-        indicators: indicators_of(&deck.view, types.as_slice(), file),
+        types: FileTypes::of(&deck.view, Word::of(file_name(file)))?,
         record: RecordText::of(&deck.view, length, file.number)?,
-        types,
         deck,
     };
     updated.check_indicators()?;
@@ -193,7 +153,7 @@ fn put_back(
 
 impl Updated {
     pub fn name(&self) -> Word {
-        Word::of(name_of(&self.file))
+        self.types.file
     }
 
     /// Rejects the deck for a card, with a sentence about its file.
@@ -203,7 +163,7 @@ impl Updated {
 
     /// Whether a line is for the file.
     pub fn has(&self, line: &Line) -> bool {
-        line.file.text() == name_of(&self.file)
+        line.file.text() == self.types.file.text()
     }
 
     /// Returns the lines for the file, in order.
@@ -238,7 +198,7 @@ impl Updated {
     fn check_indicators(&self) -> Done {
         let uses = indicator_uses(&self.deck.view);
         let uses = uses.checked()?;
-        for indicator in self.indicators.checked()? {
+        for indicator in self.types.indicators.as_slice() {
             if !indicator.is_number() {
                 let why = "its indicator is %, and may be on in other cycles";
                 return Err(RuleStop::about(self.file.number, why, indicator.word()));
@@ -250,7 +210,7 @@ impl Updated {
 
     fn check_uses(&self, uses: &[IndicatorUse], indicator: Indicator) -> Done {
         for one in uses {
-            if one.indicator == indicator && self.is_changed(one) {
+            if one.indicator == indicator && self.types.is_changed(one) {
                 let why = "% of a record of % is turned on or off here";
                 let why = Sentence::of_two(why, indicator.word(), self.name());
                 return Err(RuleStop::refused(one.number, why));
@@ -259,33 +219,10 @@ impl Updated {
         Ok(())
     }
 
-    /// Whether a card turns an indicator on or off, other than as that of its types.
-    fn is_changed(&self, one: &IndicatorUse) -> bool {
-        match one.kind {
-            UseKind::Field | UseKind::Result => true,
-            UseKind::Type => one.form == b'I' && !self.is_own(one),
-            UseKind::Asked => false,
-        }
-    }
-
-    /// Whether an indicator stands on the card of one of its types.
-    fn is_own(&self, one: &IndicatorUse) -> bool {
-        for kind in self.types.iter() {
-            if is_of(kind, &self.file) && kind.head.at == one.at {
-                return true;
-            }
-        }
-        false
-    }
-
     /// Whether a record of the file is read in each cycle, and each of its types has an indicator of its own.
     fn is_alone(&self) -> bool {
-        let mut count: usize = 0;
-        for kind in self.types.iter() {
-            count = count.saturating_add(usize::from(is_of(kind, &self.file)));
-        }
         let is_only = files_read(&self.deck.view).as_slice().len() == 1;
-        is_only && self.indicators.as_slice().len() == count
+        is_only && self.types.indicators.as_slice().len() == self.types.count()
     }
 
     /// Rejects lines that aren't for the record that was read.
@@ -308,7 +245,7 @@ impl Updated {
             return Err(self.refused(number, "a line for a record of % at the first output"));
         }
         for alternative in line.alternatives.iter() {
-            if !is_alone && self.type_in(&alternative.condition).is_none() {
+            if !is_alone && self.types.type_in(&alternative.condition).is_none() {
                 let why = "a line for a record of % where none need have been read";
                 return Err(self.refused(number, why));
             }
@@ -316,20 +253,10 @@ impl Updated {
         Ok(())
     }
 
-    /// Returns the first indicator of its types that a condition wants on.
-    fn type_in(&self, condition: &Conjunction) -> Option<Indicator> {
-        for term in condition.terms() {
-            if !term.is_off && is_among(self.indicators.as_slice(), term.indicator) {
-                return Some(term.indicator);
-            }
-        }
-        None
-    }
-
     /// Whether a condition wants another one of its types than this one.
     fn wants_other(&self, condition: &Conjunction, own: Indicator) -> bool {
         for term in condition.terms() {
-            let is_type = !term.is_off && is_among(self.indicators.as_slice(), term.indicator);
+            let is_type = !term.is_off && self.types.has(term.indicator);
             if is_type && term.indicator != own {
                 return true;
             }
@@ -339,7 +266,7 @@ impl Updated {
 
     /// Whether two conditions never hold together.
     pub fn excludes(&self, one: &Conjunction, other: &Conjunction) -> bool {
-        let own = self.type_in(one).or(self.type_in(other));
+        let own = self.types.type_in(one).or(self.types.type_in(other));
         let wants_two = match own {
             Some(own) => self.wants_other(one, own) || self.wants_other(other, own),
             None => false,
@@ -373,8 +300,8 @@ impl Updated {
     /// Makes an input file of it, with the whole record in each type, and inserts the new file.
     fn put_files(&self, editor: &mut Editor, length: usize) -> Done {
         let number = self.file.number;
-        for kind in self.types.iter() {
-            if is_of(kind, &self.file) {
+        for kind in self.types.all.iter() {
+            if kind.is_of(self.types.file.text()) {
                 self.record.read(editor, &self.deck.view, kind, number)?;
             }
         }

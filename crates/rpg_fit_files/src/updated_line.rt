@@ -49,7 +49,7 @@ fn unchanged(updated: &Updated, puts: &[Put]) -> Result<List<Conjunction>, RuleS
         card: updated.file.number,
     };
     let mut found = List::new(updated.deck.view.alloc);
-    for indicator in updated.indicators.checked()? {
+    for indicator in updated.types.indicators.as_slice() {
         let left = left_of(updated, &apart, puts, *indicator)?;
         push_possible(&mut found, updated, left.checked()?);
     }

@@ -4,7 +4,7 @@ use crate::zone::{same_digit, same_zone};
 use rpg_fit_deck::{Card, Editor, MOST_CARDS, Seen, Sentence, View, Word};
 use rpg_fit_terms::address_after;
 use rpg_fit_words::{
-    Constant, Done, Indicator, List, NewCard, RecordType, RuleStop, put_cards, record_types,
+    Constant, Done, Indicator, List, NewCard, RecordType, RuleStop, is_or, put_cards, record_types,
     remove_cards,
 };
 use std::alloc::Global;
@@ -20,20 +20,12 @@ pub fn zone_codes(editor: &mut Editor) -> Done {
     let view = editor.view()?;
     let types = record_types(&view)?;
     for kind in types.iter() {
-        let cards = cards_of(view.alloc, kind);
+        let cards = kind.code_cards(view.alloc);
         if has_zone_code(cards.checked()?) {
             rewrite_type(editor, &view, kind, cards.as_slice())?;
         }
     }
     Ok(())
-}
-
-/// Returns the cards with a type's codes.
-fn cards_of(alloc: Global, kind: &RecordType) -> List<Seen> {
-    let mut cards = List::new(alloc);
-    cards.push(kind.head);
-    cards.push_all(kind.more.as_slice());
-    cards
 }
 
 /// Whether one of some cards has a code by zone or digit.
@@ -206,10 +198,6 @@ fn or_card(first: &Seen, indicator: Indicator) -> NewCard {
         .with(14, 15, b"OR")
         .with(19, 20, indicator.word().text())
         .with(21, 41, &[])
-}
-
-fn is_or(seen: &Seen) -> bool {
-    matches!(seen.card.columns(14, 15), b"OR")
 }
 
 /// A type's alternatives so far.

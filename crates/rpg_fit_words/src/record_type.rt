@@ -1,5 +1,6 @@
 //! Record types.
 
+use crate::list::List;
 use rpg_fit_deck::{Card, Editor, Seen, View, Word};
 use rpg_fit_terms::{Done, RuleStop, is_card};
 use std::alloc::Global;
@@ -12,6 +13,39 @@ pub struct RecordType {
     pub more: Vec<Seen>,
     pub fields: Vec<Seen>,
     pub file: Word,
+}
+
+impl RecordType {
+    /// Whether it is a type of a file, and isn't looked ahead.
+    pub fn is_of(&self, file: &[u8]) -> bool {
+        self.file.text() == file && !self.is_looked_ahead()
+    }
+
+    /// Whether its fields are those of the next record.
+    pub fn is_looked_ahead(&self) -> bool {
+        matches!(self.head.card.columns(19, 20), b"**")
+    }
+
+    /// Returns the cards with its codes.
+    pub fn code_cards(&self, alloc: Global) -> List<Seen> {
+        let mut cards = List::new(alloc);
+        cards.push(self.head);
+        cards.push_all(self.more.as_slice());
+        cards
+    }
+
+    /// Returns its last card.
+    pub fn last(&self) -> &Seen {
+        match self.fields.last() {
+            Some(last) => last,
+            None => self.more.last().unwrap_or(&self.head),
+        }
+    }
+}
+
+/// Whether a card of a type begins another alternative.
+pub fn is_or(seen: &Seen) -> bool {
+    matches!(seen.card.columns(14, 15), b"OR")
 }
 
 /// Whether an I card adds or alternates codes of a type: AND or OR in 14 to 16.

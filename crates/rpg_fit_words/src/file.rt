@@ -1,0 +1,137 @@
+//! The primary and secondary files of a deck, and the record types of one.
+
+use crate::indicator_use::{IndicatorUse, UseKind};
+use crate::list::List;
+use crate::record_type::{RecordType, record_types};
+use rpg_fit_deck::{Card, Seen, View, Word};
+use rpg_fit_terms::{Conjunction, Indicator, RuleStop, is_card};
+use std::alloc::Global;
+
+/// Returns the name of an F card's file.
+pub fn file_name(file: &Seen) -> &[u8] {
+    file.card.value(7, 14)
+}
+
+/// Whether an F card describes a primary or secondary file.
+fn is_read(card: &Card) -> bool {
+    matches!(card.column(15), b'I' | b'C' | b'U') && matches!(card.column(16), b'P' | b'S')
+}
+
+/// Returns the cards of the primary and secondary files.
+pub fn files_read(view: &View) -> List<Seen> {
+    let mut found = List::new(view.alloc);
+    for seen in &view.cards {
+        if is_card(seen, b'F') && is_read(&seen.card) {
+            found.push(*seen);
+        }
+    }
+    found
+}
+
+/// Returns the length of a file's records.
+pub fn record_length(file: &Card) -> Option<usize> {
+    if file.is_blank(24, 27) {
+        file.number(20, 23)
+    } else {
+        file.number(24, 27)
+    }
+}
+
+/// Returns the card of a file with records of another length.
+pub fn with_record_length(file: &Card, length: usize) -> Card {
+    let digits = Word::of_number(length);
+    file.with(20, 23, &[]).with_right(24, 27, digits.text())
+}
+
+/// The record types of a deck, and one of its files.
+#[derive(Drop)]
+pub struct FileTypes {
+    /// The name of the file.
+    pub file: Word,
+    /// The types of all files.
+    pub all: Vec<RecordType>,
+    /// The indicators of the file's types, each once.
+    pub indicators: List<Indicator>,
+}
+
+impl FileTypes {
+    /// Returns those of a deck, for a file.
+    ///
+    /// # Errors
+    ///
+    /// Memory runs out.
+    pub fn of(view: &View, file: Word) -> Result<FileTypes, RuleStop> {
+        let all = record_types(view)?;
+        let indicators = indicators_of(view.alloc, all.as_slice(), file.text());
+        indicators.check()?;
+        Ok(FileTypes {
+            file,
+            all,
+            indicators,
+        })
+    }
+
+    /// Returns how many types the file has.
+    pub fn count(&self) -> usize {
+        let mut count: usize = 0;
+        for kind in self.all.iter() {
+            count = count.saturating_add(usize::from(kind.is_of(self.file.text())));
+        }
+        count
+    }
+
+    /// Whether an indicator is one of its types'.
+    pub fn has(&self, indicator: Indicator) -> bool {
+        is_among(self.indicators.as_slice(), indicator)
+    }
+
+    /// Whether a card turns an indicator on or off, other than as that of the file's types.
+    pub fn is_changed(&self, one: &IndicatorUse) -> bool {
+        match one.kind {
+            UseKind::Field | UseKind::Result => true,
+            UseKind::Type => one.form == b'I' && !self.is_own(one),
+            UseKind::Asked => false,
+        }
+    }
+
+    /// Whether an indicator stands on the card of one of the file's types.
+    fn is_own(&self, one: &IndicatorUse) -> bool {
+        for kind in self.all.iter() {
+            if kind.is_of(self.file.text()) && kind.head.at == one.at {
+                return true;
+            }
+        }
+        false
+    }
+
+    /// Returns the first indicator of its types that a condition wants on.
+    pub fn type_in(&self, condition: &Conjunction) -> Option<Indicator> {
+        for term in condition.terms() {
+            if !term.is_off && self.has(term.indicator) {
+                return Some(term.indicator);
+            }
+        }
+        None
+    }
+}
+
+/// Returns the indicators of a file's types, each once.
+fn indicators_of(alloc: Global, types: &[RecordType], file: &[u8]) -> List<Indicator> {
+    let mut found = List::new(alloc);
+    for kind in types {
+        let indicator = Indicator::at(&kind.head.card, 19);
+        if kind.is_of(file) && !is_among(found.as_slice(), indicator) {
+            found.push(indicator);
+        }
+    }
+    found
+}
+
+fn is_among(indicators: &[Indicator], one: Indicator) -> bool {
+    for indicator in indicators {
+        if *indicator == one {
+            return true;
+        }
+    }
+    false
+}

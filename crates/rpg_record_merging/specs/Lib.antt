@@ -1,0 +1,2 @@
+-- Lines of several files as those of one.
+pub mod Order
