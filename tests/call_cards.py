@@ -16,7 +16,7 @@ def columns_of(first: str, marks: str) -> str:
 def shown_columns(desk: Desk, calls: list[Call]) -> list[Outcome]:
     """`with`: the columns of the least bad value of each card, which are in one source."""
     desk.give(with_text(it.given, int(it.words[1]), it.words[2]) for it in calls)
-    _, errors = desk.asked("check", "source", "--faults", str(len(calls)))
+    _, errors = desk.asked("check", "source", "--faults", "65535")
     told = {int(it[1]): columns_of(it[2], it[4] or "") for it in FAULT.finditer(errors) if it[3] == "S5"}
     return [it.told(told.get(number, "read")) for number, it in enumerate(calls, 1)]
 

@@ -153,11 +153,14 @@ class Session:
             )
         return ended.stdout + f"status {ended.returncode}\n".encode()
 
-    def do_terminal(self, no_color: str, *words: str) -> bytes:
-        """Runs rpg2 where standard error is a terminal, and NO_COLOR has a value; `-` for none. What comes there is shown, an escape as `\\e`."""
+    def do_terminal(self, setting: str, *words: str) -> bytes:
+        """Runs rpg2 where standard error is a terminal, and a variable of colours has a value, as in `NO_COLOR=1`; `-` for none. What comes
+        there is shown, an escape as `\\e`."""
         ours, its = pty.openpty()
-        others = {name: value for name, value in os.environ.items() if name != "NO_COLOR"}
-        environment = others if no_color == "-" else {**others, "NO_COLOR": no_color}
+        environment = {name: value for name, value in os.environ.items() if name not in ("NO_COLOR", "CLICOLOR", "CLICOLOR_FORCE")}
+        if setting != "-":
+            name, _, value = setting.partition("=")
+            environment[name] = value
         with open(os.devnull, "wb") as nothing, os.fdopen(ours, "rb", buffering=0) as screen:
             command = subprocess.Popen(
                 words, executable=self.program.path, cwd=self.folder, stdin=self.given, stdout=nothing, stderr=its, env=environment

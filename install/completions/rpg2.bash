@@ -10,6 +10,7 @@ _rpg2() {
     fi
     case $prev in
         --allow) COMPREPLY=($(compgen -W 'W1 W2 W3 W4 W5 W6 W7 W8 W9 W10 W11 W12 W13' -- "$cur")); return;;
+        --color) COMPREPLY=($(compgen -W 'auto always never' -- "$cur")); return;;
         --deny) COMPREPLY=($(compgen -W 'all W1 W2 W3 W4 W5 W6 W7 W8 W9 W10 W11 W12 W13' -- "$cur")); [ -n "$cur" ] && [ ${#COMPREPLY[@]} -gt 0 ] && return;;
         --form) COMPREPLY=($(compgen -W 'a4 letter fanfold' -- "$cur")); return;;
         --format) COMPREPLY=($(compgen -W 'text json' -- "$cur")); return;;
@@ -19,17 +20,17 @@ _rpg2() {
     esac
     local options=""
     case $command in
-        compile) options='-o --output --allowance --faults --deny --allow --format -q --quiet -h --help';;
-        check) options='--faults --deny --allow --format -q --quiet -h --help';;
-        list) options='--format -h --help';;
+        compile) options='-o --output --allowance --faults --deny --allow --format --color -q --quiet -h --help';;
+        check) options='--faults --deny --allow --format --color -q --quiet -h --help';;
+        list) options='--format --color -h --help';;
         cards) options='--short --ruler -h --help';;
-        records) options='--by --to --merge --ahead --csv --to-csv --file --length --rdw --lines --ascii --low-blank --drop --columns --no-header --delimiter --decimal --group --replace --deck --format -h --help';;
-        fit) options='--force --table --switches --forms --printer --format -h --help';;
-        verify) options='--format -q --quiet -h --help';;
-        show) options='--source --rows --format -h --help';;
-        run) options='--date --secondary --disk --most --most-bytes --keep --source --trace --trace-record --watch --sorted --format -q --quiet -h --help';;
-        go) options='--date --secondary --disk --most --most-bytes --keep --trace --trace-record --watch --sorted --allowance --faults --deny --allow --format -q --quiet -h --help';;
-        paper) options='--form --length --columns --bars --format -q --quiet -h --help';;
+        records) options='--by --to --merge --ahead --csv --to-csv --file --length --rdw --lines --ascii --low-blank --drop --columns --no-header --delimiter --decimal --group --replace --deck --format --color -h --help';;
+        fit) options='--force --table --switches --forms --printer --format --color -h --help';;
+        verify) options='--format --color -q --quiet -h --help';;
+        show) options='--source --rows --format --color -h --help';;
+        run) options='--date --secondary --disk --most --most-bytes --keep --source --trace --trace-record --watch --sorted --format --color -q --quiet -h --help';;
+        go) options='--date --secondary --disk --most --most-bytes --keep --trace --trace-record --watch --sorted --allowance --faults --deny --allow --format --color -q --quiet -h --help';;
+        paper) options='--form --length --columns --bars --format --color -q --quiet -h --help';;
         explain)
             if [ "$prev" = halt ]; then COMPREPLY=($(compgen -W '1 2 3 4 5 6 7 8' -- "$cur")); return; fi
             case $cur in

@@ -11,8 +11,8 @@ use rpg_cli_reports::{
 };
 use rpg_cli_run::{go_files, run_files};
 use rpg_cli_words::{
-    CommandName, Format, Request, join_codes, refuse_bytes, refuse_same_file, refuse_unreplaced,
-    request_of,
+    Colours, CommandName, Format, Request, join_codes, refuse_bytes, refuse_same_file,
+    refuse_unreplaced, request_of,
 };
 use std::io::{Error, ErrorKind, Write};
 use std::process::ExitCode;
@@ -97,14 +97,15 @@ fn obey_on_streams<R: Clock + Env + Files + Input + Print + Eprint + AllocGlobal
 fn run_on_streams<R: Clock + Env + Files + Input + Print + Eprint + AllocGlobal>(
     rt: &R,
     arguments: &[String],
-    has_colours: bool,
+    is_terminal: bool,
 ) -> u8 {
     match request_of(rt.alloc(), arguments) {
         Err(refusal) => {
-            let mut listener = StandardStreams::new(rt, Format::Text, has_colours);
+            let mut listener = StandardStreams::new(rt, Format::Text, false);
             refuse(rt, &refusal, &mut io::writer(rt), &mut listener)
         }
         Ok(mut request) => {
+            let has_colours = has_colours(rt, request.answer.colours, is_terminal);
             let mut listener = StandardStreams::new(rt, request.answer.format, has_colours);
             obey_on_streams(rt, &mut request, &mut listener)
         }
@@ -129,23 +130,34 @@ fn refuse_arguments<R: Print + Eprint + AllocGlobal>(rt: &R, error: &Error) -> u
     }
 }
 
-/// Whether the environment turns colours off.
-fn refuses_colours<R: Env + AllocGlobal>(rt: &R) -> bool {
-    match env::var(rt, "NO_COLOR") {
-        Ok(value) => !value.is_empty(),
-        Err(_) => false,
+/// Whether a variable of the environment is on: 0 turns it off. None if it isn't set, or empty.
+fn is_on<R: Env + AllocGlobal>(rt: &R, name: &str) -> Option<bool> {
+    match env::var(rt, name) {
+        Ok(value) if value.is_empty() => None,
+        Ok(value) => Some(value.as_str() != "0"),
+        Err(_) => None,
     }
 }
 
-/// The whole program. Arguments that aren't UTF-8 are a fault of the command line. If standard error is a terminal, marks are coloured,
-/// unless the variable NO_COLOR is set.
+/// Whether marks are coloured: as the arguments ask, and otherwise on a terminal, unless NO_COLOR is set or CLICOLOR is 0. CLICOLOR_FORCE
+/// colours them elsewhere too.
+fn has_colours<R: Env + AllocGlobal>(rt: &R, wanted: Colours, is_terminal: bool) -> bool {
+    match wanted {
+        Colours::Always => true,
+        Colours::Never => false,
+        Colours::Auto if is_on(rt, "NO_COLOR").is_some() => false,
+        Colours::Auto if is_on(rt, "CLICOLOR_FORCE") == Some(true) => true,
+        Colours::Auto => is_terminal && is_on(rt, "CLICOLOR") != Some(false),
+    }
+}
+
+/// The whole program. Arguments that aren't UTF-8 are a fault of the command line. `is_terminal` is whether standard error is one.
 pub(crate) fn main_with<R: Clock + Env + Files + Input + Print + Eprint + AllocGlobal>(
     rt: &R,
     is_terminal: bool,
 ) -> ExitCode {
-    let has_colours = is_terminal && !refuses_colours(rt);
     let status = match arguments(rt) {
-        Ok(arguments) => run_on_streams(rt, arguments.as_slice(), has_colours),
+        Ok(arguments) => run_on_streams(rt, arguments.as_slice(), is_terminal),
         Err(error) => refuse_arguments(rt, &error),
     };
     ExitCode::from(status)

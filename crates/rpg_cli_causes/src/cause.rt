@@ -1,22 +1,20 @@
-//! The cause of a fault in words.
+//! The cause of a fault in words, and the mistake that it shares with others.
 
 use crate::data::write_data;
-use crate::editing::write_editing;
 use crate::files::{write_file, write_movement};
-use crate::indicators::write_bad_indicator;
 use crate::labels::{write_nowhere, write_target, write_twice};
-use crate::missing::{write_column, write_field};
+use crate::missing::{write_column, write_field, write_rounding};
 use crate::names::{write_redefined, write_undefined};
-use crate::operands::{write_index, write_operand};
+use crate::operands::{write_editing, write_index, write_operand};
 use crate::order::{write_order, write_stray};
 use crate::places::{write_join, write_outside};
-use crate::rounding::write_rounding;
-use crate::sizes::{write_limit, write_size};
+use crate::sizes::{write_bad_indicator, write_limit, write_size};
 use crate::spot::{SourceCards, Spot};
 use rpg_cli_text::TextWriter;
-use rpg_faults::{CardFault, Cause};
+use rpg_faults::{CardFault, Cause, OperandCause, OrderCause};
+use rpg_program::form::Kind;
+use rpg_sheet::Entry;
 
-/// Writes a cause in words.
 fn write_reported(out: &mut TextWriter, spot: Spot<'_>, cause: &Cause) {
     match cause {
         Cause::UndefinedName(name) => write_undefined(out, spot, name.as_slice()),
@@ -56,14 +54,69 @@ pub fn write_cause(
         out.write_str("no card is a primary file (F card, I in 15, P in 16)");
         return true;
     }
-    let Some(spot) = Spot::of(source, line, fault.card, fault.columns) else {
+    let (Some(spot), Some(cause)) = (Spot::of(source, line, fault), &fault.cause) else {
         return false;
     };
-    match &fault.cause {
-        Some(cause) => {
-            write_reported(out, spot, cause);
-            true
-        }
-        None => false,
+    write_reported(out, spot, cause);
+    true
+}
+
+/// A mistake that other faults follow from.
+#[derive(Clone, Copy, PartialEq, Eq, Hash)]
+pub enum Root {
+    /// This card defines a text, and its name is used as a number.
+    Text(u16),
+    /// No card defines this name, which is padded with blanks.
+    Unknown([u8; 6]),
+    /// This calculation card comes before cards of an earlier time.
+    Later(u16),
+}
+
+/// Returns a name, padded with blanks.
+fn padded(name: &[u8]) -> [u8; 6] {
+    let mut padded = [b' '; 6];
+    for (place, character) in padded.iter_mut().zip(name) {
+        *place = *character;
     }
+    padded
+}
+
+/// Returns the card that makes an entry a text.
+fn text_of(spot: Spot<'_>, entry: Option<&Entry>) -> Option<Root> {
+    let name = &entry?.name;
+    match (spot.form(name), spot.definer(name.as_slice())) {
+        (Some(form), Some(card)) if form.kind == Kind::Text => Some(Root::Text(card.number)),
+        _ => None,
+    }
+}
+
+/// Returns a text field used as a number or edited: the marked field, or factor 1 if factor 2 is of another kind.
+fn text_root(spot: Spot<'_>) -> Option<Root> {
+    match text_of(spot, spot.entry()) {
+        Some(root) => Some(root),
+        None if spot.column() == 33 => text_of(spot, spot.first_factor()),
+        None => None,
+    }
+}
+
+/// Returns the root of a cause of F1, F4, F12 or F17; of F4 only if an operand is a text.
+fn root_in(spot: Spot<'_>, cause: &Cause) -> Option<Root> {
+    match cause {
+        Cause::UndefinedName(name) => Some(Root::Unknown(padded(name.as_slice()))),
+        Cause::Operand(
+            OperandCause::TextOperand { .. }
+            | OperandCause::EditedText(_)
+            | OperandCause::Unlike { .. },
+        ) => text_root(spot),
+        Cause::Order(OrderCause::Early { card, .. }) => Some(Root::Later(*card)),
+        Cause::Editing(_) => text_root(spot),
+        _ => None,
+    }
+}
+
+/// Returns the root of a fault that other faults may share: an undefined name, a field that is a text, or a calculation that comes too
+/// early.
+pub fn root_of(source: SourceCards<'_>, line: &[u8], fault: &CardFault) -> Option<Root> {
+    let cause = fault.cause.as_ref()?;
+    root_in(Spot::of(source, line, fault)?, cause)
 }

@@ -5,55 +5,39 @@ use crate::spot::Spot;
 use rpg_cli_text::{TextWriter, sentence_of};
 use rpg_faults::{DataCause, EntryCause, EntryFault, Need};
 
-const WANTED: &str = ": {} {}, {} a card, {} {} {} of data, and ";
-
-/// Writes how many cards of data this many entries need.
 fn write_need(out: &mut TextWriter, need: Need) {
-    out.fill(
-        WANTED,
-        &[
-            need.entries.into(),
-            noun(usize::from(need.entries), "entry", "entries").into(),
-            need.per_card.into(),
-            noun(usize::from(need.entries), "needs", "need").into(),
-            need.cards.into(),
-            noun(usize::from(need.cards), "card", "cards").into(),
-        ],
-    );
-}
-
-/// Writes that the number of cards differs from what an E card needs.
-fn write_other_cards(out: &mut TextWriter, need: Need, there: usize) {
-    write_need(out, need);
-    let verb = noun(there, "stands", "stand");
-    out.fill_two("{} {} there", there, verb);
+    let Need {
+        entries,
+        per_card,
+        cards,
+    } = need;
+    let (entry, needs) = match entries {
+        1 => ("entry", "needs"),
+        _ => ("entries", "need"),
+    };
+    out.fill_three(": {} {}, {} a card, ", entries, entry, per_card);
+    let card = noun(usize::from(cards), "card", "cards");
+    out.fill_three("{} {} {} of data, and ", needs, cards, card);
 }
 
 const TOO_WIDE: &str = ": {} entries a card of {} columns take {}, and a card has 80";
 
-const ENTRY: &str = ": entry {} of {}, on card {}, is \"{}\", which ";
-
-/// Writes which entry of a table is wrong, and why.
 fn write_entry(out: &mut TextWriter, spot: Spot<'_>, cause: &EntryCause) {
     let text = spot
         .data_of_card(cause.card, cause.column, usize::from(cause.length))
         .unwrap_or(&[]);
-    out.fill(
-        ENTRY,
-        &[
-            cause.number.into(),
-            cause.name.as_slice().into(),
-            cause.card.into(),
-            text.into(),
-        ],
+    let name = cause.name.as_slice();
+    out.fill_three(
+        ": entry {} of {}, on card {}, ",
+        cause.number,
+        name,
+        cause.card,
     );
-    match cause.fault {
-        EntryFault::NoNumber => out.write_str("isn't a number"),
-        EntryFault::Lower => {
-            let before = cause.number.saturating_sub(1);
-            out.fill_one("is lower than entry {}", before);
-        }
-    }
+    let sentence = match cause.fault {
+        EntryFault::NoNumber => "is \"{}\", which isn't a number",
+        EntryFault::Lower => "is \"{}\", which is lower than entry {}",
+    };
+    out.fill_two(sentence, text, cause.number.saturating_sub(1));
 }
 
 const SPARE: &str = ": it is ** card {}, and {} {}";
@@ -74,7 +58,10 @@ pub(crate) fn write_data(out: &mut TextWriter, spot: Spot<'_>, cause: &DataCause
             let columns = u64::from(*per_card).saturating_mul(width);
             out.fill_three(TOO_WIDE, *per_card, width, columns);
         }
-        DataCause::OtherCards { need, there } => write_other_cards(out, *need, *there),
+        DataCause::OtherCards { need, there } => {
+            write_need(out, *need);
+            out.fill_two("{} {} there", *there, noun(*there, "stands", "stand"));
+        }
         DataCause::Entry(entry) => write_entry(out, spot, entry),
         DataCause::Spare { deck, wanted } => {
             let of_cards = noun(*wanted, "E card needs data", "E cards need data");

@@ -37,17 +37,8 @@ fn write_printer_rule(out: &mut TextWriter, device: &[u8]) {
 
 /// Writes that a use has a second file, and what to do.
 fn write_second(out: &mut TextWriter, spot: Spot<'_>, name: &[u8], first: &FileOnCard) {
-    let serves_as = use_name(first.serves_as);
-    let first_name = first.name.as_slice();
-    out.fill(
-        "{} would be a second {}: {} (card {}) is one",
-        &[
-            name.into(),
-            serves_as.into(),
-            first_name.into(),
-            first.card.into(),
-        ],
-    );
+    out.fill_two("{} would be a second {}: ", name, use_name(first.serves_as));
+    out.fill_two("{} (card {}) is one", first.name.as_slice(), first.card);
     let first_device = spot.text_of_card(first.card, 40, 46);
     let own_device = text_at(spot.line, 40, 46);
     match first.serves_as {
@@ -65,10 +56,8 @@ fn write_second(out: &mut TextWriter, spot: Spot<'_>, name: &[u8], first: &FileO
     }
 }
 
-/// The sentence for a bad line length.
 const LINE_LENGTH: &str = "a printed line of {} places: a line has 1 to 132 (docs/OLD_PROGRAMS.md)";
 
-/// The sentence for a bad record length.
 const RECORD_LENGTH: &str = "a record length of {}: a record has 1 to 9,999 columns";
 
 /// Returns what names a file, and the use that the file doesn't have.
@@ -79,7 +68,6 @@ const fn user_names(user: FileUser) -> (&'static str, &'static str) {
     }
 }
 
-/// F7: which file it is, and what is wrong with it.
 pub(crate) fn write_file(out: &mut TextWriter, spot: Spot<'_>, cause: &FileCause) {
     match cause {
         FileCause::Twice(file) => out.fill_two(
@@ -88,9 +76,7 @@ pub(crate) fn write_file(out: &mut TextWriter, spot: Spot<'_>, cause: &FileCause
             file.card,
         ),
         FileCause::Second { name, first } => write_second(out, spot, name.as_slice(), first),
-        FileCause::EndsApart => {
-            out.write_str(ENDS_APART);
-        }
+        FileCause::EndsApart => out.write_str(ENDS_APART),
         FileCause::Length { serves_as, length } => {
             let sentence = match serves_as {
                 FileUse::Printer => LINE_LENGTH,
@@ -108,12 +94,8 @@ pub(crate) fn write_file(out: &mut TextWriter, spot: Spot<'_>, cause: &FileCause
         }
         FileCause::WrongUse { user, file } => {
             let (of_whom, other_use) = user_names(*user);
-            let name = file.name.as_slice();
-            let card = file.card;
-            out.fill(
-                "{} (card {}) is an {} file, and has no {}",
-                &[name.into(), card.into(), other_use.into(), of_whom.into()],
-            );
+            out.fill_two("{} (card {}) ", file.name.as_slice(), file.card);
+            out.fill_two("is an {} file, and has no {}", other_use, of_whom);
         }
     }
 }
@@ -121,12 +103,8 @@ pub(crate) fn write_file(out: &mut TextWriter, spot: Spot<'_>, cause: &FileCause
 /// F9 of a line: its file, which isn't a printer.
 pub(crate) fn write_movement(out: &mut TextWriter, spot: Spot<'_>, file: &FileOnCard) {
     let device = spot.text_of_card(file.card, 40, 46);
-    let name = file.name.as_slice();
-    out.fill_two(
-        "spaces and skips are for a printer, and {} (card {}",
-        name,
-        file.card,
-    );
+    out.write_str("spaces and skips are for a printer, and ");
+    out.fill_two("{} (card {}", file.name.as_slice(), file.card);
     if !device.is_empty() {
         out.fill_one(", device {}", device);
     }

@@ -1,12 +1,11 @@
 //! Explains why a card has a fault of F1 to F18: the name, the other card, the limit and the number.
 #![tactic(auto)]
 
+mod card_lines;
 mod cause;
 mod data;
-mod editing;
 mod files;
 mod forms;
-mod indicators;
 mod labels;
 mod missing;
 mod names;
@@ -14,12 +13,10 @@ mod near;
 mod operands;
 mod order;
 mod places;
-mod root;
-mod rounding;
 mod sizes;
 mod spot;
 
-pub use cause::write_cause;
+pub use card_lines::CardLines;
+pub use cause::{Root, root_of, write_cause};
 pub use near::NearNames;
-pub use root::{Root, root_of};
-pub use spot::SourceCards;
+pub use spot::{SourceCards, definer};

@@ -1,11 +1,10 @@
-//! F9: columns that are missing or not allowed.
+//! F9 and F15: columns of calculations that are missing or not allowed, H, and MVR.
 
 use crate::spot::Spot;
 use rpg_cli_text::TextWriter;
-use rpg_faults::{ColumnCause, FieldCause};
+use rpg_faults::{ColumnCause, FieldCause, RoundingCause};
 use rpg_sheet::ColumnRange;
 
-/// Returns what columns of a calculation are called.
 const fn name_of(at: ColumnRange) -> &'static str {
     match at {
         ColumnRange::FirstFactor => "factor 1 (18-27)",
@@ -75,4 +74,16 @@ pub(crate) fn write_column(out: &mut TextWriter, spot: Spot<'_>, cause: &ColumnC
     } else {
         out.fill_two(sentence, spot.operation(), columns);
     }
+}
+
+/// F15: why H or MVR isn't allowed.
+pub(crate) fn write_rounding(out: &mut TextWriter, spot: Spot<'_>, cause: RoundingCause) {
+    let sentence = match cause {
+        RoundingCause::LastCardAlone => return out.fill_one(LAST_CARD_ALONE, "H"),
+        RoundingCause::NoOperation => "H (53) without an operation (28-32)",
+        RoundingCause::NotRounded => "{} isn't half adjusted: blank column 53",
+        RoundingCause::SeveralCards => "MVR has no AN or OR cards",
+        RoundingCause::NoDivision => "MVR follows a DIV without H on the card right before it",
+    };
+    out.fill_one(sentence, spot.operation());
 }

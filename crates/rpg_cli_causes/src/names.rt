@@ -22,7 +22,6 @@ fn unread(name: &[u8]) -> Option<&'static str> {
     }
 }
 
-/// How many similar names are listed.
 const MOST: usize = 3;
 
 /// Asks whether one of the defined names that are similar to a name is meant.
@@ -31,8 +30,8 @@ fn write_near_names(out: &mut TextWriter, spot: Spot<'_>, name: &[u8]) {
     let mut is_first = true;
     let mut waiting: Option<&[u8]> = None;
     for _ in 0..MOST {
-        let place = spot.near.next(NameKind::Field, name, from);
-        let Some(near) = spot.near.at(place) else {
+        let place = spot.source.near.next(NameKind::Field, name, from);
+        let Some(near) = spot.source.near.at(place) else {
             break;
         };
         if let Some(earlier) = waiting {

@@ -78,16 +78,29 @@ const fn has_unknown_name(fault: &CardFault) -> bool {
     )
 }
 
+fn any_has_unknown_name(faults: &[&CardFault]) -> bool {
+    for fault in faults {
+        if has_unknown_name(fault) {
+            return true;
+        }
+    }
+    false
+}
+
 impl NearNames {
     /// Notes the names of cards, if one of the faults has a name that no card defines.
-    pub fn of(alloc: Global, cards: &[SpecCard], faults: &[CardFault]) -> Result<Self, AllocError> {
+    pub fn of(
+        alloc: Global,
+        cards: &[SpecCard],
+        faults: &[&CardFault],
+    ) -> Result<Self, AllocError> {
         let mut names = NearNames {
             alloc,
             names: Vec::new(alloc),
             whole: HashSet::new(alloc),
             places: HashMap::new(alloc),
         };
-        if faults.iter().any(has_unknown_name) {
+        if any_has_unknown_name(faults) {
             for card in cards {
                 names.note_card(card)?;
             }
@@ -150,7 +163,6 @@ impl NearNames {
         self.names.len()
     }
 
-    /// Returns the name at a place.
     pub(crate) fn at(&self, place: usize) -> Option<&KnownName> {
         self.names.get(place)
     }
@@ -158,7 +170,8 @@ impl NearNames {
 
 /// Writes the first name that is similar to an unknown one, and its card.
 pub(crate) fn write_near(out: &mut TextWriter, spot: Spot<'_>, kind: NameKind, name: &[u8]) {
-    if let Some(known) = spot.near.at(spot.near.next(kind, name, 0)) {
+    let near = spot.source.near;
+    if let Some(known) = near.at(near.next(kind, name, 0)) {
         out.fill_two(" ({} is on card {})", known.name.as_slice(), known.card);
     }
 }

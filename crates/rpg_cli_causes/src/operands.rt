@@ -1,14 +1,13 @@
-//! F4 and F5: operands of the wrong kind, and entries with a wrong index.
+//! F4, F5 and F17: operands of the wrong kind, entries with a wrong index, and editing that doesn't fit its number.
 
 use crate::forms::{noun, write_card, write_form};
 use crate::spot::Spot;
 use rpg_cards::Content;
-use rpg_cli_text::TextWriter;
-use rpg_faults::{IndexCause, OperandCause, TextField};
+use rpg_cli_text::{TextWriter, sentence_of};
+use rpg_faults::{EditingCause, IndexCause, Mismatch, OperandCause, TextField};
 use rpg_program::form::{Class, FieldForm};
 use rpg_sheet::{ColumnRange, Word};
 
-/// The most digits of a number.
 const MOST_DIGITS: u16 = 15;
 
 /// Writes how to make a text a number, if a card defines it and it isn't too long for one.
@@ -26,7 +25,6 @@ fn write_remedy(out: &mut TextWriter, spot: Spot<'_>, text: &TextField) {
     }
 }
 
-/// Writes a text, with the card that defines it.
 fn write_text(out: &mut TextWriter, name: &[u8], text: &TextField) {
     out.fill_one("{} is a text", name);
     write_card(out, text.definer);
@@ -70,15 +68,11 @@ fn write_unlike(out: &mut TextWriter, operation: &[u8], first: FieldForm, second
     out.fill_one(": {} takes two numbers, or two texts", operation);
 }
 
-const TOO_FEW: &str = "{} has {} {}, and what is searched has {}: the result needs as many";
+const TOO_FEW: &str = "what is searched has {}: the result needs as many";
 
 fn write_too_few(out: &mut TextWriter, spot: Spot<'_>, found: u16, searched: u16) {
-    let name = spot.text_in(ColumnRange::ResultName);
-    let entries = noun(usize::from(found), "entry", "entries");
-    out.fill(
-        TOO_FEW,
-        &[name.into(), found.into(), entries.into(), searched.into()],
-    );
+    write_entries(out, spot.text_in(ColumnRange::ResultName), found);
+    out.fill_one(TOO_FEW, searched);
 }
 
 fn write_edited(out: &mut TextWriter, spot: Spot<'_>, text: &TextField) {
@@ -102,10 +96,9 @@ fn write_no_index(out: &mut TextWriter, name: &Word<6>, form: FieldForm, definer
     out.write_str(", and an index is a plain number without decimals");
 }
 
-/// Writes how many entries an array has.
-fn write_entries(out: &mut TextWriter, name: &Word<6>, entries: u16) {
+fn write_entries(out: &mut TextWriter, name: &[u8], entries: u16) {
     let counted = noun(usize::from(entries), "entry", "entries");
-    out.fill_three("{} has {} {}, and ", name.as_slice(), entries, counted);
+    out.fill_three("{} has {} {}, and ", name, entries, counted);
 }
 
 const NO_INDEX_GIVEN: &str =
@@ -130,7 +123,7 @@ pub(crate) fn write_index(out: &mut TextWriter, spot: Spot<'_>, cause: &IndexCau
             name.as_slice(),
         ),
         IndexCause::Missing { name, entries } => {
-            write_entries(out, name, *entries);
+            write_entries(out, name.as_slice(), *entries);
             out.fill_one(NO_INDEX_GIVEN, name.as_slice());
         }
         IndexCause::OutOfRange {
@@ -138,7 +131,7 @@ pub(crate) fn write_index(out: &mut TextWriter, spot: Spot<'_>, cause: &IndexCau
             entries,
             index,
         } => {
-            write_entries(out, name, *entries);
+            write_entries(out, name.as_slice(), *entries);
             out.fill_one("{} is none of them", *index);
         }
         IndexCause::TooShort {
@@ -146,8 +139,50 @@ pub(crate) fn write_index(out: &mut TextWriter, spot: Spot<'_>, cause: &IndexCau
             entries,
             index,
         } => {
-            write_entries(out, name, *entries);
+            write_entries(out, name.as_slice(), *entries);
             out.fill_one(TOO_SHORT, index.as_slice());
+        }
+    }
+}
+
+fn write_digits(out: &mut TextWriter, name: &[u8], length: u16, decimals: u8) {
+    let digits = noun(usize::from(length), "digit", "digits");
+    out.fill_three("{} has {} {}", name, length, digits);
+    if decimals != 0 {
+        out.fill_one(", {} of them decimals", decimals);
+    }
+}
+
+/// F17: what the number has, and what its code or word allows.
+pub(crate) fn write_editing(out: &mut TextWriter, cause: &EditingCause) {
+    let name = cause.name.as_slice();
+    out.write_str(sentence_of("F17"));
+    match cause.mismatch {
+        Mismatch::Fill => {}
+        Mismatch::Text { length } => {
+            let characters = noun(usize::from(length), "character", "characters");
+            out.fill_three(": {} is a text of {} {}", name, length, characters);
+        }
+        Mismatch::Date { length, decimals } => {
+            out.write_str(": code Y edits 6 digits without decimals, and ");
+            write_digits(out, name, length, decimals);
+        }
+        Mismatch::Word { places: None, .. } => {
+            out.write_str(
+                ": the word's $ stands right before its stop (rpg2 fit rewrites it: A18)",
+            );
+        }
+        Mismatch::Word {
+            places: Some(places),
+            length,
+            decimals,
+        } => {
+            let digits = noun(usize::from(places), "digit", "digits");
+            out.fill_two(": the word has places for {} {}, and ", places, digits);
+            write_digits(out, name, length, decimals);
+            if u16::from(places) > length {
+                out.write_str(" (rpg2 fit rewrites it: A17)");
+            }
         }
     }
 }

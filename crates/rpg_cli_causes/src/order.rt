@@ -6,7 +6,6 @@ use rpg_cli_text::TextWriter;
 use rpg_faults::{OrderCause, StrayCause};
 use rpg_sheet::{ControlLevel, Word};
 
-/// Returns the time of a section.
 const fn time_of(control_level: ControlLevel) -> &'static str {
     match control_level {
         ControlLevel::Total(_) => "total time",
@@ -15,7 +14,6 @@ const fn time_of(control_level: ControlLevel) -> &'static str {
     }
 }
 
-/// Writes that a BEGSR has no ENDSR.
 fn write_unended(out: &mut TextWriter, name: &Option<Word<6>>, next: Option<u16>) {
     match name {
         Some(name) => out.fill_one("BEGSR of {} has no ENDSR", name.as_slice()),

@@ -6,21 +6,11 @@ use rpg_cli_text::{Piece, TextWriter};
 use rpg_faults::{FileOnCard, JoinCause, PlaceCause};
 use rpg_sheet::ColumnRange;
 
-/// Writes how long the records or lines are, and the card that says so.
 fn write_length(out: &mut TextWriter, kind: &'static str, file: &FileOnCard) {
-    let name = file.name.as_slice();
-    out.fill(
-        ", and {} of {} have {} (card {})",
-        &[
-            kind.into(),
-            name.into(),
-            file.record_length.into(),
-            file.card.into(),
-        ],
-    );
+    out.fill_two(", and {} of {} have ", kind, file.name.as_slice());
+    out.fill_two("{} (card {})", file.record_length, file.card);
 }
 
-/// Returns the position of a code, as the card has it.
 fn position(spot: Spot<'_>, at: ColumnRange) -> Piece<'_> {
     let first = usize::from(at.columns().column);
     text_at(spot.line, first, first.saturating_add(3)).into()
@@ -39,9 +29,7 @@ pub(crate) fn write_outside(out: &mut TextWriter, spot: Spot<'_>, cause: &PlaceC
             write_length(out, "records", file);
         }
         PlaceCause::NoColumn(_) => out.write_str("columns of a record are counted from 1"),
-        PlaceCause::TurnedRound { from, to } => {
-            out.fill_two(TURNED_ROUND, *to, *from);
-        }
+        PlaceCause::TurnedRound { from, to } => out.fill_two(TURNED_ROUND, *to, *from),
         PlaceCause::PastRecord { from, to, file } => {
             out.fill_two("columns {}-{}", *from, *to);
             write_length(out, "records", file);
@@ -55,15 +43,13 @@ pub(crate) fn write_outside(out: &mut TextWriter, spot: Spot<'_>, cause: &PlaceC
     }
 }
 
-/// Writes how many places a field takes.
 fn write_width(out: &mut TextWriter, spot: Spot<'_>, width: usize, end: u16) {
     match spot.card.output_field() {
         Some(field) if field.operand.is_some() => out.write_shown(text_at(spot.line, 32, 37)),
         _ => out.write_str("the constant"),
     }
     let of_places = noun(width, "place", "places");
-    let pieces = [width.into(), of_places.into(), end.into()];
-    out.fill(" takes {} {}, and ends in place {}", &pieces);
+    out.fill_three(" takes {} {}, and ends in place {}", width, of_places, end);
 }
 
 const LONG_LEVEL: &str =
@@ -71,8 +57,6 @@ const LONG_LEVEL: &str =
 
 const LONG_MATCHES: &str =
     "the match fields have {} columns together in this type: a type has at most 256";
-
-const OTHER_LENGTH: &str = "{}{} has {} {} in this type, and {} in the one of card {}";
 
 /// Writes a level whose joined length differs from that of an earlier type.
 fn write_other_length(
@@ -82,19 +66,11 @@ fn write_other_length(
     lengths: (u32, u32),
     card: u16,
 ) {
-    let (length, first) = lengths;
+    let (length, first) = (u64::from(lengths.0), u64::from(lengths.1));
     let columns = if length == 1 { "column" } else { "columns" };
-    out.fill(
-        OTHER_LENGTH,
-        &[
-            letter.into(),
-            level.into(),
-            u64::from(length).into(),
-            columns.into(),
-            u64::from(first).into(),
-            card.into(),
-        ],
-    );
+    out.fill_two("{}{} has ", letter, level);
+    out.fill_two("{} {} in this type, ", length, columns);
+    out.fill_two("and {} in the one of card {}", first, card);
 }
 
 /// Writes a match field whose length differs from that of an earlier type, or that only one of the two has.

@@ -1,14 +1,13 @@
-//! F3 and F6: lengths, decimals, and how many there may be.
+//! F3, F6 and F8: lengths and decimals, how many there may be, and indicators that aren't allowed.
 
 use crate::forms::noun;
-use rpg_cli_text::TextWriter;
-use rpg_faults::{Limit, LimitCause, SizeCause};
+use rpg_cli_text::{TextWriter, indicator_name};
+use rpg_faults::{IndicatorCause, Limit, LimitCause, SizeCause};
+use rpg_sheet::Indicator;
 
 const LENGTH: &str = "a length of {}: a number has 1 to 15 digits, a text 1 to 256 characters";
 
 const DIGITS: &str = "a length of {}: a number has 1 to 15 digits";
-
-const DECIMALS: &str = "{} {} of {} {}: there are at most 9, and no more than digits";
 
 /// F3: the length, or the decimals.
 pub(crate) fn write_size(out: &mut TextWriter, cause: SizeCause) {
@@ -23,16 +22,9 @@ pub(crate) fn write_size(out: &mut TextWriter, cause: SizeCause) {
 fn write_decimals(out: &mut TextWriter, decimals: u8, length: u32) {
     let of_decimals = noun(usize::from(decimals), "decimal", "decimals");
     let of_digits = if length == 1 { "digit" } else { "digits" };
-    let length = u64::from(length);
-    out.fill(
-        DECIMALS,
-        &[
-            decimals.into(),
-            of_decimals.into(),
-            length.into(),
-            of_digits.into(),
-        ],
-    );
+    out.fill_two("{} {} of ", decimals, of_decimals);
+    out.fill_two("{} {}: ", u64::from(length), of_digits);
+    out.write_str("there are at most 9, and no more than digits");
 }
 
 /// Returns the sentence for a limit: how many there are with the card, and how many are allowed.
@@ -68,5 +60,35 @@ pub(crate) fn write_limit(out: &mut TextWriter, cause: LimitCause) {
             entries,
         ),
         LimitCause::Passed { limit, count } => out.fill_one(limit_sentence(limit), count),
+    }
+}
+
+const NOT_OF_TYPE: &str =
+    "{} can't be turned on by a record type: 01 to 99, L1 to L9, LR and H1 to H9 can";
+
+const TEXT_FIELD: &str =
+    "{} is a text, since column 52 is blank, and only its blanks are tested (69-70)";
+
+fn name_of(indicator: &Indicator) -> &'static str {
+    indicator_name(indicator.number()).unwrap_or("")
+}
+
+/// F8: which indicator isn't allowed, and which are.
+pub(crate) fn write_bad_indicator(out: &mut TextWriter, cause: &IndicatorCause) {
+    match cause {
+        IndicatorCause::NotOfType(indicator) => {
+            out.fill_one(NOT_OF_TYPE, name_of(indicator));
+        }
+        IndicatorCause::NeverSet(indicator) => out.fill_one(
+            "{} can't be set: results and fields set all but L0, 1P and MR",
+            name_of(indicator),
+        ),
+        IndicatorCause::TextField(name) => out.fill_one(TEXT_FIELD, name.as_slice()),
+        IndicatorCause::FirstPage => out.write_str(
+            "calculations can't test 1P: it is on only before the first record",
+        ),
+        IndicatorCause::NoMatchFields => {
+            out.write_str("MR is tested, and no field has a match level (61-62)");
+        }
     }
 }

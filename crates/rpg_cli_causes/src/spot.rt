@@ -1,11 +1,13 @@
 //! A fault's card among the others, and its contents.
 
+use crate::card_lines::CardLines;
 use crate::near::NearNames;
 use rpg_card_index::IndexedCards;
 use rpg_cards::{Defined, SpecCard};
+use rpg_faults::CardFault;
 use rpg_program::form::FieldForm;
 use rpg_sheet::{ColumnFault, ColumnRange, DataSpec, Entry, Factor, Word};
-use rpg_text::{first_line, trimmed};
+use rpg_text::trimmed;
 
 /// A source's text, its cards and the names that they define. There are no cards if only the card of the fault is known.
 #[derive(Clone, Copy)]
@@ -24,9 +26,7 @@ impl<'a> SourceCards<'a> {
 /// A card with a fault, among the cards of its source.
 #[derive(Clone, Copy)]
 pub(crate) struct Spot<'a> {
-    pub source: &'a IndexedCards<'a>,
-    pub near: &'a NearNames,
-    pub text: &'a [u8],
+    pub source: SourceCards<'a>,
     pub line: &'a [u8],
     pub card: &'a SpecCard,
     /// The columns that the fault points at; None for the card as a whole.
@@ -46,26 +46,17 @@ pub(crate) fn text_at(line: &[u8], first: usize, last: usize) -> &[u8] {
 }
 
 impl<'a> Spot<'a> {
-    /// Returns the spot of a card, given its number.
-    pub fn of(
-        source: SourceCards<'a>,
-        line: &'a [u8],
-        number: u16,
-        columns: Option<ColumnFault>,
-    ) -> Option<Self> {
-        let SourceCards { cards, near, text } = source;
-        let card = card_at(cards.as_slice(), number)?;
+    pub fn of(source: SourceCards<'a>, line: &'a [u8], fault: &CardFault) -> Option<Self> {
+        let card = card_at(source.cards.as_slice(), fault.card)?;
+        let columns = fault.columns;
         Some(Spot {
-            source: cards,
-            near,
-            text,
+            source,
             line,
             card,
             columns,
         })
     }
 
-    /// Returns the first column that the fault points at.
     pub fn column(self) -> u8 {
         match self.columns {
             Some(columns) => columns.column,
@@ -73,45 +64,32 @@ impl<'a> Spot<'a> {
         }
     }
 
-    /// Returns the text in a range of columns.
     pub fn text_in(self, range: ColumnRange) -> &'a [u8] {
         let ColumnFault { column, last } = range.columns();
         text_at(self.line, usize::from(column), usize::from(last))
     }
 
-    /// Whether the card with this number is an E card.
     pub fn is_extension(self, number: u16) -> bool {
-        match card_at(self.source.as_slice(), number) {
+        match card_at(self.source.cards.as_slice(), number) {
             Some(card) => card.extension().is_some(),
             None => false,
         }
     }
 
-    /// Returns the name of a calculation's operation.
     pub fn operation(self) -> &'a [u8] {
         text_at(self.line, 28, 32)
     }
 
     /// Returns the text in columns of another card; empty if the text isn't known.
     pub fn text_of_card(self, number: u16, first: usize, last: usize) -> &'a [u8] {
-        let mut rest = self.text;
-        for at in 1..=number {
-            if rest.is_empty() {
-                break;
-            }
-            let (line, following) = first_line(rest);
-            if at == number {
-                return text_at(line, first, last);
-            }
-            rest = following;
-        }
-        &[]
+        let line = CardLines::of(self.source.text).line_of(number);
+        text_at(line, first, last)
     }
 
     /// Returns the text from a column on of a card of data.
     pub fn data_of_card(self, number: u16, column: usize, length: usize) -> Option<&'a [u8]> {
         let first = column.saturating_sub(1);
-        match card_at(self.source.as_slice(), number)?.data()? {
+        match card_at(self.source.cards.as_slice(), number)?.data()? {
             DataSpec::Card(data) => data.as_slice().get(first..first.saturating_add(length)),
             DataSpec::Begin => None,
         }
@@ -130,28 +108,30 @@ impl<'a> Spot<'a> {
         }
     }
 
-    /// Returns the field in factor 1 of a calculation.
     pub fn first_factor(self) -> Option<&'a Entry> {
         factor_entry(&self.card.calculation()?.factor_1)
     }
 
-    /// Returns the form of a name.
     pub fn form(self, name: &Word<6>) -> Option<FieldForm> {
-        match self.source.form_of_name(name) {
+        match self.source.cards.form_of_name(name) {
             Defined::Valid(form) => Some(form),
             Defined::Missing | Defined::Bad => None,
         }
     }
 
-    /// Returns the first card that defines a name.
     pub fn definer(self, name: &[u8]) -> Option<&'a SpecCard> {
-        for card in self.source.as_slice() {
-            if defines(card, name) {
-                return Some(card);
-            }
-        }
-        None
+        definer(self.source.cards.as_slice(), name)
     }
+}
+
+/// Returns the first card that defines a name.
+pub fn definer<'a>(cards: &'a [SpecCard], name: &[u8]) -> Option<&'a SpecCard> {
+    for card in cards {
+        if defines(card, name) {
+            return Some(card);
+        }
+    }
+    None
 }
 
 /// Returns the card with this number. No more cards come before it than its number says, and only comments are left out.

@@ -13,7 +13,7 @@ mod sheets;
 mod shift;
 mod unread;
 
-pub use pattern::character_at;
+pub use pattern::{character_at, text_in};
 pub use range::begins_range;
-pub use refused::{write_bad_columns, write_form_type};
-pub use unread::has_card_number;
+pub use refused::{before_comma, capitalised, write_bad_columns, write_form_type};
+pub use unread::{has_card_number, pointed_at};

@@ -1,72 +1,67 @@
 //! Operations similar to a misspelt one.
 
 use crate::card::CardKind;
-use rpg_cli_text::{TextWriter, is_near};
+use crate::pattern::text_in;
+use rpg_cli_diagnostics::Draft;
+use rpg_cli_text::is_near;
 use rpg_sheet::{ColumnFault, Operation};
 use rpg_text::trimmed;
 
-/// The columns of the operation on a C card.
 const OPERATION: ColumnFault = ColumnFault {
     column: 28,
     last: 32,
 };
 
-/// The operations that may be meant.
-#[derive(Clone, Copy)]
-enum Meant {
-    Unknown,
-    One(Operation),
-    Either(Operation, Operation),
-    Many,
+/// Whether columns of a card are those of an operation.
+pub(crate) fn is_operation(line: &[u8], columns: ColumnFault) -> bool {
+    columns.column == OPERATION.column
+        && columns.last == OPERATION.last
+        && matches!(CardKind::of(line), CardKind::Calculation)
 }
 
-impl Meant {
-    fn with(self, operation: Operation) -> Self {
-        match self {
-            Meant::Unknown => Meant::One(operation),
-            Meant::One(first) => Meant::Either(first, operation),
-            Meant::Either(..) | Meant::Many => Meant::Many,
+/// Returns the operations whose names are similar to a text; None for the second if there is one, and none if there are more than two.
+fn near_operations(text: &[u8]) -> (Option<Operation>, Option<Operation>) {
+    let mut meant = (None, None);
+    for operation in Operation::ALL {
+        if is_near(text, trimmed(operation.letters())) {
+            meant = match meant {
+                (None, _) => (Some(operation), None),
+                (first, None) => (first, Some(operation)),
+                _ => return (None, None),
+            };
         }
     }
+    meant
+}
 
-    /// Returns the operations whose names are similar to a text.
-    fn by(text: &[u8]) -> Self {
-        let mut meant = Meant::Unknown;
-        for operation in Operation::ALL {
-            if is_near(text, trimmed(operation.letters())) {
-                meant = meant.with(operation);
-            }
-        }
-        meant
+/// Returns what may be meant by a sign of arithmetic.
+fn meant_by(sign: &[u8]) -> &'static str {
+    match sign {
+        b"*" => "MULT",
+        b"+" => "ADD",
+        b"-" => "SUB",
+        b"/" => "DIV",
+        b"=" => "Z-ADD (a number) or MOVE",
+        _ => "",
     }
 }
 
-/// Returns the text of a card's operation if all of it stands where operations do: from the first column on, without a blank in it.
-fn operation_text(line: &[u8], columns: ColumnFault) -> Option<&[u8]> {
-    let is_operation = columns.column == OPERATION.column && columns.last == OPERATION.last;
-    if !is_operation || !matches!(CardKind::of(line), CardKind::Calculation) {
-        return None;
-    }
-    let before = usize::from(OPERATION.column.saturating_sub(1));
-    let text = trimmed(line.get(before..line.len().min(OPERATION.last.into()))?);
-    if text.contains(&b' ') {
-        return None;
-    }
-    Some(text)
-}
-
-/// Writes which operation may be meant by rejected columns, or which two, if they have a misspelt operation.
-pub(crate) fn write_near_operations(out: &mut TextWriter, line: &[u8], columns: ColumnFault) {
-    let Some(text) = operation_text(line, columns) else {
+/// Adds which operation may be meant by rejected columns, or which two, if they have a misspelt operation or a sign.
+pub(crate) fn add_near_operations(draft: &mut Draft<'_>, line: &[u8], columns: ColumnFault) {
+    let text = text_in(line, columns);
+    if !is_operation(line, columns) || text.contains(&b' ') {
         return;
-    };
-    match Meant::by(text) {
-        Meant::One(it) => out.fill_one("; is {} meant?", trimmed(it.letters())),
-        Meant::Either(first, second) => out.fill_two(
-            "; is {} or {} meant?",
+    }
+    let mut remark = draft.text();
+    match (near_operations(text), meant_by(text)) {
+        ((None, _), "") => return,
+        ((None, _), word) => remark.fill_one("is {} meant?", word),
+        ((Some(it), None), _) => remark.fill_one("is {} meant?", trimmed(it.letters())),
+        ((Some(first), Some(second)), _) => remark.fill_two(
+            "is {} or {} meant?",
             trimmed(first.letters()),
             trimmed(second.letters()),
         ),
-        Meant::Unknown | Meant::Many => {}
     }
+    draft.remark(remark);
 }

@@ -2,10 +2,20 @@
 
 use rpg_cli_text::TextWriter;
 use rpg_sheet::ColumnFault;
+use rpg_text::trimmed;
 
 /// Returns the character in a column of a card, counted from 1: a blank after the line's end.
 pub fn character_at(line: &[u8], column: usize) -> u8 {
     line.get(column.saturating_sub(1)).copied().unwrap_or(b' ')
+}
+
+/// Returns the text in columns of a card, without the blanks after it.
+pub fn text_in(line: &[u8], columns: ColumnFault) -> &[u8] {
+    let before = usize::from(columns.column.saturating_sub(1));
+    trimmed(
+        line.get(before..line.len().min(columns.last.into()))
+            .unwrap_or(&[]),
+    )
 }
 
 /// Writes the text in a range of columns.

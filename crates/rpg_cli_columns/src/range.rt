@@ -31,7 +31,6 @@ fn letter_in(row: &str) -> u8 {
     character_at(row.as_bytes(), 7)
 }
 
-/// Returns the range of a line of a sheet.
 fn range_in(row: &'static str) -> Range {
     let text = row.get(8..).unwrap_or("");
     let (name, wanted) = match text.split_once(": ") {
@@ -45,7 +44,6 @@ fn range_in(row: &'static str) -> Range {
     }
 }
 
-/// Whether the range of a line is the one to find.
 fn is_wanted(row: &str, which: WantedRange) -> bool {
     let ColumnFault { column, last } = columns_at(row.as_bytes(), 1);
     match which {
@@ -58,15 +56,19 @@ fn is_wanted(row: &str, which: WantedRange) -> bool {
     }
 }
 
-/// Finds a range of a card.
-pub(crate) fn range_of(kind: CardKind, which: WantedRange) -> Option<Range> {
-    let (_, ranges) = sheet_of(kind);
+fn range_among(ranges: &'static str, which: WantedRange) -> Option<Range> {
     for row in ranges.lines() {
         if is_wanted(row, which) {
             return Some(range_in(row));
         }
     }
     None
+}
+
+/// Finds a range of a card.
+pub(crate) fn range_of(kind: CardKind, which: WantedRange) -> Option<Range> {
+    let (_, [first, second]) = sheet_of(kind);
+    range_among(first, which).or(range_among(second, which))
 }
 
 /// Whether a range of a card's sheet begins in a column, which is counted from 1.

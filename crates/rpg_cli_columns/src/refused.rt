@@ -1,40 +1,42 @@
 //! Messages about columns that are rejected.
 
 use crate::card::CardKind;
-use crate::operations::write_near_operations;
-use crate::pattern::{character_at, write_columns};
+use crate::operations::{add_near_operations, is_operation};
+use crate::pattern::{character_at, text_in, write_columns};
 use crate::range::{Range, WantedRange, range_of};
-use crate::shift::{add_card_move, add_moves};
+use crate::shift::{add_card_move, add_moves, is_readable};
 use crate::unread::{Unread, feature_at, has_number_after};
 use rpg_cli_diagnostics::Draft;
 use rpg_cli_text::TextWriter;
 use rpg_sheet::ColumnFault;
 
-/// The column of the form type.
 const FORM_TYPE: ColumnFault = ColumnFault { column: 6, last: 6 };
 
 /// What is added if there is a small letter.
 const CAPITALS: &str = ", and letters are capitals";
 
-/// Writes what a feature is, and adds how to do without it.
-fn write_feature(draft: &mut Draft<'_>, feature: Unread) {
-    draft.message.write_shown(feature.what);
-    if let Some(way) = feature.way {
+/// Writes what a feature is, with the text of the columns that it is about, and adds how to do without it.
+fn write_feature(draft: &mut Draft<'_>, line: &[u8], feature: Unread) {
+    let at = feature.at.unwrap_or(FORM_TYPE);
+    draft.message.fill_one(feature.what, text_in(line, at));
+    if !feature.way.is_empty() {
         let mut remark = draft.text();
-        remark.write_shown(way);
+        remark.write_str(feature.way);
         draft.remark(remark);
     }
 }
 
 /// Writes what is wrong with column 6: a directive, a sheet that isn't supported, a card in the wrong columns, or a comment.
 pub fn write_form_type(draft: &mut Draft<'_>, line: &[u8]) {
+    let feature = feature_at(line, FORM_TYPE);
     let form = character_at(line, 6);
-    let found = [form];
-    draft
-        .message
-        .fill_one("column 6 has \"{}\": ", found.as_slice());
-    if let Some(feature) = feature_at(line, FORM_TYPE) {
-        write_feature(draft, feature);
+    if !matches!(feature, Some(Unread { at: Some(_), .. })) {
+        let found = [form];
+        let out = &mut draft.message;
+        out.fill_one("column 6 has \"{}\": ", found.as_slice());
+    }
+    if let Some(feature) = feature {
+        write_feature(draft, line, feature);
         return;
     }
     let out = &mut draft.message;
@@ -61,26 +63,102 @@ fn is_starred(line: &[u8]) -> bool {
 const NUMBER_AFTER: &str =
     "columns 73 to 80 look like a card number: only 75 to 80 are free; `cut -c1-72` takes the numbers away";
 
+/// What a rejected text is that begins in the first of its columns.
+#[derive(Clone, Copy)]
+enum Text {
+    /// A text that could be read in capitals.
+    SmallLetters,
+    /// A name of so many characters.
+    LongName(usize),
+    Operation,
+    Other,
+}
+
+impl Text {
+    fn of(line: &[u8], columns: ColumnFault) -> Text {
+        if character_at(line, columns.column.into()) == b' ' {
+            Text::Other
+        } else if capitalised(line, columns).is_some() {
+            Text::SmallLetters
+        } else if is_operation(line, columns) {
+            Text::Operation
+        } else {
+            match long_name(line, columns) {
+                Some(length) => Text::LongName(length),
+                None => Text::Other,
+            }
+        }
+    }
+}
+
+/// Returns a card with capitals in columns that have small letters, if it can be read then.
+pub fn capitalised(line: &[u8], columns: ColumnFault) -> Option<[u8; 80]> {
+    if !has_small_letter(text_in(line, columns)) {
+        return None;
+    }
+    let mut card = [b' '; 80];
+    for (place, byte) in card.iter_mut().enumerate() {
+        let column = place.saturating_add(1);
+        let character = character_at(line, column);
+        let is_before = column < usize::from(columns.column);
+        *byte = if is_before || usize::from(columns.last) < column {
+            character
+        } else {
+            character.to_ascii_uppercase()
+        };
+    }
+    if is_readable(&card) { Some(card) } else { None }
+}
+
+/// Returns a text up to its first comma.
+pub fn before_comma(text: &[u8]) -> &[u8] {
+    for (place, byte) in text.iter().enumerate() {
+        if *byte == b',' {
+            return text.get(..place).unwrap_or(text);
+        }
+    }
+    text
+}
+
+/// Returns the length of a name in a factor, up to its index, if that is too long.
+fn long_name(line: &[u8], columns: ColumnFault) -> Option<usize> {
+    let text = text_in(line, columns);
+    let name = before_comma(text);
+    let is_factor = matches!((columns.column, columns.last), (18, 27) | (33, 42));
+    (is_factor && is_word(name) && name.len() > 6).then_some(name.len())
+}
+
 /// Writes which columns have a bad value: what they hold, and what that is in RPG II or what they may hold. Adds the workaround, and which
 /// text is in the wrong columns.
 pub fn write_bad_columns(draft: &mut Draft<'_>, line: &[u8], columns: ColumnFault) {
     let range = range_of(CardKind::of(line), WantedRange::Columns(columns));
-    write_columns_found(&mut draft.message, line, columns, range);
+    let feature = feature_at(line, columns);
+    let text = match feature {
+        Some(_) => Text::Other,
+        None => Text::of(line, columns),
+    };
+    if !matches!(feature, Some(Unread { at: Some(_), .. })) {
+        write_columns_found(&mut draft.message, line, columns, range, text);
+    }
     if has_number_after(line, columns) {
         draft.message.write_str(NUMBER_AFTER);
         return;
     }
-    match feature_at(line, columns) {
-        Some(feature) => {
-            write_feature(draft, feature);
+    match (feature, text) {
+        (Some(feature), _) => {
+            write_feature(draft, line, feature);
             if feature.is_any {
                 add_moves(draft, line, columns, 1);
             }
         }
-        None => {
+        (None, Text::SmallLetters) => draft.message.write_str("letters are capitals"),
+        (None, Text::LongName(length)) => draft
+            .message
+            .fill_one("a name has at most 6 characters, and this has {}", length),
+        (None, Text::Operation | Text::Other) => {
             write_wanted(&mut draft.message, line, columns, range);
-            write_near_operations(&mut draft.message, line, columns);
             write_overlong(&mut draft.message, line, columns);
+            add_near_operations(draft, line, columns);
             add_moves(draft, line, columns, 2);
         }
     }
@@ -92,9 +170,10 @@ fn write_columns_found(
     line: &[u8],
     columns: ColumnFault,
     range: Option<Range>,
+    text: Text,
 ) {
     match range {
-        Some(range) => out.fill("{} (", &[range.name.into()]),
+        Some(range) => out.fill_one("{} (", range.name),
         None => out.write_str("column "),
     }
     write_column_numbers(out, columns);
@@ -103,7 +182,10 @@ fn write_columns_found(
     } else {
         " has \""
     });
-    write_columns(out, line, columns.column.into(), columns.last.into());
+    match text {
+        Text::Other => write_columns(out, line, columns.column.into(), columns.last.into()),
+        _ => out.write_shown(text_in(line, columns)),
+    }
     out.write_str("\": ");
 }
 
@@ -113,16 +195,24 @@ fn write_column_numbers(out: &mut TextWriter, columns: ColumnFault) {
     out.fill(sentence, &[column.into(), last.into()]);
 }
 
-/// Whether columns, all of which are on the line, have a small letter.
-fn has_small_letter(line: &[u8], columns: ColumnFault) -> bool {
-    let first = usize::from(columns.column.saturating_sub(1));
-    let text = line.get(first..usize::from(columns.last)).unwrap_or(&[]);
+/// Whether a text has a small letter.
+fn has_small_letter(text: &[u8]) -> bool {
     for byte in text {
         if byte.is_ascii_lowercase() {
             return true;
         }
     }
     false
+}
+
+/// Whether a text is a letter, and letters and digits after it.
+fn is_word(text: &[u8]) -> bool {
+    for byte in text {
+        if !byte.is_ascii_uppercase() && !byte.is_ascii_digit() {
+            return false;
+        }
+    }
+    matches!(text, [b'A'..=b'Z', ..])
 }
 
 /// Whether columns that may have a text between apostrophes have the first apostrophe and no other.
@@ -149,7 +239,7 @@ fn write_wanted(out: &mut TextWriter, line: &[u8], columns: ColumnFault, range: 
         Some(range) => out.write_str(range.wanted),
         None => out.write_str("it must be blank on such a card"),
     }
-    if has_small_letter(line, columns) {
+    if has_small_letter(text_in(line, columns)) {
         out.write_str(CAPITALS);
     }
 }

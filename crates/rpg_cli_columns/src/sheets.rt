@@ -14,33 +14,26 @@ const FILE: &str = "07-14 N the file name
 24-27 # the record length
 33-34 : the overflow indicator: OA to OG or OV with O in column 15, or blank";
 
-const EXTENSION_ALONE: &str = "27-32 N the table's name
+const EXTENSION: &str = "27-32 N the table's name
 33-35 B the entries a card
 36-39 # the number of entries
 40-42 # the length of an entry
 44-44 D the decimals
 45-45 : the sequence: A or blank";
 
-const EXTENSION: &str = "27-32 N the table's name
-33-35 B the entries a card
-36-39 # the number of entries
-40-42 # the length of an entry
-44-44 D the decimals
-45-45 : the sequence: A or blank
-46-51 N the second table's name
+/// The ranges of an alternating table.
+const ALTERNATING: &str = "46-51 N the second table's name
 52-54 # the length of its entries
 56-56 D the decimals of its entries
 57-57 : the sequence of its entries: A or blank";
 
 const RECORD_TYPE: &str = "07-14 N the file name
 15-16 : the sequence: two letters
-19-20 I the record identifying indicator
-21-27 R the first record code
-28-34 R the second record code
-35-41 R the third record code";
+19-20 I the record identifying indicator";
 
-const RECORD_CODES: &str = "21-41 : the record codes: an AND card has one at least
-21-27 R the first record code
+const AND_CARD: &str = "21-41 : the record codes: an AND card has one at least";
+
+const RECORD_CODES: &str = "21-27 R the first record code
 28-34 R the second record code
 35-41 R the third record code";
 
@@ -59,7 +52,7 @@ const CALCULATION: &str = "07-08 : the control level: L0 to L9, LR, SR, AN or OR
 12-14 C the second condition
 15-17 C the third condition
 18-27 F factor 1
-28-32 : the operation: one of those that docs/LANGUAGE.md lists, from the first column on
+28-32 : the operation: it is one of ADD, SUB, MULT, DIV, MVR, Z-ADD, Z-SUB, XFOOT, MOVE, MOVEL, COMP, LOKUP, SETON, SETOF, GOTO, TAG, EXSR, BEGSR, ENDSR, EXCPT
 33-42 F factor 2
 43-48 E the result field
 49-51 B the length
@@ -74,39 +67,34 @@ const LINE: &str = "07-14 N the file name
 17-17 : the space before: 0 to 3, or blank
 18-18 : the space after: 0 to 3, or blank
 19-20 : the skip before: two digits from 01 to 66, or blank
-21-22 : the skip after: two digits from 01 to 66, or blank
-23-25 C the first condition
+21-22 : the skip after: two digits from 01 to 66, or blank";
+
+/// The ranges that output cards of all kinds have.
+const CONDITIONS: &str = "23-25 C the first condition
 26-28 C the second condition
 29-31 C the third condition";
 
-const LINE_CONDITIONS: &str = "23-25 C the first condition
-26-28 C the second condition
-29-31 C the third condition";
-
-const OUTPUT_FIELD: &str = "23-25 C the first condition
-26-28 C the second condition
-29-31 C the third condition
-32-37 E the field name
+const OUTPUT_FIELD: &str = "32-37 E the field name
 38-38 : the edit code: 1 to 4, A to D, J to M, X, Y or Z, or blank
 39-39 : blank after: B or blank
 40-43 # the end position
 45-70 : the constant or edit word: a text between apostrophes from the first column on, or blank";
 
-/// Returns the letter of a kind of card in the table of features, and the ranges of its columns, one a line.
-pub(crate) fn sheet_of(kind: CardKind) -> (u8, &'static str) {
+/// Returns the letter of a kind of card in the table of features, and the ranges of its columns in two parts, one a line.
+pub(crate) fn sheet_of(kind: CardKind) -> (u8, [&'static str; 2]) {
     match kind {
-        CardKind::Header => (b'H', ""),
-        CardKind::File => (b'F', FILE),
-        CardKind::Extension => (b'E', EXTENSION),
-        CardKind::ExtensionAlone => (b'E', EXTENSION_ALONE),
-        CardKind::RecordType => (b'T', RECORD_TYPE),
-        CardKind::RecordCodes => (b'T', RECORD_CODES),
-        CardKind::InputField => (b'I', INPUT_FIELD),
-        CardKind::Calculation => (b'C', CALCULATION),
-        CardKind::Line => (b'O', LINE),
-        CardKind::LineConditions => (b'A', LINE_CONDITIONS),
-        CardKind::OutputField => (b'D', OUTPUT_FIELD),
-        CardKind::Unknown => (b'?', ""),
+        CardKind::Header => (b'H', ["", ""]),
+        CardKind::File => (b'F', [FILE, ""]),
+        CardKind::Extension => (b'E', [EXTENSION, ALTERNATING]),
+        CardKind::ExtensionAlone => (b'E', [EXTENSION, ""]),
+        CardKind::RecordType => (b'T', [RECORD_TYPE, RECORD_CODES]),
+        CardKind::RecordCodes => (b'T', [AND_CARD, RECORD_CODES]),
+        CardKind::InputField => (b'I', [INPUT_FIELD, ""]),
+        CardKind::Calculation => (b'C', [CALCULATION, ""]),
+        CardKind::Line => (b'O', [LINE, CONDITIONS]),
+        CardKind::LineConditions => (b'A', [CONDITIONS, ""]),
+        CardKind::OutputField => (b'D', [CONDITIONS, OUTPUT_FIELD]),
+        CardKind::Unknown => (b'?', ["", ""]),
     }
 }
 

@@ -7,10 +7,8 @@ use rpg_cli_diagnostics::Draft;
 use rpg_sheet::{Card, ColumnFault};
 use rpg_text::has_only_characters;
 
-/// The columns of a card.
 const COLUMNS: usize = 80;
 
-/// The column of the form type.
 const FORM_TYPE: usize = 6;
 
 /// The first and the last column that sheets use.
@@ -47,12 +45,10 @@ impl Move {
         Move { right: 0, left: by }
     }
 
-    /// Returns the column that a column is shifted to.
     fn applied_to(self, column: usize) -> usize {
         column.saturating_add(self.right).saturating_sub(self.left)
     }
 
-    /// Returns the column that is shifted to this one.
     fn source_of(self, column: usize) -> usize {
         column.saturating_add(self.left).saturating_sub(self.right)
     }
@@ -92,7 +88,7 @@ fn moved_at(line: &[u8], run: Run, by: Move, column: usize) -> u8 {
     }
 }
 
-/// Whether a card can be read, as one of the sheet that its column 6 names, after a text is shifted.
+/// Whether a card can be read after a text is shifted.
 fn helps(line: &[u8], run: Run, by: Move) -> bool {
     if !has_room(line, run, by) {
         return false;
@@ -104,7 +100,8 @@ fn helps(line: &[u8], run: Run, by: Move) -> bool {
     is_readable(&moved)
 }
 
-fn is_readable(line: &[u8; 80]) -> bool {
+/// Whether a card can be read, as one of the sheet that its column 6 names.
+pub(crate) fn is_readable(line: &[u8; 80]) -> bool {
     if !has_only_characters(line) {
         return false;
     }
@@ -115,7 +112,6 @@ fn is_readable(line: &[u8; 80]) -> bool {
     }
 }
 
-/// Whether a column is in a range of its card.
 fn is_in_range(line: &[u8], column: usize) -> bool {
     range_of(CardKind::of(line), WantedRange::Around(column)).is_some()
 }
@@ -128,7 +124,6 @@ fn helps_run(line: &[u8], run: Run, by: Move, is_card: bool) -> bool {
         && helps(line, run, by)
 }
 
-/// Returns the text without blanks that a column is part of.
 fn word_at(line: &[u8], column: usize) -> Run {
     let mut first = FIRST;
     for at in FIRST..column {
@@ -151,7 +146,6 @@ fn word_end(line: &[u8], column: usize) -> usize {
     LAST
 }
 
-/// Returns the first column that isn't blank.
 fn first_filled(line: &[u8]) -> Option<usize> {
     for column in FIRST..=LAST {
         if character_at(line, column) != b' ' {

@@ -9,62 +9,69 @@ use rpg_sheet::ColumnFault;
 /// The first column of the directives for a listing, whatever column 6 has.
 const DIRECTIVE: ColumnFault = ColumnFault { column: 7, last: 7 };
 
-/// The column of the form type.
 const FORM_TYPE: usize = 6;
 
 /// The letter of a card that is on no sheet: data and comments may have any character in column 6.
 const NO_SHEET: u8 = b'?';
 
-/// Where the pattern of a place begins in its line, after a blank, the letter of the card and the columns.
+/// Where the patterns of a place begin in its line, after a blank, the letter of the card and the columns.
 const PATTERN: usize = 9;
 
 /// A feature of RPG II that isn't supported.
 #[derive(Clone, Copy)]
 pub(crate) struct Unread {
-    pub what: &'static [u8],
-    /// How to do without it, if it can be done.
-    pub way: Option<&'static [u8]>,
+    pub what: &'static str,
+    /// How to do without it; empty if it can't be done.
+    pub way: &'static str,
+    /// The columns that it is about, if it is reported by itself.
+    pub at: Option<ColumnFault>,
     /// Whether it applies whatever its columns hold.
     pub is_any: bool,
 }
 
 impl Unread {
-    /// Returns the feature of a line of the table, and whether it applies whatever its columns hold.
+    /// Returns the feature of a line of the table.
     fn of(line: &'static [u8], is_any: bool) -> Unread {
-        for (place, byte) in line.iter().enumerate() {
-            if *byte == b'|' {
-                return Unread {
-                    what: line.get(..place).unwrap_or(line),
-                    way: line.get(place.saturating_add(1)..),
-                    is_any,
-                };
-            }
-        }
+        let (at, line) = match line {
+            [b'!', ..] => (Some(columns_at(line, 2)), line.get(7..).unwrap_or(&[])),
+            _ => (None, line),
+        };
+        let text = str::from_utf8(line).unwrap_or("");
+        let (what, way) = text.split_once('|').unwrap_or((text, ""));
         Unread {
-            what: line,
-            way: None,
+            what,
+            way,
+            at,
             is_any,
         }
     }
 }
 
-/// Whether rejected columns of a card are those of a place and match its pattern.
-fn fits(place: &[u8], letter: u8, line: &[u8], columns: ColumnFault) -> bool {
-    let ColumnFault { column, last } = columns_at(place, 4);
-    let pattern = place.get(PATTERN..).unwrap_or(&[]);
-    character_at(place, 2) == letter
+/// Whether one of some patterns fits a card from a column on.
+fn any_is_at(line: &[u8], column: u8, patterns: &str) -> bool {
+    for pattern in patterns.split(' ') {
+        if is_at(line, usize::from(column), pattern.as_bytes()) {
+            return true;
+        }
+    }
+    false
+}
+
+/// Whether rejected columns of a card are those of a place and match one of its patterns.
+fn fits(place: &str, letter: u8, line: &[u8], columns: ColumnFault) -> bool {
+    let ColumnFault { column, last } = columns_at(place.as_bytes(), 4);
+    character_at(place.as_bytes(), 2) == letter
         && column <= columns.column
         && columns.last <= last
-        && is_at(line, usize::from(columns.column), pattern)
+        && any_is_at(line, columns.column, place.get(PATTERN..).unwrap_or(""))
 }
 
 /// Returns the first feature in columns of a card with this letter.
 fn first_at(letter: u8, line: &[u8], columns: ColumnFault) -> Option<Unread> {
     let mut sentence: &'static [u8] = &[];
     for row in FEATURES.lines() {
-        let row = row.as_bytes();
-        if character_at(row, 1) != b' ' {
-            sentence = row;
+        if !row.starts_with(' ') {
+            sentence = row.as_bytes();
         } else if fits(row, letter, line, columns) {
             return Some(Unread::of(sentence, row.len() < PATTERN));
         }
@@ -111,5 +118,13 @@ pub(crate) fn feature_at(line: &[u8], columns: ColumnFault) -> Option<Unread> {
         Some(directive) => Some(directive),
         None if letter == NO_SHEET && !has_card_number(line) => None,
         None => first_at(letter, line, columns),
+    }
+}
+
+/// Returns the columns that a diagnostic on rejected columns points at.
+pub fn pointed_at(line: &[u8], columns: ColumnFault) -> ColumnFault {
+    match feature_at(line, columns) {
+        Some(Unread { at: Some(at), .. }) => at,
+        _ => columns,
     }
 }

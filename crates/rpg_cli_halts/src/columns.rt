@@ -17,7 +17,6 @@ pub(crate) struct BadInput {
     pub column: usize,
 }
 
-/// Returns the columns of a record that an input field is moved from.
 pub(crate) fn columns_of(text: &[u8], input: InputField<u16>) -> &[u8] {
     let from = usize::from(input.from).saturating_sub(1);
     text.get(from..usize::from(input.to)).unwrap_or(&[])

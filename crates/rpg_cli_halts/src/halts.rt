@@ -5,6 +5,7 @@ use crate::held::{HaltedRecord, Lower};
 use crate::lines::write_indexed_fields;
 use crate::record::{bad_byte, write_too_long};
 use crate::source::{HaltedSource, add_source};
+use crate::types::{add_commas, add_types};
 use rpg_cli_diagnostics::{Columns, Diagnostic, Draft, FileName, Level, Place as FilePlace};
 use rpg_cli_messages::write_byte_cause;
 use rpg_cli_refusals::write_instruction_at;
@@ -47,7 +48,7 @@ impl HaltedCycle {
         self.place.is_none()
             && matches!(
                 self.halt,
-                Halt::BadDigit | Halt::BadRecord | Halt::OutOfSequence
+                Halt::NoRecordType | Halt::BadDigit | Halt::BadRecord | Halt::OutOfSequence
             )
     }
 
@@ -68,7 +69,6 @@ pub struct InputNames<'a> {
     pub secondary: Option<FileName<'a>>,
 }
 
-/// Whether a program has a secondary file.
 fn has_two_files(program: &Verified) -> bool {
     program.program().rows().has_file(InputFile::Secondary)
 }
@@ -106,6 +106,8 @@ enum RecordProblem<'a> {
     TooLong(usize, &'a [u8]),
     /// Its match value.
     Lower(Lower<'a>),
+    /// It fits no type.
+    NoType(&'a [u8]),
 }
 
 impl<'a> RecordProblem<'a> {
@@ -129,6 +131,7 @@ impl<'a> RecordProblem<'a> {
                 Some(RecordProblem::Input(bad_columns(rows, record)?, record.filled()))
             }
             (None, Halt::OutOfSequence) => Some(RecordProblem::Lower(record.lower(program)?)),
+            (None, Halt::NoRecordType) => Some(RecordProblem::NoType(record.text)),
             _ => None,
         }
     }
@@ -147,12 +150,12 @@ impl<'a> RecordProblem<'a> {
                 (column, column, text)
             }
             RecordProblem::Lower(lower) => (lower.column, lower.column, lower.text),
+            RecordProblem::NoType(text) => (1, 1, text),
         };
         Some((Columns { first, last }, text))
     }
 }
 
-/// Writes the text of the columns that aren't a number.
 fn write_columns(out: &mut TextWriter, bad: BadInput, text: &[u8]) {
     let BadInput { input, column, .. } = bad;
     let character = text.get(column.saturating_sub(1)..column).unwrap_or(&[]);
@@ -203,7 +206,6 @@ impl<'a> HaltContext<'a> {
         }
     }
 
-    /// Writes what was wrong.
     fn write_halt(self, draft: &mut Draft<'_>) {
         match self.found {
             RecordProblem::Byte(place, text) => write_byte_cause(draft, text, place),
@@ -211,7 +213,7 @@ impl<'a> HaltContext<'a> {
                 write_too_long(&mut draft.message, text, length)
             }
             RecordProblem::Lower(lower) => write_lower(&mut draft.message, lower),
-            RecordProblem::Input(_, _) | RecordProblem::Nothing => {
+            RecordProblem::Input(_, _) | RecordProblem::NoType(_) | RecordProblem::Nothing => {
                 draft.message.write_str(self.topic().sentence());
             }
         }
@@ -235,7 +237,6 @@ impl<'a> HaltContext<'a> {
         }
     }
 
-    /// Writes which record it was, or what the cycle does.
     fn write_cycle(self, out: &mut TextWriter) {
         let cycle = self.halted.cycles;
         let before = cycle.saturating_sub(1);
@@ -282,6 +283,22 @@ fn place_of(
     }
 }
 
+/// Adds what else is wrong with the record of a halt.
+fn add_record<'a>(
+    draft: &mut Draft<'a>,
+    program: &Verified,
+    found: RecordProblem<'_>,
+    record: &HaltedRecord<'_>,
+    source: Option<HaltedSource<'a>>,
+) {
+    let rows = program.program().rows();
+    match found {
+        RecordProblem::Input(_, _) => add_commas(draft, rows, record),
+        RecordProblem::NoType(_) => add_types(draft, rows, record, source),
+        _ => {}
+    }
+}
+
 /// Returns the diagnostic for a halt of a job by this program over the records of these files. The record shows what was wrong with it and,
 /// of two files, which it came from; the program's source shows which card it was.
 pub fn halt_diagnostic<'a>(
@@ -315,6 +332,9 @@ pub fn halt_diagnostic<'a>(
             _ => None,
         };
         add_source(&mut draft, program, halted, bad, source);
+    }
+    if let Some(record) = record {
+        add_record(&mut draft, program, found, record, source);
     }
     let mut remark = draft.text();
     context.write_cycle(&mut remark);

@@ -99,7 +99,6 @@ impl Taken {
         Some(row)
     }
 
-    /// Whether a record has a match value.
     fn matches(&mut self, program: &Verified, file: InputFile, text: &[u8]) -> bool {
         self.take(program, file, text).is_some() && self.kept.value.is_there
     }

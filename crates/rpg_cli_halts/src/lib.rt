@@ -7,6 +7,7 @@ mod held;
 mod lines;
 mod record;
 mod source;
+mod types;
 
 pub use halts::{HaltedCycle, InputNames, halt_diagnostic};
 pub use held::{HaltedRecord, LastRead};

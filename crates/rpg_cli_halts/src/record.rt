@@ -3,7 +3,6 @@
 use rpg_cli_text::TextWriter;
 use rpg_text::{is_blank, is_character};
 
-/// The most columns of a record in any file.
 const MOST_COLUMNS: usize = 9999;
 
 const UNENDED: &str =

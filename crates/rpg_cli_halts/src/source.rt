@@ -30,7 +30,13 @@ impl<'a> HaltedSource<'a> {
     }
 
     /// Adds a remark on a card, which is shown.
-    fn add(self, draft: &mut Draft<'a>, card: u16, columns: Option<Columns>, remark: TextWriter) {
+    pub(crate) fn add(
+        self,
+        draft: &mut Draft<'a>,
+        card: u16,
+        columns: Option<Columns>,
+        remark: TextWriter,
+    ) {
         let place = self.file.card(card, columns, self.line_of(card));
         draft.add(Some(place), remark);
     }

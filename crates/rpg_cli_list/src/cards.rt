@@ -2,9 +2,10 @@
 
 use crate::chart::write_ruler;
 use rpg_cli_diagnostics::write_card as write_columns;
-use rpg_cli_messages::{SourceCards, write_note};
+use rpg_cli_messages::{CardLines, SourceCards, write_note};
 use rpg_cli_text::TextWriter;
 use rpg_faults::CardFault;
+use rpg_sheet::MOST_CARDS;
 use rpg_text::trimmed;
 use std::alloc::{AllocError, Global};
 
@@ -28,8 +29,8 @@ fn write_faults<'f>(
     number: usize,
     line: &[u8],
     source: SourceCards<'_>,
-    faults: &'f [CardFault],
-) -> Result<&'f [CardFault], AllocError> {
+    faults: &'f [&'f CardFault],
+) -> Result<&'f [&'f CardFault], AllocError> {
     let mut rest = faults;
     for fault in faults {
         if usize::from(fault.card) != number {
@@ -41,13 +42,30 @@ fn write_faults<'f>(
     Ok(rest)
 }
 
+/// Returns the lines of a source, up to the card that ends it, or to the first one over the limit.
+pub(crate) fn lines_of(alloc: Global, source: &[u8]) -> Result<Vec<&[u8]>, AllocError> {
+    let mut all = Vec::new(alloc);
+    let mut lines = CardLines::of(source);
+    for number in 1..=MOST_CARDS + 1 {
+        if !lines.has_more() {
+            break;
+        }
+        let line = lines.line_of(number);
+        all.push(line)?;
+        if matches!(line, [b'/', b'*'] | [b'/', b'*', b' ', ..]) {
+            break;
+        }
+    }
+    Ok(all)
+}
+
 /// Writes the cards below a ruler. Faults come card by card, those of the whole source first.
 pub(crate) fn write_cards(
     alloc: Global,
     out: &mut TextWriter,
     lines: &[&[u8]],
     source: SourceCards<'_>,
-    faults: &[CardFault],
+    faults: &[&CardFault],
 ) -> Result<(), AllocError> {
     out.write_str("\n card ");
     write_ruler(out, 80);

@@ -6,14 +6,12 @@ use rpg_text::trimmed;
 /// The most places that are drawn, as many as a printed line can have.
 pub(crate) const MOST_DRAWN: u16 = 132;
 
-/// The margin before the first place.
 const MARGIN: &str = "          ";
 
 /// A ruler: a digit at each tenth place, a plus at each fifth.
 const RULER: &str =
     "....+....1....+....2....+....3....+....4....+....5....+....6....+....7....+....8....+....9....+....0....+....1....+....2....+....3..";
 
-/// Writes a ruler over `places` places, at most 132.
 pub(crate) fn write_ruler(out: &mut TextWriter, places: usize) {
     out.write_str(RULER.get(..places).unwrap_or(RULER));
 }

@@ -18,7 +18,6 @@ pub(crate) fn length_words(file: &FileSpec) -> &'static str {
     }
 }
 
-/// Writes what the rows below are, the file if a card names it, and the length of its records with the unit.
 pub(crate) fn write_heading(
     out: &mut TextWriter,
     rows: &str,
@@ -68,11 +67,8 @@ fn write_file(out: &mut TextWriter, card: u16, file: &FileSpec) {
     };
     let name = name_text(file.name.as_slice());
     let words = length_words(file);
-    out.fill("  {:<8}  ", &[name.into()]);
-    out.fill("{:<9}  ", &[serves.into()]);
-    out.fill("{:>4} ", &[file.record_length.into()]);
-    out.fill("{}  ", &[words.into()]);
-    out.fill("card {}", &[card.into()]);
+    out.fill_three("  {:<8}  {:<9}  {:>4} ", name, serves, file.record_length);
+    out.fill_two("{}  card {}", words, card);
     write_named(out, ", turns on {} where a page is full", overflow_of(file));
     out.write_str(", named on ");
 }

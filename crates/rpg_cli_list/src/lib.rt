@@ -3,7 +3,6 @@
 
 mod cards;
 mod chart;
-mod deck;
 mod files;
 mod lines;
 mod listing;

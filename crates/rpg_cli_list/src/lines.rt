@@ -71,7 +71,6 @@ fn write_head(
     out.write_char('\n');
 }
 
-/// Draws the fields of a line.
 fn write_chart(out: &mut TextWriter, source: &IndexedCards, length: u16, after: &[SpecCard]) {
     let mut chart = Chart::new(length, b' ');
     for card in after {
@@ -142,7 +141,6 @@ fn write_field(out: &mut TextWriter, source: &IndexedCards, card: u16, field: &O
     out.write_char('\n');
 }
 
-/// Writes a line with its fields.
 fn write_line(
     out: &mut TextWriter,
     source: &IndexedCards,
@@ -168,7 +166,6 @@ fn write_line(
     }
 }
 
-/// Writes all lines with their layouts.
 pub(crate) fn write_lines(out: &mut TextWriter, source: &IndexedCards) {
     let mut file = None;
     let mut is_first = true;

@@ -1,7 +1,6 @@
 //! The listing of a source.
 
-use crate::cards::write_cards;
-use crate::deck::{ReadCards, is_unread};
+use crate::cards::{lines_of, write_cards};
 use crate::files::write_files;
 use crate::lines::write_lines;
 use crate::order::write_order;
@@ -9,49 +8,46 @@ use crate::records::write_records;
 use crate::tables::write_tables;
 use rpg_card_index::IndexedCards;
 use rpg_cli_list_names::{Indicators, Labels, Names, write_constants};
-use rpg_cli_messages::{NearNames, SourceCards};
+use rpg_cli_messages::{KnownFaults, NearNames, SourceCards, Unread, count_unread};
 use rpg_cli_text::TextWriter;
 use rpg_faults::{CardFault, source_faults};
 use std::alloc::{AllocError, Global};
-
-const MANY_READ: &str =
-    "{} card{} that can't be read\nthe tables below cover the other cards; other checks run once all cards can be read\n";
-
-const ONE_READ: &str =
-    "{} card{} that can't be read\nthe tables below cover the other card; other checks run once all cards can be read\n";
-
-const NONE_READ: &str =
-    "{} card{} that can't be read\nother checks run once all cards can be read\n";
 
 /// Returns the ending of a noun with this count.
 fn counted(count: usize) -> &'static str {
     if count == 1 { "" } else { "s" }
 }
 
-/// Returns the sentence for the faults of a source with so many cards: how many there are, and which cards the tables cover if some can't
-/// be read.
-fn faults_sentence(cards: usize, faults: &[CardFault]) -> &'static str {
-    match faults.first() {
-        None => "no fault\n",
-        Some(fault) if is_unread(fault) => match cards.saturating_sub(faults.len()) {
-            0 => NONE_READ,
-            1 => ONE_READ,
-            _ => MANY_READ,
-        },
-        Some(_) => "{} fault{}\n",
+/// Writes how many of the cards can't be read, which ones the tables cover, and whether other faults are looked for later.
+fn write_unread(out: &mut TextWriter, cards: usize, unread: usize, others: usize, is_later: bool) {
+    out.fill_two("{} card{} that can't be read", unread, counted(unread));
+    if others > 0 {
+        out.fill_two(", {} fault{}", others, counted(others));
+    }
+    let covered = match cards.saturating_sub(unread) {
+        0 => "",
+        1 => "the tables below cover the other card",
+        _ => "the tables below cover the other cards",
+    };
+    let later = match (is_later, covered) {
+        (false, _) => "",
+        (true, "") => "other checks run once all cards can be read",
+        (true, _) => "; other checks run once all cards can be read",
+    };
+    out.fill_two("\n{}{}\n", covered, later);
+}
+
+fn write_head(out: &mut TextWriter, path: &str, cards: usize, faults: &[&CardFault], left: Unread) {
+    out.write_shown(path.as_bytes());
+    out.fill_two(": {} card{}, ", cards, counted(cards));
+    let unread = count_unread(faults);
+    match (unread, faults.len().saturating_sub(unread)) {
+        (0, 0) => out.write_str("no fault\n"),
+        (0, count) => out.fill_two("{} fault{}\n", count, counted(count)),
+        (_, others) => write_unread(out, cards, unread, others, !left.leaves_all()),
     }
 }
 
-/// Writes how many cards and how many faults there are.
-fn write_head(out: &mut TextWriter, path: &str, cards: usize, faults: &[CardFault]) {
-    let sentence = faults_sentence(cards, faults);
-    let count = faults.len();
-    out.write_shown(path.as_bytes());
-    out.fill(": {} card{}, ", &[cards.into(), counted(cards).into()]);
-    out.fill(sentence, &[count.into(), counted(count).into()]);
-}
-
-/// Writes the fields: names, then constants.
 fn write_fields(
     alloc: Global,
     out: &mut TextWriter,
@@ -62,7 +58,6 @@ fn write_fields(
     write_constants(alloc, out, source.as_slice(), names.count())
 }
 
-/// Writes what the cards describe and name.
 fn write_contents(
     alloc: Global,
     out: &mut TextWriter,
@@ -85,16 +80,17 @@ fn cards_text(
     alloc: Global,
     path: &str,
     text: &[u8],
-    read: &ReadCards,
-    faults: &[CardFault],
+    known: &KnownFaults<'_>,
 ) -> Result<String, AllocError> {
-    let source = IndexedCards::new(alloc, &read.cards)?;
+    let lines = lines_of(alloc, text)?;
+    let faults = known.faults(alloc)?;
+    let source = IndexedCards::new(alloc, known.cards())?;
+    let near = NearNames::of(alloc, known.cards(), &faults)?;
     let mut out = TextWriter::new(alloc);
-    write_head(&mut out, path, read.lines.len(), faults);
-    let near = NearNames::of(alloc, &read.cards, faults)?;
-    let known = SourceCards::of(&source, &near, text);
-    write_cards(alloc, &mut out, &read.lines, known, faults)?;
-    write_contents(alloc, &mut out, &source, read.has_all_tables)?;
+    write_head(&mut out, path, lines.len(), &faults, known.unread);
+    let cards = SourceCards::of(&source, &near, text);
+    write_cards(alloc, &mut out, &lines, cards, &faults)?;
+    write_contents(alloc, &mut out, &source, known.unread.leaves_tables())?;
     out.finish()
 }
 
@@ -105,6 +101,10 @@ pub fn source_listing(alloc: Global, path: &str, source: &[u8]) -> Result<String
     let Ok(judged) = source_faults(alloc, source) else {
         return Err(AllocError);
     };
-    let read = ReadCards::of(alloc, source, &judged.faults)?;
-    cards_text(alloc, path, source, &read, &judged.faults)
+    cards_text(
+        alloc,
+        path,
+        source,
+        &KnownFaults::of(alloc, source, &judged)?,
+    )
 }

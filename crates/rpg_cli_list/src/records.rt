@@ -22,10 +22,7 @@ fn write_codes(out: &mut TextWriter, card: u16, codes: &Three<Option<RecordCode>
     for code in [codes.first, codes.second, codes.third] {
         if let Some(code) = code {
             let is = if code.negated { "isn't" } else { "is" };
-            out.fill(
-                "  {:>6}  column {} {} ",
-                &[card.into(), code.position.into(), is.into()],
-            );
+            out.fill_three("  {:>6}  column {} {} ", card, code.position, is);
             write_quoted(out, &[code.character.number()]);
             out.write_char('\n');
         }
@@ -57,13 +54,9 @@ fn write_all_codes(
 }
 
 fn write_field(out: &mut TextWriter, card: u16, field: &InputFieldSpec) {
-    let name = name_text(field.name.as_slice());
-    let from = field.from;
-    let to = field.to;
-    out.fill(
-        "  {:>6}  {:>4}-{:<4}  {:<6}  ",
-        &[card.into(), from.into(), to.into(), name.into()],
-    );
+    let (from, to) = (field.from, field.to);
+    out.fill_three("  {:>6}  {:>4}-{:<4}  ", card, from, to);
+    out.fill_one("{:<6}  ", name_text(field.name.as_slice()));
     if from > to {
         out.write_str("     -");
     } else {
@@ -77,11 +70,8 @@ fn write_field(out: &mut TextWriter, card: u16, field: &InputFieldSpec) {
     if let Some(level) = field.match_level {
         out.fill("  M{}", &[level.number().into()]);
     }
-    write_shows(
-        out,
-        ["  plus {}", "  minus {}", "  zero or blank {}"],
-        shows_of(field.indicators),
-    );
+    let sentences = ["  plus {}", "  minus {}", "  zero or blank {}"];
+    write_shows(out, sentences, shows_of(field.indicators));
     out.end_line();
 }
 
@@ -130,7 +120,6 @@ fn write_field_heading(out: &mut TextWriter, file: Option<&FileSpec>, after: &[S
     out.write_str("    card  columns    field   length  decimals\n");
 }
 
-/// Writes the record types with their fields.
 pub(crate) fn write_records(out: &mut TextWriter, source: &IndexedCards) {
     let mut file = None;
     let mut is_first = true;

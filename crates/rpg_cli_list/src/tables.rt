@@ -16,20 +16,16 @@ fn write_table(
     table: &TableSpec,
     beginning: Option<u16>,
 ) {
-    let name = name_text(table.name.as_slice());
-    let is = if is_table(&table.name) {
-        "table"
+    let row = if is_table(&table.name) {
+        "  {:>4}  {:<6}  table"
     } else {
-        "array"
+        "  {:>4}  {:<6}  array"
     };
-    out.fill("  {:>4}  {:<6}  {}", &[card.into(), name.into(), is.into()]);
-    out.fill(
-        "  {:>7}  {:>6}  ",
-        &[extension.entries.into(), table.length.into()],
-    );
+    out.fill_two(row, card, name_text(table.name.as_slice()));
+    out.fill_two("  {:>7}  {:>6}  ", extension.entries, table.length);
     write_decimals(out, table.decimals);
     let order = if table.ascending { "ascending" } else { "" };
-    out.fill("  {:<9}  ", &[order.into()]);
+    out.fill_one("  {:<9}  ", order);
     match (extension.entries_per_card, &extension.alternating) {
         (None, _) => out.write_str("no data"),
         (Some(count), None) => out.fill("{} on a card", &[count.into()]),

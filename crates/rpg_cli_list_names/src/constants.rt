@@ -8,10 +8,8 @@ use rpg_cli_text::TextWriter;
 use rpg_program::value::Value;
 use std::alloc::{AllocError, Global};
 
-/// The width of the column of forms.
 const FORM: usize = 19;
 
-/// The width of the column of values.
 const VALUE: usize = 26;
 
 /// The columns before the cards of a constant.

@@ -1,6 +1,6 @@
 //! The indicators of a source: what turns them on and off, and which cards test them.
 
-use crate::turning::{Turning, machine_words, results_of};
+use crate::turning::{NO_WORD, Turning, machine_words, results_of};
 use rpg_cards::{SpecCard, level, line_conditions_on, number_of};
 use rpg_cli_show_fields::Indicator;
 use rpg_cli_text::{Piece, TextWriter};
@@ -9,10 +9,8 @@ use rpg_sheet_specs::{
 };
 use std::alloc::{AllocError, Global};
 
-/// The number after the greatest of an indicator.
 const AFTER: usize = 130;
 
-/// The number of MR.
 const MATCHING: u8 = 129;
 
 const HEADING: &str =
@@ -102,11 +100,12 @@ impl Indicators {
         let number = card.number;
         match &card.spec {
             Spec::File(file) => {
-                self.turned(overflow_of(file), Turning::of("a full page", number))
+                let turning = Turning::of("a full page", NO_WORD, number);
+                self.turned(overflow_of(file), turning)
             }
             Spec::Input(InputSpec::Type(record_type)) => {
-                let indicator = number_of(record_type.indicator);
-                self.turned(indicator, Turning::of("record type", number))
+                let turning = Turning::of("record type", NO_WORD, number);
+                self.turned(number_of(record_type.indicator), turning)
             }
             Spec::Input(InputSpec::Field(field)) => self.note_field(number, field),
             Spec::Calculation(calculation) => self.note_calculation(number, calculation),
@@ -123,42 +122,24 @@ impl Indicators {
         card: u16,
     ) -> Result<(), AllocError> {
         let [first, second, third] = sentences;
-        let turning = Turning {
-            sentence: first,
-            piece,
-            card,
-        };
+        let turning = Turning::of(first, piece, card);
         self.turned(number_of(indicators.first), turning)?;
-        let turning = Turning {
-            sentence: second,
-            ..turning
-        };
+        let turning = Turning::of(second, piece, card);
         self.turned(number_of(indicators.second), turning)?;
-        let turning = Turning {
-            sentence: third,
-            ..turning
-        };
+        let turning = Turning::of(third, piece, card);
         self.turned(number_of(indicators.third), turning)
     }
 
     fn note_field(&mut self, card: u16, field: &InputFieldSpec) -> Result<(), AllocError> {
         if let Some(level) = field.level {
             let number = level.number().saturating_add(100);
-            self.turned(Some(number), Turning::of("control field", card))?;
+            self.turned(Some(number), Turning::of("control field", NO_WORD, card))?;
         }
         if let Some(level) = field.match_level {
-            let sentence = "match field M{}";
-            let piece = Piece::from(level.number());
-            self.turned(
-                Some(MATCHING),
-                Turning {
-                    sentence,
-                    piece,
-                    card,
-                },
-            )?;
+            let turning = Turning::of("match field M{}", level.number().into(), card);
+            self.turned(Some(MATCHING), turning)?;
         }
-        self.note_three(field.indicators, SHOWN, Piece::Word(""), card)
+        self.note_three(field.indicators, SHOWN, NO_WORD, card)
     }
 
     fn note_calculation(
@@ -223,10 +204,7 @@ impl IndicatorUses {
 
     fn write(&self, out: &mut TextWriter, number: usize) {
         let last = self.last_words(number);
-        let turned = self
-            .turned
-            .len()
-            .saturating_add(usize::from(last.is_some()));
+        let turned = self.turned.len().saturating_add(last.is_some().into());
         let tested = self.tested.len().saturating_add(ON_A_LINE - 1) / ON_A_LINE;
         for line in 0..tested.max(turned) {
             write_name(out, number, line);
@@ -244,7 +222,6 @@ impl IndicatorUses {
     }
 }
 
-/// Writes the name of an indicator on the first of its lines.
 fn write_name(out: &mut TextWriter, number: usize, line: usize) {
     match u8::try_from(number) {
         Ok(number) if line == 0 => {
@@ -254,7 +231,6 @@ fn write_name(out: &mut TextWriter, number: usize, line: usize) {
     }
 }
 
-/// Writes the cards on a line that test it.
 fn write_tested(out: &mut TextWriter, line: usize, tested: &[Testing]) {
     if line == 0 && tested.is_empty() {
         out.write_str("nothing");

@@ -58,7 +58,6 @@ impl Labels {
         label.cards.note(by, card)
     }
 
-    /// Writes a row for each label and subroutine.
     pub fn write(&self, out: &mut TextWriter) {
         if !self.labels.is_empty() {
             out.write_str(HEADING);

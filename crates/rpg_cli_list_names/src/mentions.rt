@@ -6,7 +6,6 @@ use std::alloc::{AllocError, Global};
 /// How many numbers go on a line of the listing.
 const ON_A_LINE: usize = 12;
 
-/// The width of a column of numbers.
 const COLUMN: usize = 10;
 
 /// How a card uses what it names.
@@ -57,7 +56,7 @@ impl Mentions {
         for mention in &self.list {
             if mention.by == by && mention.card != last {
                 write_gap(out, count, margin);
-                out.fill("{}", &[mention.card.into()]);
+                out.fill_one("{}", mention.card);
                 last = mention.card;
                 count = count.saturating_add(1);
             }

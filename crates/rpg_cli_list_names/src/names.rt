@@ -11,7 +11,6 @@ use rpg_sheet_specs::{
 };
 use std::alloc::{AllocError, Global};
 
-/// The width of the column of forms.
 const FORM: usize = 24;
 
 /// The columns before the cards that use a name.

@@ -12,19 +12,21 @@ pub(crate) struct Turning {
     pub card: u16,
 }
 
+/// What a sentence without a place is filled with.
+pub(crate) const NO_WORD: Piece<'static> = Piece::Word("");
+
 impl Turning {
-    /// A card, with a sentence without a word in it.
-    pub fn of(sentence: &'static str, card: u16) -> Self {
+    pub fn of(sentence: &'static str, piece: Piece<'static>, card: u16) -> Self {
         Turning {
             sentence,
-            piece: Piece::Word(""),
+            piece,
             card,
         }
     }
 
     pub fn write(self, out: &mut TextWriter) {
         out.fill(self.sentence, &[self.piece]);
-        out.fill(", card {}", &[self.card.into()]);
+        out.fill_one(", card {}", self.card);
     }
 }
 
@@ -39,7 +41,7 @@ pub(crate) fn results_of(wanted: Option<Operation>) -> ([&'static str; 3], Piece
         Some(_) => ["{} plus", "{} minus", "{} zero"],
     };
     let word = match wanted {
-        None => Piece::Word(""),
+        None => NO_WORD,
         Some(wanted) => Piece::Outside(trimmed(wanted.letters())),
     };
     (sentences, word)

@@ -4,7 +4,6 @@ use rpg_cli_diagnostics::Draft;
 use rpg_cli_text::TextWriter;
 use rpg_text::{is_blank, is_character};
 
-/// How many bytes of a line are examined for EBCDIC.
 const LOOKED_AT: usize = 80;
 
 const EBCDIC: &str = "this looks like EBCDIC: docs/OLD_PROGRAMS.md converts it";
@@ -82,7 +81,6 @@ pub fn is_object(bytes: &[u8]) -> bool {
     bytes.starts_with(OBJECT_NAME)
 }
 
-/// The hexadecimal digits.
 const HEX: &[u8; 16] = b"0123456789abcdef";
 
 const BAD_EBCDIC: &str = "byte {} isn't a character; {}";
@@ -93,7 +91,6 @@ const IN_ASCII: &str =
 
 const BAD_BYTE: &str = "byte {} isn't a character: characters run from blank to ~";
 
-/// Writes the digits of bytes, with a blank before each.
 fn write_digits(out: &mut TextWriter, bytes: &[u8]) {
     for byte in bytes {
         out.write_char(' ');

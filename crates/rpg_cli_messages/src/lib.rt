@@ -3,18 +3,18 @@
 #![tactic(auto)]
 
 mod bytes;
-mod card_lines;
 mod message;
 mod note;
 mod order;
+mod readable;
 mod shorthand;
 mod unmarked;
 mod whole;
 
 pub use bytes::{is_object, write_byte_cause};
-pub use card_lines::CardLines;
 pub use message::{
     card_diagnostic, marked, object_diagnostic, source_diagnostics, topic_of, write_reported,
 };
 pub use note::write_note;
-pub use rpg_cli_causes::{NearNames, SourceCards};
+pub use readable::{KnownFaults, Unread, count_unread};
+pub use rpg_cli_causes::{CardLines, NearNames, SourceCards};

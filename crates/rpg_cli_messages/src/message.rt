@@ -1,18 +1,22 @@
 //! The diagnostics for a rejected source.
 
 use crate::bytes::{is_object, write_byte_cause, write_long_line};
-use crate::card_lines::CardLines;
 use crate::order::{LaterCard, later_card, write_order};
+use crate::readable::{KnownFaults, Unread, count_unread};
 use crate::shorthand::write_shorthand;
 use crate::unmarked::write_unmarked;
 use crate::whole::{DeckSlip, Slip};
 use rpg_card_index::IndexedCards;
-use rpg_cli_causes::{NearNames, Root, SourceCards, root_of, write_cause};
-use rpg_cli_columns::{character_at, write_bad_columns, write_form_type};
+use rpg_cards::SpecCard;
+use rpg_cli_causes::{CardLines, NearNames, Root, SourceCards, definer, root_of, write_cause};
+use rpg_cli_columns::{
+    before_comma, capitalised, character_at, pointed_at, text_in, write_bad_columns,
+    write_form_type,
+};
 use rpg_cli_diagnostics::{Columns, Diagnostic, Diagnostics, Draft, FileName, Level};
 use rpg_cli_text::{TextWriter, Topic};
 use rpg_faults::{CardFault, SourceCode, SourceFaults};
-use rpg_sheet::{ColumnFault, SheetCode};
+use rpg_sheet::{Card, ColumnFault, SheetCode};
 use rpg_text::{is_character, trimmed};
 use std::alloc::{AllocError, Global};
 use std::collections::HashMap;
@@ -27,22 +31,22 @@ pub fn source_diagnostics<'a>(
     most: u16,
 ) -> Diagnostics<'a> {
     let faults = judged.faults.as_slice();
-    let most = if is_object(source) { most.min(1) } else { most };
-    let listed = faults.get(..usize::from(most)).unwrap_or(faults);
     let told = Told {
         alloc,
         file,
         source,
     };
     let mut out = Diagnostics::new(alloc);
-    if let (Some(slip), Some(first)) = (DeckSlip::of(source, faults), listed.first()) {
-        told.add_slip(&mut out, slip, topic_of(first.code));
-        return out;
+    match (DeckSlip::of(source, faults), faults) {
+        (Some(slip), [first, ..]) if most > 0 => {
+            told.add_slip(&mut out, slip, topic_of(first.code));
+        }
+        _ => {
+            if told.add_known(&mut out, judged, most).is_err() {
+                out.lose();
+            }
+        }
     }
-    if told.add_listed(&mut out, judged, listed).is_err() {
-        out.lose();
-    }
-    out.push(told.count(faults, most));
     out
 }
 
@@ -87,17 +91,37 @@ impl<'a> Told<'a> {
         }
     }
 
-    /// Adds the listed faults.
-    fn add_listed(
+    /// Adds all faults that are known, and how many there are.
+    fn add_known(
         self,
         out: &mut Diagnostics<'a>,
         judged: &SourceFaults,
-        listed: &[CardFault],
+        most: u16,
     ) -> Result<(), AllocError> {
-        let cards = IndexedCards::new(self.alloc, &judged.cards)?;
-        let near = NearNames::of(self.alloc, &judged.cards, listed)?;
-        let known = SourceCards::of(&cards, &near, self.source);
-        self.add_faults(out, known, listed)
+        let known = KnownFaults::of(self.alloc, self.source, judged)?;
+        let faults = known.faults(self.alloc)?;
+        let most = if is_object(self.source) {
+            most.min(1)
+        } else {
+            most
+        };
+        let listed = faults.get(..usize::from(most)).unwrap_or(&faults);
+        self.add_listed(out, known.cards(), listed)?;
+        let mut draft = Draft::note(self.alloc, self.file.whole());
+        write_count(&mut draft.message, &faults, known.unread, most);
+        out.push(draft.finish());
+        Ok(())
+    }
+
+    fn add_listed(
+        self,
+        out: &mut Diagnostics<'a>,
+        cards: &[SpecCard],
+        listed: &[&CardFault],
+    ) -> Result<(), AllocError> {
+        let near = NearNames::of(self.alloc, cards, listed)?;
+        let cards = IndexedCards::new(self.alloc, cards)?;
+        self.add_faults(out, SourceCards::of(&cards, &near, self.source), listed)
     }
 
     /// Adds faults in the order of their cards, and notes the mistakes that caused them.
@@ -105,7 +129,7 @@ impl<'a> Told<'a> {
         self,
         out: &mut Diagnostics<'a>,
         known: SourceCards<'_>,
-        faults: &[CardFault],
+        faults: &[&CardFault],
     ) -> Result<(), AllocError> {
         let mut mistakes = HashMap::new(self.alloc);
         let mut lines = CardLines::of(self.source);
@@ -188,13 +212,6 @@ impl<'a> Told<'a> {
         }
         draft
     }
-
-    /// Returns the note on how many faults there are, and how many are shown.
-    fn count(self, faults: &[CardFault], most: u16) -> Result<Diagnostic<'a>, AllocError> {
-        let mut draft = Draft::note(self.alloc, self.file.whole());
-        write_count(&mut draft.message, faults, most);
-        draft.finish()
-    }
 }
 
 /// Returns the topic of a code.
@@ -268,7 +285,8 @@ pub(crate) fn columns_of(line: &[u8], fault: &CardFault) -> Option<ColumnFault> 
             Some(column(number))
         }
         SourceCode::Sheet(SheetCode::S3 | SheetCode::S4) => Some(column(6)),
-        SourceCode::Sheet(SheetCode::S5) | SourceCode::Fault(_) => fault.columns,
+        SourceCode::Sheet(SheetCode::S5) => Some(pointed_at(line, fault.columns?)),
+        SourceCode::Fault(_) => fault.columns,
         SourceCode::Sheet(SheetCode::S6) => None,
     }
 }
@@ -346,9 +364,42 @@ fn write_unread(
             let later = later_card(source.text, fault.card, line);
             write_order(&mut draft.message, later);
         }
-        (SheetCode::S5, Some(columns)) => write_bad_columns(draft, line, columns),
+        (SheetCode::S5, Some(columns)) => {
+            write_bad_columns(draft, line, columns);
+            add_capitals(draft, source, line, fault.card, columns);
+        }
         (SheetCode::S5, None) => {}
         (SheetCode::S6, _) => draft.message.write_str("a source has at most 2,000 cards"),
+    }
+}
+
+/// Returns a card, if it can be read.
+fn card_of(line: &[u8; 80], number: u16) -> Option<SpecCard> {
+    let card = Card::new(line);
+    let spec = card.read(card.form_type()?).ok()?;
+    Some(SpecCard { number, spec })
+}
+
+/// Adds which name is meant by one in small letters, if the card or another one defines it.
+fn add_capitals(
+    draft: &mut Draft<'_>,
+    source: SourceCards<'_>,
+    line: &[u8],
+    number: u16,
+    columns: ColumnFault,
+) {
+    let Some(capitals) = capitalised(line, columns) else {
+        return;
+    };
+    let name = before_comma(text_in(&capitals, columns));
+    let own = match card_of(&capitals, number) {
+        Some(card) => definer(&[card], name).is_some(),
+        None => false,
+    };
+    if own || definer(source.cards.as_slice(), name).is_some() {
+        let mut remark = draft.text();
+        remark.fill_one("is {} meant?", name);
+        draft.remark(remark);
     }
 }
 
@@ -358,32 +409,30 @@ fn write_bad_byte(draft: &mut Draft<'_>, line: &[u8]) {
     }
 }
 
-/// Whether some cards can't be read, so that other faults aren't known.
-fn are_unread(faults: &[CardFault]) -> bool {
-    for fault in faults {
-        if matches!(fault.code, SourceCode::Sheet(_)) {
-            return true;
-        }
+/// Writes how many cards can't be read and how many faults there are, how many of them are shown, and which faults aren't known.
+fn write_count(out: &mut TextWriter, faults: &[&CardFault], left: Unread, most: u16) {
+    let unread = count_unread(faults);
+    let others = faults.len().saturating_sub(unread);
+    match (unread, others) {
+        (0, _) => {}
+        (1, 0) if most > 0 => out.write_str("this card can't be read"),
+        (1, _) => out.write_str("1 card can't be read"),
+        _ => out.fill_one("{} cards can't be read", unread),
     }
-    false
-}
-
-/// Writes how many faults there are, and how many are shown.
-fn write_count(out: &mut TextWriter, faults: &[CardFault], most: u16) {
-    let count = faults.len();
-    let are_unread = are_unread(faults);
-    let sentence = match (are_unread, count) {
-        (true, 1) if most == 0 => "1 card can't be read",
-        (true, 1) => "this card can't be read",
-        (true, _) => "{} cards can't be read",
-        (false, 1) => "1 fault",
-        (false, _) => "{} faults",
-    };
-    out.fill(sentence, &[count.into()]);
-    if count > usize::from(most) {
+    if unread > 0 && others > 0 {
+        out.write_str(", ");
+    }
+    match (unread, others) {
+        (_, 1) => out.write_str("1 fault"),
+        (0, _) | (_, 2..) => out.fill_one("{} faults", others),
+        _ => {}
+    }
+    if faults.len() > usize::from(most) {
         write_reported(out, most);
     }
-    out.write_str(later_checks(are_unread, count));
+    if unread > 0 {
+        left.write_left_out(out, unread == 1);
+    }
 }
 
 /// Writes how many of the faults are listed.
@@ -393,13 +442,4 @@ pub fn write_reported(out: &mut TextWriter, most: u16) {
         _ => ", {} of them shown",
     };
     out.fill(sentence, &[most.into()]);
-}
-
-/// Returns that other checks run later, if some cards can't be read.
-fn later_checks(are_unread: bool, count: usize) -> &'static str {
-    match (are_unread, count) {
-        (true, 1) => "; other checks run once it can",
-        (true, _) => "; other checks run once they can",
-        (false, _) => "",
-    }
 }

@@ -1,10 +1,10 @@
 //! S4: a card of a later sheet before this one.
 
+use rpg_cli_causes::CardLines;
 use rpg_cli_columns::character_at;
 use rpg_cli_text::TextWriter;
 use rpg_sheet::sheet_place;
 use rpg_sheet_values::form_type_of;
-use rpg_text::first_line;
 
 /// An earlier card, and its form type.
 #[derive(Clone, Copy, PartialEq, Eq, Hash)]
@@ -24,20 +24,12 @@ fn place_of(line: &[u8]) -> Option<u8> {
 /// Returns the first earlier card that is of a later sheet.
 pub(crate) fn later_card(text: &[u8], number: u16, line: &[u8]) -> Option<LaterCard> {
     let own = place_of(line)?;
-    let mut rest = text;
+    let mut lines = CardLines::of(text);
     for card in 1..number {
-        if rest.is_empty() {
-            return None;
-        }
-        let (other, following) = first_line(rest);
-        match place_of(other) {
-            Some(place) if place > own => {
-                return Some(LaterCard {
-                    card,
-                    form: character_at(other, 6),
-                });
-            }
-            _ => rest = following,
+        let other = lines.line_of(card);
+        if matches!(place_of(other), Some(place) if place > own) {
+            let form = character_at(other, 6);
+            return Some(LaterCard { card, form });
         }
     }
     None
@@ -46,10 +38,9 @@ pub(crate) fn later_card(text: &[u8], number: u16, line: &[u8]) -> Option<LaterC
 /// Writes that a card comes after one of a later sheet.
 pub(crate) fn write_order(out: &mut TextWriter, later: Option<LaterCard>) {
     match later {
-        Some(LaterCard { card, form }) => out.fill(
-            "card {} is of a later sheet, {}",
-            &[card.into(), [form].as_slice().into()],
-        ),
+        Some(LaterCard { card, form }) => {
+            out.fill_two("card {} is of a later sheet, {}", card, [form].as_slice());
+        }
         None => out.write_str("a card of a later sheet stands before this one"),
     }
     out.write_str(": the sheets come in the order H, F, E, I, C, O");

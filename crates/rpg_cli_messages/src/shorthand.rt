@@ -1,19 +1,16 @@
 //! Shorthand given as a source.
 
+use rpg_cli_causes::CardLines;
 use rpg_cli_shorthand::is_shorthand;
 use rpg_cli_text::TextWriter;
 use rpg_sheet::Card;
-use rpg_text::{first_line, has_only_characters};
+use rpg_text::has_only_characters;
 
-/// The columns of a card.
 const COLUMNS: usize = 80;
 
 /// Whether S3 rejects a line that comes before all data.
 fn lacks_form_type(line: &[u8]) -> bool {
-    if line.len() > COLUMNS {
-        return false;
-    }
-    if !has_only_characters(line) {
+    if line.len() > COLUMNS || !has_only_characters(line) {
         return false;
     }
     let card = Card::new(line);
@@ -22,16 +19,11 @@ fn lacks_form_type(line: &[u8]) -> bool {
 
 /// Whether S3 rejects no card before one of them, which it rejects.
 fn is_first(text: &[u8], number: u16) -> bool {
-    let mut rest = text;
-    for _ in 1..number {
-        if rest.is_empty() {
-            return true;
-        }
-        let (line, following) = first_line(rest);
-        if lacks_form_type(line) {
+    let mut lines = CardLines::of(text);
+    for card in 1..number {
+        if lacks_form_type(lines.line_of(card)) {
             return false;
         }
-        rest = following;
     }
     true
 }

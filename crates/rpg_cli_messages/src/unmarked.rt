@@ -1,10 +1,11 @@
 //! Data without a `**` card before it.
 
+use rpg_cli_causes::CardLines;
 use rpg_cli_columns::{character_at, has_card_number};
 use rpg_cli_shorthand::{begins_data, ends_source};
 use rpg_cli_text::TextWriter;
 use rpg_sheet::MOST_CARDS;
-use rpg_text::{first_line, is_blank};
+use rpg_text::is_blank;
 
 /// The tables and lines of a source.
 #[derive(Clone, Copy)]
@@ -48,17 +49,13 @@ impl Tally {
             begun: 0,
             last_line: 0,
         };
-        let mut rest = text;
+        let mut lines = CardLines::of(text);
         for card in 1..=MOST_CARDS {
-            if rest.is_empty() {
-                break;
-            }
-            let (line, following) = first_line(rest);
+            let line = lines.line_of(card);
             if ends_source(line) {
                 break;
             }
             tally.note(card, line);
-            rest = following;
         }
         tally
     }

@@ -1,13 +1,13 @@
 //! Slips that all cards of a source have: the form type stands in another column, or all are in small letters; and sources of RPG IV.
 
+use rpg_cli_causes::CardLines;
 use rpg_cli_columns::character_at;
 use rpg_cli_diagnostics::{Columns, Draft};
 use rpg_cli_shorthand::{begins_data, ends_source, is_shorthand};
 use rpg_faults::{CardFault, SourceCode};
 use rpg_sheet::{MOST_CARDS, SheetCode};
-use rpg_text::{first_line, is_blank};
+use rpg_text::is_blank;
 
-/// The column of the form type.
 const FORM_TYPE: usize = 6;
 
 /// The last column in which a form type is looked for.
@@ -17,7 +17,7 @@ const LAST: usize = 46;
 const LEAST: usize = 3;
 
 /// A slip that all cards of a source have.
-#[derive(Clone, Copy)]
+#[derive(Clone, Copy, PartialEq, Eq)]
 pub(crate) enum Slip {
     /// The form type stands in this column.
     Moved { column: usize },
@@ -36,13 +36,9 @@ pub(crate) struct DeckSlip {
 
 /// Whether a source begins with the word of free-form RPG IV.
 fn is_free(source: &[u8]) -> bool {
-    match source.get(..6) {
-        Some(word) => word.eq_ignore_ascii_case(b"**FREE"),
-        None => false,
-    }
+    matches!(source.get(..6), Some(word) if word.eq_ignore_ascii_case(b"**FREE"))
 }
 
-/// Counts the faults of form types.
 fn count_form_types(faults: &[CardFault]) -> usize {
     let mut count = 0usize;
     for fault in faults {
@@ -83,49 +79,38 @@ fn slip_of(line: &[u8]) -> Option<Slip> {
 }
 
 impl Slip {
-    /// Whether it is that of another card.
-    fn is_same(self, other: Slip) -> bool {
-        match (self, other) {
-            (Slip::SmallLetters, Slip::SmallLetters) => true,
-            (Slip::Moved { column }, Slip::Moved { column: other }) => column == other,
-            _ => false,
+    /// Returns the column that it is about.
+    fn column(self) -> usize {
+        match self {
+            Slip::Moved { column } => column,
+            Slip::SmallLetters => FORM_TYPE,
+            Slip::Free => 1,
         }
     }
 
     /// Whether a line is a comment once its card is where it belongs.
     fn is_comment(self, line: &[u8]) -> bool {
-        let column = match self {
-            Slip::Moved { column } => column,
-            _ => FORM_TYPE,
-        };
-        character_at(line, column.saturating_add(1)) == b'*'
+        character_at(line, self.column().saturating_add(1)) == b'*'
     }
 }
 
 /// Returns the slip that all cards before the data have.
 fn common_slip(source: &[u8]) -> Option<DeckSlip> {
     let mut found: Option<DeckSlip> = None;
-    let mut rest = source;
-    for number in 1..=MOST_CARDS {
-        if rest.is_empty() {
-            break;
-        }
-        let (line, following) = first_line(rest);
-        rest = following;
+    let mut lines = CardLines::of(source);
+    for first in 1..=MOST_CARDS {
+        let line = lines.line_of(first);
         if begins_data(line) || ends_source(line) {
             break;
         }
         if is_blank(line) {
             continue;
         }
-        found = match (found, slip_of(line)) {
+        let slip = slip_of(line);
+        found = match (found, slip) {
             (Some(deck), _) if deck.slip.is_comment(line) => Some(deck),
-            (None, Some(slip)) => Some(DeckSlip {
-                slip,
-                first: number,
-                cards: 1,
-            }),
-            (Some(deck), Some(slip)) if deck.slip.is_same(slip) => Some(DeckSlip {
+            (None, Some(slip)) => Some(DeckSlip::at(slip, first)),
+            (Some(deck), Some(slip)) if deck.slip == slip => Some(DeckSlip {
                 cards: deck.cards.saturating_add(1),
                 ..deck
             }),
@@ -136,14 +121,16 @@ fn common_slip(source: &[u8]) -> Option<DeckSlip> {
 }
 
 impl DeckSlip {
+    /// The slip of one card.
+    fn at(slip: Slip, first: u16) -> Self {
+        let cards = 1;
+        DeckSlip { slip, first, cards }
+    }
+
     /// Returns the slip of a source with these faults, if all its cards have one.
     pub fn of(source: &[u8], faults: &[CardFault]) -> Option<DeckSlip> {
         if is_free(source) {
-            return Some(DeckSlip {
-                slip: Slip::Free,
-                first: 1,
-                cards: 1,
-            });
+            return Some(DeckSlip::at(Slip::Free, 1));
         }
         let count = count_form_types(faults);
         if count < LEAST {
@@ -153,39 +140,26 @@ impl DeckSlip {
         (LEAST <= found.cards && found.cards <= count).then_some(found)
     }
 
-    /// Returns the column that it is about.
     pub fn columns(self) -> Columns {
-        let column = match self.slip {
-            Slip::Moved { column } => column,
-            Slip::SmallLetters => FORM_TYPE,
-            Slip::Free => 1,
-        };
-        Columns {
-            first: column,
-            last: column,
-        }
+        let first = self.slip.column();
+        Columns { first, last: first }
     }
 
     /// Writes what it is, and adds the command that mends a file.
     pub fn write(self, draft: &mut Draft<'_>) {
-        match self.slip {
-            Slip::Moved { column } => draft.message.fill_two(
-                "on all {} cards the form type stands in column {}: it belongs in column 6",
-                self.cards,
-                column,
-            ),
-            Slip::SmallLetters => draft.message.fill_one(
-                "all {} cards are in small letters: rpg2 reads capitals",
-                self.cards,
-            ),
-            Slip::Free => draft.message.write_str(
-                "this is RPG IV (**FREE), which rpg2 doesn't read: it reads RPG II",
-            ),
-        }
-        if let Some(path) = draft.path() {
-            if path != "-" {
-                self.add_command(draft, path);
+        let sentence = match self.slip {
+            Slip::Moved { .. } => {
+                "on all {} cards the form type stands in column {}: it belongs in column 6"
             }
+            Slip::SmallLetters => "all {} cards are in small letters: rpg2 reads capitals",
+            Slip::Free => "this is RPG IV (**FREE), which rpg2 doesn't read: it reads RPG II",
+        };
+        draft
+            .message
+            .fill_two(sentence, self.cards, self.slip.column());
+        match draft.path() {
+            Some(path) if path != "-" => self.add_command(draft, path),
+            _ => {}
         }
     }
 

@@ -3,7 +3,9 @@
 use rpg_cli_answers::{Answer, CommandStop, Listener, file_of, named, source_bytes, tell_made};
 use rpg_cli_diagnostics::FileName;
 use rpg_cli_messages::{card_diagnostic, is_object, object_diagnostic};
-use rpg_cli_shorthand::{RULER, ShorthandFault, deck_of, line_diagnostic, shorthand_of};
+use rpg_cli_shorthand::{
+    RULER, ShorthandFault, are_cards, deck_of, line_diagnostic, ruled_of, shorthand_of,
+};
 use rpg_cli_words::{CardsWanted, FileArgument, Request};
 use rpg_faults::{CardFault, SourceFault};
 use std::alloc::Global;
@@ -31,14 +33,15 @@ fn deck_text<L: Listener>(
     }
 }
 
-/// Converts cards to shorthand. Reports the first one that isn't a card.
-fn shorthand_text<L: Listener>(
+/// Returns what cards are made. Reports the first one that isn't a card.
+fn made_text<L: Listener>(
     alloc: Global,
     file: FileName<'_>,
     source: &[u8],
+    made: Result<String, SourceFault>,
     listener: &mut L,
 ) -> Result<String, Answer> {
-    match shorthand_of(alloc, source) {
+    match made {
         Ok(text) => Ok(text),
         Err(fault) => {
             report_card(alloc, file, source, fault, listener);
@@ -71,7 +74,7 @@ fn report_card<L: Listener>(
     tell_made(listener, card_diagnostic(alloc, file, source, &fault));
 }
 
-/// Converts a file to cards or shorthand, as the arguments ask.
+/// Converts a file to cards or shorthand, or rules its cards, as the arguments ask.
 fn wanted_text<L: Listener>(
     alloc: Global,
     request: &Request,
@@ -79,23 +82,14 @@ fn wanted_text<L: Listener>(
     listener: &mut L,
 ) -> Result<String, Answer> {
     let file = file_of(request, FileArgument::Source);
-    match request.cards {
-        CardsWanted::Cards | CardsWanted::RuledCards => deck_text(alloc, file, source, listener),
-        CardsWanted::Shorthand => shorthand_text(alloc, file, source, listener),
-    }
-}
-
-/// Prints cards, below a ruler if the arguments ask for one, or shorthand.
-fn show_text<L: Listener>(
-    request: &Request,
-    text: &str,
-    listener: &mut L,
-) -> Result<Answer, CommandStop> {
-    if let CardsWanted::RuledCards = request.cards {
-        listener.show(RULER)?;
-    }
-    listener.show(text)?;
-    Ok(Answer::Deck)
+    let made = match request.cards {
+        CardsWanted::RuledCards if are_cards(source) => ruled_of(alloc, source),
+        CardsWanted::Cards | CardsWanted::RuledCards => {
+            return deck_text(alloc, file, source, listener);
+        }
+        CardsWanted::Shorthand => shorthand_of(alloc, source),
+    };
+    made_text(alloc, file, source, made, listener)
 }
 
 /// Prints the cards of a shorthand file, or the shorthand of a file of cards.
@@ -106,5 +100,9 @@ pub fn cards_file<R: Files + Input + AllocGlobal, L: Listener>(
 ) -> Result<Answer, CommandStop> {
     let source = named(FileArgument::Source, source_bytes(rt, request.source()))?;
     let text = wanted_text(rt.alloc(), request, &source, listener)?;
-    show_text(request, text.as_str(), listener)
+    if matches!(request.cards, CardsWanted::RuledCards) && !are_cards(&source) {
+        listener.show(RULER)?;
+    }
+    listener.show(text.as_str())?;
+    Ok(Answer::Deck)
 }

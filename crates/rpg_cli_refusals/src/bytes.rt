@@ -3,7 +3,7 @@
 use crate::fields::counted;
 use crate::spot::{Spot, spot_at};
 use rpg_cli_diagnostics::{At, Diagnostic, Draft, FileName, Level, Place};
-use rpg_cli_text::{TextWriter, Topic};
+use rpg_cli_text::{TextWriter, Topic, topic_of};
 use rpg_object_format::fault::Code;
 use rpg_text::first_line;
 use std::alloc::{AllocError, Global};
@@ -11,10 +11,8 @@ use std::alloc::{AllocError, Global};
 const SOURCE: &str =
     ": this is a source: compile it first with rpg2 compile, or run it with rpg2 go";
 
-/// The most bytes of a value that are shown.
 const MOST_SHOWN: usize = 32;
 
-/// The hexadecimal digits.
 const HEX: &[u8; 16] = b"0123456789abcdef";
 
 /// Whether columns 1 to 5 of a card may be its number: blanks and digits.
@@ -42,7 +40,6 @@ fn begins_source(bytes: &[u8]) -> bool {
     is_card && is_numbering(line.get(..5).unwrap_or(&[]))
 }
 
-/// Writes what was expected at an offset.
 fn write_wanted(out: &mut TextWriter, spot: Spot) {
     out.write_str(spot.name);
     if let Some(row) = spot.row.number {
@@ -92,18 +89,6 @@ fn write_spot(out: &mut TextWriter, bytes: &[u8], offset: usize) {
     }
 }
 
-fn topic_of(code: Code) -> Topic {
-    Topic::Bytes(match code {
-        Code::NoObject => 1,
-        Code::Version => 2,
-        Code::CutShort => 3,
-        Code::LeftOver => 4,
-        Code::NotAllowed => 5,
-        Code::Unused => 6,
-        Code::PastLimit => 7,
-    })
-}
-
 /// Returns the diagnostic for bytes that aren't an object program: the code's sentence, what was expected at the offset, and what is there;
 /// for a source, that it must be compiled first.
 pub fn bytes_diagnostic<'a>(
@@ -113,7 +98,7 @@ pub fn bytes_diagnostic<'a>(
     offset: usize,
     code: Code,
 ) -> Result<Diagnostic<'a>, AllocError> {
-    let topic = topic_of(code);
+    let topic = topic_of(code.text()).unwrap_or(Topic::Bytes(1));
     let at = At::Offset(offset as u64);
     let mut draft = Draft::new(alloc, Level::Error, Some(Place { file, at }), Some(topic));
     draft.message.write_str(topic.sentence());

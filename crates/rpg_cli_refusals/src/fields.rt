@@ -6,12 +6,10 @@ use rpg_program::forms::form_at;
 use rpg_program::operation::{Index, Operand};
 use rpg_program::rows::Rows;
 
-/// Returns the noun for a count: the singular or the plural.
 pub(crate) fn counted(count: usize, one: &'static str, more: &'static str) -> &'static str {
     if count == 1 { one } else { more }
 }
 
-/// Writes an indicator by its name on cards.
 pub(crate) fn write_indicator(out: &mut TextWriter, indicator: u8) {
     match indicator_name(indicator) {
         Some(name) => out.write_str(name),

@@ -15,10 +15,8 @@ pub(crate) const HEADER: &str = "6 the name RPGOBJ
 2 the count of total instructions, at most 8,192 with those before,
 2 the count of subroutines, at most 100,";
 
-/// The header's last part in version 1.
 pub(crate) const HEADER_END: &str = "2 a number that is always 0";
 
-/// The header's last part in version 2.
 pub(crate) const HEADER_END_2: &str = "2 the length of a secondary record, 0 to 9,999,";
 
 pub(crate) const FIELD: &str = "1 the kind, 1 or 2,
@@ -77,7 +75,6 @@ pub(crate) const LINE: &str = "1 the file, 1 or 2,
 
 pub(crate) const ALTERNATIVE: &str = "2 the count of an alternative's conditions, at most 60,";
 
-/// The two bytes of a condition.
 pub(crate) const CONDITION: &str = "1 a condition of an alternative
 1 a condition of an alternative";
 

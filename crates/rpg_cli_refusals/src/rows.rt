@@ -26,17 +26,8 @@ fn write_line(out: &mut TextWriter, rows: &Rows, row: usize) {
         File::Disk => "of the disk file",
     };
     let length = usize::from(rows.file_length(line.file));
-    let unit = counted(length, "place", "places");
-    out.fill(
-        ": line {}, {} {}, of {} {}",
-        &[
-            row.into(),
-            time.into(),
-            file.into(),
-            length.into(),
-            unit.into(),
-        ],
-    );
+    out.fill_three(": line {}, {} {}", row, time, file);
+    out.fill_two(", of {} {}", length, counted(length, "place", "places"));
 }
 
 /// Writes the instruction at a place, counted through the whole program.
@@ -44,17 +35,14 @@ pub fn write_instruction_at(out: &mut TextWriter, program: &Program, place: usiz
     if let Some(placed) = placed_at(program, place) {
         let span = placed.span;
         let (sentence, number): (&str, u16) = match span.section {
-            Section::Detail => ("the {} at place {} of the detail calculations", 0),
-            Section::Total => ("the {} at place {} of the total calculations", 0),
-            Section::Subroutine(number) => {
-                ("the {} at place {} of subroutine {}, of level {}", number)
-            }
+            Section::Detail => (" at place {} of the detail calculations", 0),
+            Section::Total => (" at place {} of the total calculations", 0),
+            Section::Subroutine(number) => (" at place {} of subroutine {}, of level {}", number),
         };
-        let name = placed.instruction.name();
-        out.fill(
-            sentence,
-            &[name.into(), place.into(), number.into(), span.level.into()],
-        );
+        let pieces = [place.into(), number.into(), span.level.into()];
+        out.write_str("the ");
+        out.write_str(placed.instruction.name());
+        out.fill(sentence, &pieces);
     }
 }
 
@@ -71,10 +59,7 @@ pub(crate) fn write_subroutine(out: &mut TextWriter, rows: &Rows, row: usize) {
     };
     let count = subroutine.instructions.len();
     let unit = counted(count, "instruction", "instructions");
-    out.fill(
-        ", of {} {}, the last {}",
-        &[count.into(), unit.into(), last.name().into()],
-    );
+    out.fill_three(", of {} {}, the last {}", count, unit, last.name());
     if let Instruction::Return { subroutine } = *last {
         out.fill(" of subroutine {}", &[subroutine.into()]);
     }

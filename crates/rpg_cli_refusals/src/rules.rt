@@ -24,11 +24,7 @@ pub fn rule_diagnostic<'a>(
     let mut draft = Draft::new(alloc, Level::Error, Some(Place { file, at }), Some(topic));
     draft.message.write_str(topic.sentence());
     write_row(&mut draft.message, program, broken);
-    write_cause(
-        &mut draft.message,
-        program.rows(),
-        broken.row,
-        refusal.cause,
-    );
+    let rows = program.rows();
+    write_cause(&mut draft.message, rows, broken.row, refusal.cause);
     Ok(Some(draft.finish()?))
 }

@@ -26,7 +26,8 @@ fn row_of(table: &'static str, number: usize) -> TableRow {
     TableRow { table, number }
 }
 
-/// The bytes, the offset to find, how far the tables have been walked, and the part at the offset, once it is found. The walk ends there.
+/// The bytes, the offset to find, how far the tables have been walked, and the part at the offset. Once it is found, nothing is passed, and
+/// all numbers are 0, so that the walk ends.
 #[derive(Clone, Copy)]
 struct Walk<'a> {
     bytes: &'a [u8],
@@ -38,11 +39,11 @@ struct Walk<'a> {
 impl Walk<'_> {
     /// Returns the two-byte number at a place; 0 if a byte is missing.
     fn number(&self, place: usize) -> usize {
-        match (
-            self.bytes.get(place),
-            self.bytes.get(place.saturating_add(1)),
-        ) {
-            (Some(high), Some(low)) => usize::from(*high) * 256 + usize::from(*low),
+        let high = self.bytes.get(place);
+        match (high, self.bytes.get(place.saturating_add(1))) {
+            (Some(high), Some(low)) if self.found.is_none() => {
+                usize::from(*high) * 256 + usize::from(*low)
+            }
             _ => 0,
         }
     }
@@ -63,32 +64,40 @@ impl Walk<'_> {
     /// Passes a part of a row, or stops in it.
     fn pass(&mut self, name: &'static str, bytes: usize, row: TableRow) {
         let end = self.at.saturating_add(bytes);
-        if self.found.is_none() {
-            if self.offset < end {
-                self.found = Some(Spot { name, bytes, row });
-            } else {
-                self.at = end;
-            }
+        if self.offset < end {
+            self.found = Some(Spot { name, bytes, row });
+        } else {
+            self.at = end;
         }
     }
 
-    /// Passes parts of a row, or stops in one.
     fn pass_parts(&mut self, parts: &'static str, row: TableRow) {
         for part in parts.lines() {
-            if let Some((bytes, name)) = part.split_once(' ') {
+            if let (None, Some((bytes, name))) = (self.found, part.split_once(' ')) {
                 self.pass(name, bytes.parse().unwrap_or(1), row);
             }
         }
     }
 
-    /// Passes parts that a row has `count` times.
     fn pass_all(&mut self, count: usize, parts: &'static str, row: TableRow) {
         for _ in 0..count {
-            if self.found.is_some() {
-                break;
-            }
             self.pass_parts(parts, row);
         }
+    }
+
+    /// Passes `count` rows of a table, numbered from `first`. Returns the number after them.
+    fn pass_rows(
+        &mut self,
+        table: &'static str,
+        first: usize,
+        count: usize,
+        parts: &'static str,
+    ) -> usize {
+        let end = first.saturating_add(count);
+        for number in first..end {
+            self.pass_parts(parts, row_of(table, number));
+        }
+        end
     }
 
     fn pass_header(&mut self) {
@@ -104,12 +113,11 @@ impl Walk<'_> {
         self.pass_parts(end, header);
     }
 
-    fn pass_fields(&mut self) {
-        for field in 1..=self.number(18) {
-            if self.found.is_some() {
-                break;
+    fn pass_entries(&mut self, count: usize, length: usize, row: TableRow) {
+        for _ in 0..count {
+            if self.found.is_none() {
+                self.pass("a first value", length, row);
             }
-            self.pass_parts(FIELD, row_of("field", field));
         }
     }
 
@@ -117,31 +125,16 @@ impl Walk<'_> {
     fn pass_values(&mut self) {
         let mut row: usize = 32;
         for field in 1..=self.number(18) {
-            if self.found.is_some() {
-                break;
-            }
-            let length = self.number(row.saturating_add(2));
-            let entries = self.number(row.saturating_add(6));
+            let length = self.number_in(row, 2);
+            let entries = self.number_in(row, 6);
             self.pass_entries(entries, length, row_of("field", field));
             row = row.saturating_add(8);
-        }
-    }
-
-    fn pass_entries(&mut self, count: usize, length: usize, row: TableRow) {
-        for _ in 0..count {
-            if self.found.is_some() {
-                break;
-            }
-            self.pass("a first value", length, row);
         }
     }
 
     /// Passes the record types. Version 1 has no match fields.
     fn pass_types(&mut self) {
         for number in 0..self.number(20) {
-            if self.found.is_some() {
-                break;
-            }
             let row = row_of("record type", number);
             let begin = self.at;
             let (parts, matches) = match self.version() {
@@ -158,9 +151,6 @@ impl Walk<'_> {
 
     fn pass_alternatives(&mut self, count: usize, row: TableRow) {
         for _ in 0..count {
-            if self.found.is_some() {
-                break;
-            }
             let conditions = self.number_in(self.at, 0);
             self.pass_parts(ALTERNATIVE, row);
             self.pass_all(conditions, CONDITION, row);
@@ -169,9 +159,6 @@ impl Walk<'_> {
 
     fn pass_lines(&mut self) {
         for number in 0..self.number(22) {
-            if self.found.is_some() {
-                break;
-            }
             let row = row_of("line", number);
             let begin = self.at;
             self.pass_parts(LINE, row);
@@ -180,25 +167,15 @@ impl Walk<'_> {
         }
     }
 
-    /// Passes `count` instructions, numbered from `first`. Returns the number after them.
+    /// Passes instructions, which are numbered through all sections.
     fn pass_code(&mut self, count: usize, first: usize) -> usize {
-        let end = first.saturating_add(count);
-        for place in first..end {
-            if self.found.is_some() {
-                break;
-            }
-            self.pass_parts(INSTRUCTION, row_of("instruction", place));
-        }
-        end
+        self.pass_rows("instruction", first, count, INSTRUCTION)
     }
 
     fn pass_calculations(&mut self) {
         let total = self.pass_code(self.number(24), 0);
         let mut first = self.pass_code(self.number(26), total);
         for number in 0..self.number(28) {
-            if self.found.is_some() {
-                break;
-            }
             let count = self.number_in(self.at, 2);
             self.pass_parts(SUBROUTINE, row_of("subroutine", number));
             first = self.pass_code(count, first);
@@ -215,7 +192,7 @@ pub(crate) fn spot_at(bytes: &[u8], offset: usize) -> Option<Spot> {
         found: None,
     };
     walk.pass_header();
-    walk.pass_fields();
+    let _ = walk.pass_rows("field", 1, walk.number(18), FIELD);
     walk.pass_values();
     walk.pass_types();
     walk.pass_lines();

@@ -52,10 +52,59 @@ fn write_bad_date(out: &mut TextWriter, request: &Request) {
         out.write_str("--date today: the system's clock can't be read");
         return;
     }
-    out.fill_one(
-        "--date needs six digits, such as 112676, or today, today-dmy or today-ymd; it was '{}'",
-        request.date_text().as_bytes(),
-    );
+    let text = request.date_text().as_bytes();
+    match six_digits(text) {
+        Some((date, other)) => {
+            out.fill_one("--date needs six digits: give --date {}", date.as_slice());
+            if let Some(other) = other {
+                out.fill_one(" or {}", other.as_slice());
+            }
+        }
+        None => out.fill_one(BAD_DATE, text),
+    }
+}
+
+const BAD_DATE: &str =
+    "--date needs six digits, such as 112676, or today, today-dmy or today-ymd; it was '{}'";
+
+/// Whether digits are a month, a day and a year of two digits.
+fn is_date(digits: [u8; 6]) -> bool {
+    let [m, n, d, e, ..] = digits;
+    let days = match [m, n] {
+        [b'0', b'2'] => *b"29",
+        [b'0', b'4' | b'6' | b'9'] | [b'1', b'1'] => *b"30",
+        [b'0', b'1'..=b'9'] | [b'1', b'0'..=b'2'] => *b"31",
+        _ => return false,
+    };
+    [d, e] != *b"00" && [d, e] <= days
+}
+
+fn are_digits(text: &[u8]) -> bool {
+    for byte in text {
+        if !byte.is_ascii_digit() {
+            return false;
+        }
+    }
+    true
+}
+
+/// Returns a date with dashes or points in six digits: month, day and year; and of one with points, whose day comes first, day, month and
+/// year too.
+fn six_digits(text: &[u8]) -> Option<([u8; 6], Option<[u8; 6]>)> {
+    let (century, date, other) = match *text {
+        [c, f, y, z, b'-', m, n, b'-', d, e] => ([c, f], [m, n, d, e, y, z], None),
+        [d, e, b'.', m, n, b'.', c, f, y, z] => (
+            [c, f],
+            [m, n, d, e, y, z],
+            Some([d, e, m, n, y, z]),
+        ),
+        _ => return None,
+    };
+    if are_digits(&century) && are_digits(&date) && is_date(date) {
+        Some((date, other))
+    } else {
+        None
+    }
 }
 
 /// A file that failed: its argument, and the reason that the system gave.
@@ -110,8 +159,27 @@ fn answer_diagnostic<'a>(
         return draft.finish();
     };
     let mut draft = Draft::error(alloc, file_of(request, failed.argument).whole());
-    write_failed(&mut draft.message, answer, failed);
+    if let Answer::File {
+        fault: FileFault::Beside(Reason::Taken),
+        ..
+    } = answer
+    {
+        write_taken(&mut draft, failed.argument.name());
+    } else {
+        write_failed(&mut draft.message, answer, failed);
+    }
     draft.finish()
+}
+
+/// Writes that all names of a new file beside another are taken, and adds what to do.
+fn write_taken(draft: &mut Draft<'_>, role: &str) {
+    let path = draft.path().unwrap_or("").as_bytes();
+    let out = &mut draft.message;
+    out.fill_one("no new file can be made beside {}: ", role);
+    out.fill_two("{}.0.new to {}.9999.new exist", path, path);
+    let mut remark = draft.text();
+    remark.write_str("remove them if no run is going on");
+    draft.remark(remark);
 }
 
 /// Prints a diagnostic, if it has a message.

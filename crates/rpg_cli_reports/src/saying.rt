@@ -159,7 +159,11 @@ pub fn conclude<W: Write, L: Listener>(
     ensures { PrintsALine (W.contents out.old) (W.contents out.new) result }
 {
     let outlet = Outlet::of(request);
-    let AnswerArguments { is_quiet, format } = request.answer;
+    let AnswerArguments {
+        is_quiet,
+        format,
+        ..
+    } = request.answer;
     if outlet.is_error {
         report_answer(alloc, request, answer, reasons, listener);
         listener.end();

@@ -8,7 +8,6 @@ use rpg_sheet::MOST_CARDS;
 use rpg_text::{first_line, has_only_characters, trimmed};
 use std::alloc::Global;
 
-/// The columns of a card.
 const COLUMNS: usize = 80;
 
 pub(crate) fn write_line(out: &mut TextWriter, line: &[u8]) {
@@ -32,7 +31,7 @@ fn write_card(out: &mut TextWriter, line: &[u8], is_data: bool) -> Result<(), Li
 }
 
 /// Returns the next line and those after it, or None at the end of the deck.
-fn next_line(rest: &[u8]) -> Option<(&[u8], &[u8])> {
+pub(crate) fn next_line(rest: &[u8]) -> Option<(&[u8], &[u8])> {
     if rest.is_empty() {
         return None;
     }

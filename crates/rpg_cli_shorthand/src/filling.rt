@@ -4,10 +4,8 @@ use crate::items::{column_at, cut, without_blanks};
 use crate::line_fault::LineFault;
 use rpg_text::{is_blank, trimmed};
 
-/// The column of the form type.
 const FORM_TYPE: u8 = 6;
 
-/// The columns of a card.
 const COLUMNS: usize = 80;
 
 /// The most items of a line, one for each column.

@@ -2,7 +2,6 @@
 
 ghost use Rattle.std.specs.Prelude.{◌≤◌, IfSome};
 
-/// Returns the value of a digit.
 fn digit(character: u8) -> Option<u8>
     ensures { IfSome result (λ value. value ≤ 9) }
 {

@@ -14,4 +14,4 @@ pub use filling::is_shorthand;
 pub use line_fault::{LineFault, ShorthandFault, line_diagnostic};
 pub use marks::{begins_data, ends_source};
 pub use ruler::RULER;
-pub use shorthand::shorthand_of;
+pub use shorthand::{are_cards, ruled_of, shorthand_of};

@@ -1,7 +1,6 @@
 //! What is wrong with shorthand.
 
 use rpg_cli_diagnostics::{Diagnostic, Draft, FileName};
-use rpg_cli_text::TextWriter;
 use std::alloc::{AllocError, Global};
 
 /// What is wrong with a line of shorthand.
@@ -62,16 +61,6 @@ impl From<AllocError> for ShorthandFault {
     }
 }
 
-fn write_fault(out: &mut TextWriter, fault: LineFault) {
-    match fault {
-        LineFault::CutText { column, next } => out.fill(
-            fault.sentence(),
-            &[column.into(), next.into(), column.into()],
-        ),
-        _ => out.write_str(fault.sentence()),
-    }
-}
-
 /// Returns the diagnostic for a line of a file.
 pub fn line_diagnostic(
     alloc: Global,
@@ -79,7 +68,10 @@ pub fn line_diagnostic(
     line: u16,
     fault: LineFault,
 ) -> Result<Diagnostic<'_>, AllocError> {
-    let mut draft = Draft::error(alloc, file.line(line.into()));
-    write_fault(&mut draft.message, fault);
-    draft.finish()
+    let (column, next) = match fault {
+        LineFault::CutText { column, next } => (column, next),
+        _ => (0, 0),
+    };
+    let pieces = [column.into(), next.into(), column.into()];
+    Draft::error(alloc, file.line(line.into())).filled(fault.sentence(), &pieces)
 }

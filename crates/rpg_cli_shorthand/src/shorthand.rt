@@ -1,16 +1,17 @@
 //! Converts cards to shorthand.
 
-use crate::deck::write_line;
+use crate::deck::{next_line, write_line};
+use crate::filling::is_shorthand;
 use crate::items::column_at;
 use crate::marks::{begins_data, ends_source};
+use crate::ruler::RULER;
 use rpg_cli_columns::begins_range;
 use rpg_cli_text::TextWriter;
 use rpg_faults::{SourceCode, SourceFault};
 use rpg_sheet::{MOST_CARDS, SheetCode};
-use rpg_text::{first_line, has_only_characters, trimmed};
+use rpg_text::{first_line, has_only_characters, is_blank, trimmed};
 use std::alloc::Global;
 
-/// The columns of a card.
 const COLUMNS: usize = 80;
 
 /// The place of the form type, counted from 0.
@@ -40,7 +41,6 @@ fn write_character(out: &mut TextWriter, text: &[u8], place: usize, character: u
     out.write_char(char::from(character));
 }
 
-/// Writes a card as a line of shorthand.
 fn write_shorthand(out: &mut TextWriter, line: &[u8]) {
     let text = trimmed(line);
     if text.is_empty() {
@@ -88,9 +88,22 @@ fn refused(card: u16, code: SheetCode) -> SourceFault {
     }
 }
 
-fn write_cards(out: &mut TextWriter, source: &[u8]) -> Result<(), SourceFault> {
+/// Writes a card, below a ruler if it is of another sheet than the cards before it. Returns its sheet.
+fn write_ruled(out: &mut TextWriter, line: &[u8], before: u8) -> u8 {
+    let form = line.get(FORM_TYPE).copied().unwrap_or(b' ');
+    let is_comment = line.get(FORM_TYPE.saturating_add(1)) == Some(&b'*');
+    let is_other = form != before && !is_comment && !is_blank(line);
+    if is_other {
+        out.write_str(RULER);
+    }
+    write_line(out, line);
+    if is_other { form } else { before }
+}
+
+fn write_cards(out: &mut TextWriter, source: &[u8], is_ruled: bool) -> Result<(), SourceFault> {
     let mut rest = source;
     let mut is_data = false;
+    let mut sheet = b' ';
     for card in 1..=MOST_CARDS {
         if rest.is_empty() {
             return Ok(());
@@ -105,16 +118,18 @@ fn write_cards(out: &mut TextWriter, source: &[u8]) -> Result<(), SourceFault> {
         is_data = is_data || begins_data(line);
         if is_data {
             write_line(out, line);
+        } else if is_ruled {
+            sheet = write_ruled(out, line, sheet);
         } else {
             write_shorthand(out, line);
             out.write_char('\n');
         }
         rest = more;
     }
-    if rest.is_empty() || ends_source(first_line(rest).0) {
-        return Ok(());
+    match next_line(rest) {
+        None => Ok(()),
+        Some(_) => Err(refused(MOST_CARDS + 1, SheetCode::S6)),
     }
-    Err(refused(MOST_CARDS + 1, SheetCode::S6))
 }
 
 /// Converts the cards of a source to lines of shorthand, up to the card `/*`, which isn't included. An item begins after a blank and where
@@ -122,6 +137,35 @@ fn write_cards(out: &mut TextWriter, source: &[u8]) -> Result<(), SourceFault> {
 /// more than 80 characters or a byte that isn't a character, or card 2,001. The cards may break any other rule.
 pub fn shorthand_of(alloc: Global, source: &[u8]) -> Result<String, SourceFault> {
     let mut out = TextWriter::new(alloc);
-    write_cards(&mut out, source)?;
+    write_cards(&mut out, source, false)?;
     Ok(out.finish()?)
+}
+
+/// Returns the cards of a source, with a ruler above the first card and above each of another sheet. The error is as for `shorthand_of`.
+pub fn ruled_of(alloc: Global, source: &[u8]) -> Result<String, SourceFault> {
+    let mut out = TextWriter::new(alloc);
+    write_cards(&mut out, source, true)?;
+    Ok(out.finish()?)
+}
+
+/// Whether a line is a comment, with nothing before its asterisk.
+fn is_comment(line: &[u8]) -> bool {
+    matches!(line, [b' ', b' ', b' ', b' ', b' ', b' ', b'*', ..])
+}
+
+/// Whether a file has cards: its first line that is neither blank nor a comment has a form type in column 6, and isn't shorthand.
+pub fn are_cards(source: &[u8]) -> bool {
+    let mut rest = source;
+    for _ in 0..MOST_CARDS {
+        let Some((line, more)) = next_line(rest) else {
+            return false;
+        };
+        if !is_blank(line) && !is_comment(line) {
+            let form = line.get(FORM_TYPE);
+            return matches!(form, Some(b'H' | b'F' | b'E' | b'I' | b'C' | b'O'))
+                && !is_shorthand(line);
+        }
+        rest = more;
+    }
+    false
 }

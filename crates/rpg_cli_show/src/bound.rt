@@ -18,7 +18,6 @@ fn types_weight(rows: &Rows) -> u64 {
     sum
 }
 
-/// Returns the weight of all lines except exception lines.
 fn lines_weight(rows: &Rows) -> u64 {
     let mut sum: u64 = 0;
     for line in &rows.lines {
@@ -38,12 +37,6 @@ fn first_cost(costs: &[u64], place: usize, code: &[Instruction<u16>]) -> u64 {
 
 const BOUND: &str = "  accepted, bound {}: a cycle takes at most so many steps, of these\n";
 
-fn write_part(out: &mut TextWriter, steps: u64, words: &str) {
-    if steps > 0 {
-        out.fill_two("    {:>14} {}\n", steps, words);
-    }
-}
-
 /// Writes the bound and its parts.
 pub(crate) fn write_bound(out: &mut TextWriter, rows: &Rows, bound: u64, costs: &[u64]) {
     let lines = lines_weight(rows);
@@ -58,24 +51,22 @@ pub(crate) fn write_bound(out: &mut TextWriter, rows: &Rows, bound: u64, costs: 
     };
     let records = types_weight(rows);
     out.fill_one(BOUND, bound);
-    write_part(out, records, types);
-    write_part(
-        out,
-        lines,
-        "for heading, detail and total lines and their fields",
-    );
-    write_part(out, overflow, "for the same at an overflow");
-    write_part(
-        out,
-        detail,
-        "for detail calculations, without what is spent",
-    );
-    write_part(out, total, "for total calculations, without what is spent");
-    let spent = bound
-        .saturating_sub(records)
-        .saturating_sub(lines)
-        .saturating_sub(overflow)
-        .saturating_sub(detail)
-        .saturating_sub(total);
-    write_part(out, spent, "for all that branches back and calls lead to");
+    let mut rest = bound;
+    for (steps, words) in [
+        (records, types),
+        (
+            lines,
+            "for heading, detail and total lines and their fields",
+        ),
+        (overflow, "for the same at an overflow"),
+        (detail, "for detail calculations, without what is spent"),
+        (total, "for total calculations, without what is spent"),
+        (u64::MAX, "for all that branches back and calls lead to"),
+    ] {
+        let steps = steps.min(rest);
+        if steps > 0 {
+            out.fill_two("    {:>14} {}\n", steps, words);
+        }
+        rest = rest.saturating_sub(steps);
+    }
 }

@@ -5,8 +5,9 @@ use rpg_cli_show_fields::write_named;
 use rpg_cli_text::TextWriter;
 use rpg_program::rows::Rows;
 
-const TABLES: &str =
-    "  tables   fields {}, record types {}, lines {}, subroutines {},\n           instructions {} at detail time, {} at total time\n";
+const TABLES: &str = "  tables   fields {}, record types {}, lines {}, ";
+
+const CODE: &str = "subroutines {},\n           instructions {} at detail time, {} at total time\n";
 
 const ALLOWANCE: &str = "  spends   a cycle may take {} branches back and calls\n";
 
@@ -25,42 +26,22 @@ pub(crate) fn write_version(out: &mut TextWriter, rows: &Rows, bytes: usize) {
     out.fill_two("object program, version {}, {} bytes\n", version, bytes);
 }
 
-/// Writes the header after the version.
 pub(crate) fn write_header(out: &mut TextWriter, shown: Shown<'_>) {
     let rows = shown.rows;
-    write_length(
-        out,
-        "  input    records of {} columns",
-        rows.record_length,
-        "",
-    );
+    let input = "  input    records of {} columns";
+    let printer = "  printer  lines of {} places";
+    let disk = "  disk     records of {} columns\n";
+    let (fields, types, lines) = (rows.fields.len(), rows.types.len(), rows.lines.len());
+    let subroutines = rows.subroutines.len();
+    write_length(out, input, rows.record_length, "");
     write_length(out, ", of the secondary file {}", rows.secondary_length, "");
     out.write_char('\n');
-    write_length(
-        out,
-        "  printer  lines of {} places",
-        rows.printer_length,
-        "  printer  none",
-    );
+    write_length(out, printer, rows.printer_length, "  printer  none");
     write_named(out, ", overflow indicator {}", rows.overflow);
     out.write_char('\n');
     shown.write_broken(out, Table::Header, 0);
-    write_length(
-        out,
-        "  disk     records of {} columns\n",
-        rows.disk_length,
-        "  disk     none\n",
-    );
-    out.fill(
-        TABLES,
-        &[
-            rows.fields.len().into(),
-            rows.types.len().into(),
-            rows.lines.len().into(),
-            rows.subroutines.len().into(),
-            rows.detail.len().into(),
-            rows.total.len().into(),
-        ],
-    );
+    write_length(out, disk, rows.disk_length, "  disk     none\n");
+    out.fill_three(TABLES, fields, types, lines);
+    out.fill_three(CODE, subroutines, rows.detail.len(), rows.total.len());
     out.fill_one(ALLOWANCE, rows.allowance);
 }

@@ -140,7 +140,6 @@ fn write_subroutines(out: &mut TextWriter, at: &mut usize, shown: Shown<'_>, fir
     }
 }
 
-/// Writes the instructions of all sections.
 pub(crate) fn write_sections(out: &mut TextWriter, at: &mut usize, shown: Shown<'_>) {
     let rows = shown.rows;
     let total = rows.detail.len();

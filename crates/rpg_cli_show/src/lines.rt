@@ -65,7 +65,6 @@ fn write_line_fields(
     }
 }
 
-/// Writes all lines.
 pub(crate) fn write_lines(out: &mut TextWriter, at: &mut usize, shown: Shown<'_>) {
     out.write_str("\n    at  LINES\n");
     for (number, line) in shown.rows.lines.iter().enumerate() {

@@ -1,14 +1,14 @@
 //! What an object program reads, writes and needs, in words.
 
 use crate::header::{write_length, write_version};
-use crate::shown::{broken_by, write_refusal};
+use crate::shown::{Judged, write_refusal};
 use rpg_cli_show_fields::{uses_date, write_named};
 use rpg_cli_text::TextWriter;
 use rpg_object::encode;
 use rpg_program::Program;
 use rpg_program::input::ControlField;
 use rpg_program::rows::Rows;
-use rpg_verify::{Verified, VerifyFault, verify};
+use rpg_verify::Verified;
 use std::alloc::{AllocError, Global};
 
 /// The most bytes that a step outputs.
@@ -53,12 +53,8 @@ fn write_rows(out: &mut TextWriter, rows: &Rows, uses_date: bool) {
     let secondary = "           records of {} columns from --secondary FILE\n";
     let disk = "  writes   records of {} columns to --disk FILE\n";
     let printer = "  prints   lines of {} places to PRINT\n";
-    write_length(
-        out,
-        "  reads    records of {} columns from INPUT\n",
-        rows.record_length,
-        "",
-    );
+    let input = "  reads    records of {} columns from INPUT\n";
+    write_length(out, input, rows.record_length, "");
     write_length(out, secondary, rows.secondary_length, "");
     write_length(out, printer, rows.printer_length, "  prints   nothing\n");
     write_length(out, disk, rows.disk_length, "");
@@ -90,37 +86,17 @@ fn write_run(out: &mut TextWriter, verified: &Verified) {
     out.write_char('\n');
 }
 
-/// Writes what is known about a program before it is verified.
-fn overview(alloc: Global, program: &Program) -> Result<TextWriter, AllocError> {
-    let bytes = encode(alloc, program)?.len();
-    let mut out = TextWriter::new(alloc);
-    write_version(&mut out, program.rows(), bytes);
-    write_rows(&mut out, program.rows(), uses_date(program));
-    Ok(out)
-}
-
-fn accepted_overview(alloc: Global, verified: &Verified) -> Result<String, AllocError> {
-    let mut out = overview(alloc, verified.program())?;
-    write_run(&mut out, verified);
-    out.finish()
-}
-
-fn refused_overview(
-    alloc: Global,
-    program: &Program,
-    fault: VerifyFault,
-) -> Result<String, AllocError> {
-    let broken = broken_by(fault)?;
-    let mut out = overview(alloc, program)?;
-    write_refusal(&mut out, broken);
-    out.finish()
-}
-
 /// Returns what a program reads, writes and needs: its files with their lengths, the date, control levels, the most steps and bytes of a
 /// cycle, and the command that runs it; or the rule that it breaks.
 pub fn program_overview(alloc: Global, program: Program) -> Result<String, AllocError> {
-    match verify(alloc, program) {
-        Ok(verified) => accepted_overview(alloc, &verified),
-        Err((program, fault)) => refused_overview(alloc, &program, fault),
+    let judged = Judged::of(alloc, program)?;
+    let program = judged.program();
+    let mut out = TextWriter::new(alloc);
+    write_version(&mut out, program.rows(), encode(alloc, program)?.len());
+    write_rows(&mut out, program.rows(), uses_date(program));
+    match &judged {
+        Judged::Accepted(verified) => write_run(&mut out, verified),
+        Judged::Refused(_, broken) => write_refusal(&mut out, *broken),
     }
+    out.finish()
 }

@@ -5,20 +5,18 @@ use crate::fields::{write_fields, write_first_values};
 use crate::header::{write_header, write_version};
 use crate::instructions::write_sections;
 use crate::lines::write_lines;
-use crate::shown::{Shown, broken_by, write_refusal};
+use crate::shown::{Judged, Shown, write_refusal};
 use crate::types::write_types;
 use crate::uses::Uses;
 use rpg_cli_show_fields::SourceRows;
 use rpg_cli_text::TextWriter;
 use rpg_object::encode;
 use rpg_program::Program;
-use rpg_verify::{Verified, VerifyFault, verify};
 use std::alloc::{AllocError, Global};
 
 /// The bytes of a program before its fields.
 const HEADER: usize = 32;
 
-/// Writes the tables of a program.
 fn write_tables(out: &mut TextWriter, shown: Shown<'_>, uses: &Uses) {
     let mut at = HEADER;
     write_fields(out, &mut at, shown, uses);
@@ -50,40 +48,6 @@ fn shown_text(
     out.finish()
 }
 
-fn accepted_text(
-    alloc: Global,
-    verified: &Verified,
-    source: &SourceRows,
-    is_named: bool,
-) -> Result<String, AllocError> {
-    let shown = Shown {
-        rows: verified.program().rows(),
-        source,
-        is_named,
-        costs: verified.path_costs(),
-        broken: None,
-    };
-    shown_text(alloc, verified.program(), shown, Some(verified.bound()))
-}
-
-fn refused_text(
-    alloc: Global,
-    program: &Program,
-    source: &SourceRows,
-    is_named: bool,
-    fault: VerifyFault,
-) -> Result<String, AllocError> {
-    let broken = broken_by(fault)?;
-    let shown = Shown {
-        rows: program.rows(),
-        source,
-        is_named,
-        costs: &[],
-        broken: Some(broken),
-    };
-    shown_text(alloc, program, shown, None)
-}
-
 /// Returns the text of a program with the cards of its source, which have names if it is known.
 fn text_of(
     alloc: Global,
@@ -91,9 +55,24 @@ fn text_of(
     source: &SourceRows,
     is_named: bool,
 ) -> Result<String, AllocError> {
-    match verify(alloc, program) {
-        Ok(verified) => accepted_text(alloc, &verified, source, is_named),
-        Err((program, fault)) => refused_text(alloc, &program, source, is_named, fault),
+    let judged = Judged::of(alloc, program)?;
+    let unjudged = Shown {
+        rows: judged.program().rows(),
+        source,
+        is_named,
+        costs: &[],
+        broken: None,
+    };
+    match &judged {
+        Judged::Accepted(verified) => {
+            let costs = verified.path_costs();
+            let shown = Shown { costs, ..unjudged };
+            shown_text(alloc, verified.program(), shown, Some(verified.bound()))
+        }
+        Judged::Refused(program, broken) => {
+            let broken = Some(*broken);
+            shown_text(alloc, program, Shown { broken, ..unjudged }, None)
+        }
     }
 }
 

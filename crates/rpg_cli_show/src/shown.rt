@@ -2,10 +2,11 @@
 
 use rpg_cli_show_fields::{SourceRows, constant_of, name_text, write_card_operand, write_value};
 use rpg_cli_text::{TextWriter, Topic};
+use rpg_program::Program;
 use rpg_program::operation::{Index, Operand};
 use rpg_program::rows::Rows;
-use rpg_verify::{BrokenRule, Rule, VerifyFault};
-use std::alloc::AllocError;
+use rpg_verify::{BrokenRule, Rule, Verified, VerifyFault, verify};
+use std::alloc::{AllocError, Global};
 
 /// A program's rows, and what else is known about them.
 #[derive(Clone, Copy)]
@@ -53,11 +54,29 @@ pub(crate) fn write_refusal(out: &mut TextWriter, broken: BrokenRule) {
     out.fill_three(REFUSED, broken.row, number, sentence);
 }
 
-/// Returns the rule that a rejected program breaks.
-pub(crate) fn broken_by(fault: VerifyFault) -> Result<BrokenRule, AllocError> {
-    match fault {
-        VerifyFault::Refused { rule, row } => Ok(BrokenRule { rule, row }),
-        VerifyFault::NoMemory => Err(AllocError),
+/// A program that was verified, or that a rule rejects.
+#[derive(Drop)]
+pub(crate) enum Judged {
+    Accepted(Verified),
+    Refused(Program, BrokenRule),
+}
+
+impl Judged {
+    pub fn of(alloc: Global, program: Program) -> Result<Judged, AllocError> {
+        match verify(alloc, program) {
+            Ok(verified) => Ok(Judged::Accepted(verified)),
+            Err((program, VerifyFault::Refused { rule, row })) => {
+                Ok(Judged::Refused(program, BrokenRule { rule, row }))
+            }
+            Err((_, VerifyFault::NoMemory)) => Err(AllocError),
+        }
+    }
+
+    pub fn program(&self) -> &Program {
+        match self {
+            Judged::Accepted(verified) => verified.program(),
+            Judged::Refused(program, _) => program,
+        }
     }
 }
 

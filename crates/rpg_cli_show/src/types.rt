@@ -33,15 +33,9 @@ fn write_codes(out: &mut TextWriter, at: &mut usize, codes: &[RecordCode]) {
 
 fn write_levels(out: &mut TextWriter, at: &mut usize, sentence: &str, fields: &[ControlField]) {
     for field in fields {
-        let ControlField {
-            level,
-            is_numeric,
-            from,
-            to,
-        } = *field;
         write_offset(out, at, 6);
-        out.fill_three(sentence, from, to, level);
-        if is_numeric {
+        out.fill_three(sentence, field.from, field.to, field.level);
+        if field.is_numeric {
             out.write_str(", by its digits alone");
         }
         out.write_char('\n');
@@ -56,27 +50,20 @@ fn write_inputs(
     inputs: &[InputField<u16>],
 ) {
     for (i, input) in inputs.iter().enumerate() {
-        let InputField {
-            from,
-            to,
-            field,
-            shows,
-        } = *input;
+        let sentences = ["  plus {}", "  minus {}", "  zero or blank {}"];
         write_offset(out, at, 10);
-        out.fill_three("    columns {}-{} to #{}", from, to, field);
-        shown.write_name(out, field);
-        write_shows(
-            out,
-            ["  plus {}", "  minus {}", "  zero or blank {}"],
-            shows,
-        );
+        out.fill_two("    columns {}-{} to ", input.from, input.to);
+        out.fill_one("#{}", input.field);
+        shown.write_name(out, input.field);
+        write_shows(out, sentences, input.shows);
         write_card(out, shown.source.input_card(number, i));
         out.write_char('\n');
     }
 }
 
-/// Writes all record types.
 pub(crate) fn write_types(out: &mut TextWriter, at: &mut usize, shown: Shown<'_>) {
+    let control = "    columns {}-{} are a control field of L{}";
+    let matched = "    columns {}-{} are a match field of M{}";
     out.write_str("\n    at  RECORD TYPES\n");
     let head = match shown.rows.version {
         Version::One => 8,
@@ -88,19 +75,9 @@ pub(crate) fn write_types(out: &mut TextWriter, at: &mut usize, shown: Shown<'_>
         write_card(out, shown.source.type_card(number));
         out.write_char('\n');
         write_codes(out, at, &record_type.codes);
-        write_levels(
-            out,
-            at,
-            "    columns {}-{} are a control field of L{}",
-            &record_type.levels,
-        );
+        write_levels(out, at, control, &record_type.levels);
         write_inputs(out, at, shown, number, &record_type.inputs);
-        write_levels(
-            out,
-            at,
-            "    columns {}-{} are a match field of M{}",
-            &record_type.matches,
-        );
+        write_levels(out, at, matched, &record_type.matches);
         shown.write_broken(out, Table::Types, number);
     }
 }

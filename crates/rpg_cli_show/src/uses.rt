@@ -92,7 +92,6 @@ impl Uses {
         }
     }
 
-    /// Notes an operand, if there is one.
     fn note_used(&mut self, used: Option<Use<Operand<u16>>>, by: By, row: usize) {
         if let Some(used) = used {
             self.note_operand(used.operand, by, row);
@@ -150,7 +149,6 @@ impl Uses {
         self.note_places(program);
     }
 
-    /// Writes what uses a field.
     pub fn write(&self, out: &mut TextWriter, field: u16) {
         if let Some(uses) = self.fields.get(usize::from(field)) {
             write_rows(out, "  from type", uses, By::Type);

@@ -17,11 +17,23 @@ pub(crate) const SHEETS: &str = "\
     @S4%the card's form type is earlier than one before%\
     %- a calculation after an output card:\n\n     OPRINT   D        01\n     C           TOTAL     ADD  VALUE     TOTAL\
     %- H, F, E, I, C and O cards in this order, those of a sheet together; a sheet that is not needed\n  is left out\
-    %move the card to those of its own sheet. The message names the card of a later sheet\nthat stands before it; where several cards follow from that one, it is the one to move\
+    %move the card to those of its own sheet. The message names the card of a later sheet\nthat stands before it; if several faults name the same card, move that card\
     @S5%columns have a value that isn't allowed, or a column is filled that must be blank%\
-    %- an end position that ends in column 42, and a condition of two columns that begins in 23:\n\n     O                         VALUE    38\n     OPRINT   D       01\
-    %- a number ends in the last column of its range; a condition has its blank or N first:\n\n     O                         VALUE     38\n     OPRINT   D        01\
-    %the message names the range, its columns and what may stand there, or what of RPG II\nstands there that isn't read, with a workaround; and whether moving a text by a column or two\nmakes the card readable. docs/LANGUAGE.md has all ranges\
+    %- a name that doesn't begin in the first column of its range, or has a small letter:\n\n     I                                        1   30 AMT\n     O                         Value     38\n\n\
+    - an end position that ends in column 42: a number is right-aligned:\n\n     O                         VALUE    38\n\n\
+    - a condition of two columns that begins in 23, and an indicator that there isn't:\n\n     OPRINT   D       01\n     C           A         COMP B                        00\n\n\
+    - a factor beside its columns, or a name of more than six characters in it:\n\n     C            TOT      ADD  1         TOT\n     C           CUSTOMER  ADD  1         TOT\n\n\
+    - an operation that isn't one:\n\n     C           TOT       *    2         TOT\n\n\
+    - a record code whose position doesn't end in the fourth of its columns:\n\n     IINPUT   AA  01 1   CA\n\n\
+    - a column that is filled and must be blank, or a feature of RPG II that isn't supported:\n\n     OPRINT   DF       01\n     FMASTER  UP  F      80            DISK40\
+    %- a name from the first column on, of capitals, digits, $ and #:\n\n     I                                        1   30AMT\n     O                         VALUE     38\n\n\
+    - a number that ends in the last column of its range:\n\n     O                         VALUE     38\n\n\
+    - a condition has its blank or N first; indicators are 01 to 99 and those that LANGUAGE lists:\n\n     OPRINT   D        01\n     C           A         COMP B                        20\n\n\
+    - a name with its index if it has one, a number, or a text between apostrophes:\n\n     C           TOT       ADD  1         TOT\n     C           AR,3      ADD  1.5       TOT\n     C                     MOVE 'YES'     TEXT\n\n\
+    - one of ADD, SUB, MULT, DIV and the others that LANGUAGE lists:\n\n     C           TOT       MULT 2         TOT\n\n\
+    - the position, N or blank, C, and the character:\n\n     IINPUT   AA  01   1 CA\n\n\
+    - the same without it; the message has a workaround:\n\n     OPRINT   D        01\n     FMASTER  IP  F      80            DISK40\
+    %the message names the range, its columns and what may stand there, or which\nunsupported feature of RPG II it is, with a workaround; and whether moving a text by a column or\ntwo makes the card readable. docs/LANGUAGE.md has all ranges\
     @S6%it is card 2,001%\
     %- the 2,001st line, whatever stands on it: blank lines, comments and data count\
     %- 2,000 lines\

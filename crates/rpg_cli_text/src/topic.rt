@@ -120,10 +120,10 @@ impl Topic {
     pub(crate) const fn following(self) -> &'static str {
         match self {
             Topic::Sheet(_) => {
-                "F codes are checked once no card has an S code. Nothing is written; status 3"
+                "F codes of other cards are reported too, unless they depend on its sheet. Nothing is written;\nstatus 3"
             }
             Topic::Fault(_) => {
-                "checked once no S code is left. The line has the first card and its lowest code; standard\nerror has all. Nothing is written; status 3"
+                "the line has the first card and its lowest code; standard error has all. Beside a card with an S\ncode only those are reported that don't depend on its sheet. Nothing is written; status 3"
             }
             Topic::Warning(_) => {
                 "reported on standard error for a source without a fault. The object program is written, and the\nline is as without it; status 0. With --deny nothing is written, and the line has the code; status 3"

@@ -6,18 +6,18 @@ use std::ops::RangeInclusive;
 
 /// The commands, in the order of the help: the name, the keys of the arguments, and what the command does.
 pub(crate) const COMMANDS: &str =
-    "compile: SRC OBJ.new output allowance faults deny allow format quiet: Compiles the source SRC to the object program OBJ
-check: SRC.each faults deny allow format quiet: Reports all faults of each source SRC on standard error, and writes nothing
-list: SRC format: Lists the source SRC: its cards with their faults, record layouts, names, indicators and printed lines
+    "compile: SRC OBJ.new output allowance faults deny allow format color quiet: Compiles the source SRC to the object program OBJ
+check: SRC.each faults deny allow format color quiet: Reports all faults of each source SRC on standard error, and writes nothing
+list: SRC format color: Lists the source SRC: its cards with their faults, record layouts, names, indicators and printed lines
 cards: SRC.short short ruler: Turns the lines of shorthand in SRC into cards, such as O 32=TOT 42=10
-records: IN OUT FILES by to merge ahead csv to-csv file length rdw lines ascii low-blank drop columns no-header delimiter decimal group replace deck format: Converts a shop's records to lines, guided by the deck that reads them, or back
-fit: SRC.old NEW force table switches forms printer format: Rewrites the old deck SRC as cards that are read, and reports each change
-verify: OBJ format quiet: Verifies the object program OBJ, and prints the most steps that a cycle can take
+records: IN OUT FILES by to merge ahead csv to-csv file length rdw lines ascii low-blank drop columns no-header delimiter decimal group replace deck format color: Converts a shop's records to lines, guided by the deck that reads them, or back
+fit: SRC.old NEW force table switches forms printer format color: Rewrites the old deck SRC as cards that are read, and reports each change
+verify: OBJ format color quiet: Verifies the object program OBJ, and prints the most steps that a cycle can take
 explain: CODE list: Explains codes, such as F16, S5, V21, B5 or halt 4, or all of them
-show: OBJ source rows format: Shows what the object program OBJ reads, writes and needs, or its rows
-run: OBJ INPUT PRINT date secondary disk most most-bytes keep source trace trace-record watch sorted format quiet: Runs the object program OBJ over the records of INPUT, and prints to PRINT
-go: SRC INPUT PRINT.go date secondary disk most most-bytes keep.go trace trace-record watch sorted allowance faults deny allow format quiet: Compiles the source SRC and runs it over the records of INPUT
-paper: PRINT.paper PDF form length.paper columns.paper bars format quiet: Puts each page of PRINT on a sheet of paper, as a PDF";
+show: OBJ source rows format color: Shows what the object program OBJ reads, writes and needs, or its rows
+run: OBJ INPUT PRINT date secondary disk most most-bytes keep source trace trace-record watch sorted format color quiet: Runs the object program OBJ over the records of INPUT, and prints to PRINT
+go: SRC INPUT PRINT.go date secondary disk most most-bytes keep.go trace trace-record watch sorted allowance faults deny allow format color quiet: Compiles the source SRC and runs it over the records of INPUT
+paper: PRINT.paper PDF form length.paper columns.paper bars format color quiet: Puts each page of PRINT on a sheet of paper, as a PDF";
 
 /// The arguments: the key, what the argument takes, and its help text. The key is the argument's name; if arguments of two commands share a
 /// name, a dot and another name follow.
@@ -42,6 +42,7 @@ paper: PRINT.paper PDF form length.paper columns.paper bars format quiet: Puts e
 /// | `G`, `J` | the lines of a page, 1 to 112, and its columns, 20 to 198: 66 and 132 by default |
 /// | `H` | a form of paper, `a4` by default |
 /// | `D` | a form of diagnostics, `text` by default |
+/// | `X` | when marks are coloured, `auto` by default |
 /// | `C` | the code of a warning, several times |
 /// | `K` | the same, after `=`; or nothing, for all codes |
 ///
@@ -69,6 +70,7 @@ faults N=N The most faults or warnings to list
 deny K=CODE Rejects a source that has a warning; with a code, one of that code
 allow C=CODE Leaves out the warnings of a code
 format D=FORMAT The form of diagnostics and of the answer
+color X=WHEN Whether marks in diagnostics are red; auto is on a terminal
 quiet Q Prints no line if the exit status is 0
 short F!ruler Prints the shorthand of the cards in SRC
 ruler F Puts a ruler, which is a comment, before the cards
@@ -117,6 +119,9 @@ sorted F Ends with status 5 if a control field goes down, as in an input that is
 
 /// The forms of diagnostics, as arguments.
 const FORMATS: &[&str] = &["text", "json"];
+
+/// When marks are coloured, as arguments.
+const COLOURS: &[&str] = &["auto", "always", "never"];
 
 /// The forms of paper, as arguments.
 const PAPERS: &[&str] = &["a4", "letter", "fanfold"];
@@ -257,6 +262,7 @@ impl Argument {
             b'H' => ValueParser::Names(PAPERS),
             b'B' => ValueParser::Unsigned(0, u64::MAX),
             b'D' => ValueParser::Names(FORMATS),
+            b'X' => ValueParser::Names(COLOURS),
             b'C' => ValueParser::Names(WARNING_CODES),
             b'K' => ValueParser::Names(DENIED_CODES),
             b'F' | b'Q' => ValueParser::Bool,
@@ -270,6 +276,7 @@ impl Argument {
             b'A' => &["1000"],
             b'N' => &["20"],
             b'D' => &["text"],
+            b'X' => &["auto"],
             b'G' => &["66"],
             b'J' => &["132"],
             b'H' => &["a4"],

@@ -18,8 +18,8 @@ pub use files::{FileArgument, SameFile, Shared, is_standard};
 pub use joined::join_codes;
 pub use merging::LinesWay;
 pub use options::{
-    AnswerArguments, CardsWanted, Cycles, Format, LookArguments, RecordFraming, RecordsWay,
-    TableArgument, WarningArguments,
+    AnswerArguments, CardsWanted, Colours, Cycles, Format, LookArguments, RecordFraming,
+    RecordsWay, TableArgument, WarningArguments,
 };
 pub use outputs::{Existing, Unreplaced, may_replace};
 pub use paper::{PaperArgument, PaperArguments};

@@ -12,6 +12,15 @@ pub enum Format {
     Json,
 }
 
+/// When marks in diagnostics are coloured.
+#[derive(Clone, Copy)]
+pub enum Colours {
+    /// On a terminal.
+    Auto,
+    Always,
+    Never,
+}
+
 /// How a command reports its end. One without these options is never quiet.
 #[derive(Clone, Copy)]
 pub struct AnswerArguments {
@@ -19,6 +28,7 @@ pub struct AnswerArguments {
     pub is_quiet: bool,
     /// The form of diagnostics and of the answer.
     pub format: Format,
+    pub colours: Colours,
 }
 
 impl AnswerArguments {
@@ -28,6 +38,11 @@ impl AnswerArguments {
             format: match given.get_str("format") {
                 Some("json") => Format::Json,
                 _ => Format::Text,
+            },
+            colours: match given.get_str("color") {
+                Some("always") => Colours::Always,
+                Some("never") => Colours::Never,
+                _ => Colours::Auto,
             },
         }
     }

@@ -17,6 +17,11 @@ impl<'a> CardLines<'a> {
         }
     }
 
+    /// Whether lines come after the last one requested.
+    pub fn has_more(&self) -> bool {
+        !self.rest.is_empty()
+    }
+
     /// Returns the line of a card, which isn't before the last one requested. Empty for card 0 and for cards after the
     /// last.
     pub fn line_of(&mut self, card: u16) -> &'a [u8] {
