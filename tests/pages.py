@@ -1,5 +1,5 @@
 #!/usr/bin/env python3
-"""Checks the pages: links and the sections that they name, names of files, command lines, and how long pages are.
+"""Checks the pages: links and the sections that they name, names of files, command lines, counts, and how long pages are.
 
 usage, at the top of the repository: tests/pages.py
 
@@ -10,6 +10,8 @@ import os
 import re
 import sys
 from pathlib import Path
+
+from counted import counts_of
 
 INSTALLED = ("README.md", "CHANGELOG.md", "CONTRIBUTING.md", "docs", "examples")
 PAGES = [Path(it) for it in INSTALLED if it.endswith(".md")] + [it for part in ("docs", "examples") for it in sorted(Path(part).rglob("*.md"))]
@@ -96,7 +98,7 @@ def main():
     for path in PAGES + OTHERS:
         whole = path.read_text(encoding="utf-8")
         text = FENCED.sub("", whole)
-        found = [*links_of(path, text), *names_of(path, text), *commands_of(path, whole, known, targets), *shown_by(path, whole)]
+        found = [*links_of(path, text), *names_of(path, text), *commands_of(path, whole, known, targets), *shown_by(path, whole), *counts_of(path, text)]
         lines = whole.count("\n")
         found.append((f"{path}: {lines} lines", "too long" if lines >= LONG.get(path.name, 600) else None))
         for what, wrong in found:

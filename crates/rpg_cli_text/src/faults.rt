@@ -5,7 +5,7 @@ pub(crate) const FAULTS: &str = "\
     F1%a name is used that no card defines%cards\
     %     C                     Z-ADDAMMT      TOT\n     O                         NONE      10\
     %     C                     Z-ADDAMT       TOT\n     O                         TOT       10\
-    %a name is defined by an E card, by an input field, or by a calculation with a length\n(49-51) and that result field, wherever they stand. Look for a letter that differs, a name a\ncolumn too far left or right, and decimals (52) without a length\
+    %a name is defined by an E card, by an input field, or by a calculation with a length\n(49-51) and that result field, wherever these are. Look for a letter that differs, a name a\ncolumn too far left or right, and decimals (52) without a length\
     @F2%a name is defined again in another form%cards\
     %     C                     ADD  AMT       TOT     60\n     C                     Z-ADDAMT       UDATE   60\
     %     C                     ADD  AMT       TOT     50\n     C                     ADD  AMT       TOT\
@@ -14,7 +14,7 @@ pub(crate) const FAULTS: &str = "\
     %- 16 digits; 10 decimals; decimals without a length:\n\n     C                     Z-ADDAMT       TOT    160\n     C                     ADD  AMT       TOT      0\
     %- a number of 1 to 15 digits, decimals among them, of which there are at most 9; a text of 1 to\n  256 characters:\n\n     C                     Z-ADDAMT       TOT    150\n     C                     ADD  AMT       TOT\
     %write the length into 49-51, ending in 51, and the decimals into 52. Both or\nneither\
-    @F4%an operand is of the wrong kind, a result can't be written, or LOKUP's result has too few entries%cards\
+    @F4%an operand is of the wrong kind, a result field may not be changed, or LOKUP's result has too few entries%cards\
     %- a text in arithmetic, a result that is UDATE, an edit code beside a text:\n\n     C                     ADD  AMT       WORD    5\n     C                     ADD  TOT       UDATE\
     %- numbers in arithmetic, one kind in COMP and LOKUP, anything in MOVE and MOVEL:\n\n     C                     ADD  AMT       TOT\n     C                     MOVE AMT       WORD    5\
     %an input field without a digit in column 52 is a text, even if it holds only\ndigits: for a whole number put 0 there. A result with a length and without decimals is a text\ntoo\
@@ -34,7 +34,7 @@ pub(crate) const FAULTS: &str = "\
     %- a record type that turns on L0, a result that turns on 1P, a line that tests MR where no field\n  has a match level:\n\n     IINPUT   AA  L0\n     C                     ADD  AMT       TOT        1P\n     OPRINT   D        MR\
     %- record types turn on 01 to 99, L1 to L9, LR or H1 to H9, calculations all but L0, 1P and MR;\n  calculations test all but 1P, lines all, MR where a field has a match level (M1 to M9):\n\n     IINPUT   AA  01\n     C                     ADD  AMT       TOT        LR\n     OPRINT   D        1P\
     %take one of 01 to 99. A text field can have an indicator only for blanks (69-70)\
-    @F9%a column is missing or isn't allowed%cards\
+    @F9%a required entry is missing, or an entry isn't allowed%cards\
     %- no operation, a factor 2 that is missing, a factor that the operation doesn't take, a length\n  without a result:\n\n     C           TOT            AMT       TOT\n     C                     ADD            TOT\n     C           TOT       Z-ADDAMT       TOT\
     %     C           TOT       ADD  AMT       TOT\n     C                     Z-ADDAMT       TOT\
     %docs/MESSAGES.md has a table of what each operation has on its card. Lines for the\ndisk file have nothing in 17-22, and an output field has a name or a constant\
@@ -69,8 +69,8 @@ pub(crate) const FAULTS: &str = "\
     @F17%an edit code or an edit word doesn't fit%cards\
     %- code Y on a number that doesn't have 6 digits, a fill beside Y, an edit word of 3 places for 5\n  digits:\n\n     O                         TOT   Y   10\n     O                         TOT       10 '   '\
     %- an edit word has a blank, 0 or * for each digit, and no $ right before its stop:\n\n     O                         UDATE Y   10\n     O                         TOT       10 '     '\
-    %the message says how many digits the code or word takes, and how many the number has.\ndocs/EDITING.md shows what each code and word makes of a number\
+    %the message shows how many digits the code or word takes, and how many the number has.\ndocs/EDITING.md shows what each code and word makes of a number\
     @F18%a table's data are missing, too few, too many, bad or out of sequence%\
     %- an E card with entries a card (33-35), and no ** card for it; too few or too many cards of\n  data; letters in a number; with A in 45 a later entry that is lower:\n\n     E                    TABA    3   3  2 0A\n**\n100530\
     %     E                    TABA    3   3  2 0A\n**\n102030\
-    %the message says how many cards of data are needed and how many there are, or\nwhich entry is wrong. The data come after the sheets, each table's after a ** card, in the\norder of the E cards. Only their cards are counted: entries that a card doesn't fill are blank,\nin a number 0, and what comes after the last entry is ignored";
+    %the message shows how many cards of data are needed and how many there are, or\nwhich entry is wrong. The data come after the sheets, each table's after a ** card, in the\norder of the E cards. Only their cards are counted: entries that a card doesn't fill are blank,\nin a number 0, and what comes after the last entry is ignored";

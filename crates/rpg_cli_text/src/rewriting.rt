@@ -53,15 +53,15 @@ pub(crate) const REWRITINGS: &str = "\
     @A13%calculations with whole arrays become one for each entry%\
     %     C           AR        ADD  AMT       AR\
     %     C           AR,1      ADD  AMT       AR,1\n     C           AR,2      ADD  AMT       AR,2\n     C           AR,3      ADD  AMT       AR,3\
-    %from 31 entries on the rule makes a loop: if it is done often, give --allowance a greater\nnumber. An entry as a factor of the whole of its array is rejected\
+    %from 31 entries on the rule makes a loop: if it runs often, give --allowance a greater\nnumber. An entry as a factor of the whole of its array is rejected\
     @A14%whole arrays on output cards become a field for each entry%\
     %     O                         AR    J   60\
     %     O                         AR,1  J   42\n     O                         AR,2  J   51\n     O                         AR,3  J   60\
-    %look at the end of the array (40-43): its first entry has to begin in column 1 or later, and\nno earlier field may stand between its entries\
+    %look at the end of the array (40-43): its first entry has to begin in column 1 or later, and\nno earlier field may be between its entries\
     @A15%*PLACE becomes the fields above the first one once more%\
     %     O                         DIV       10\n     O                         *PLACE    20\n     O                         *PLACE    30\
     %     O                         DIV       10\n     O                         DIV       20\n     O                         DIV       30\
-    %print PAGE after *PLACE, if it stands before it. Rejected are a field below *PLACE, and\nan end that leaves the copies no room\
+    %print PAGE after *PLACE, if it comes first. Rejected are a field below *PLACE, and\nan end that leaves the copies no room\
     @A16%PAGE under conditions is set back by calculations%\
     %     O                 L1      PAGE      60\
     %     C   L1                Z-ADD0         PAGE\n     O                         PAGE      60\
@@ -121,4 +121,4 @@ pub(crate) const REWRITINGS: &str = "\
     @A30%SQRT becomes a loop%\
     %     C                     SQRT N         R       80\
     %     C                     SETOF                     99\n     C                     SETON                     99\n     C  N99                GOTO ROOT#\n     C           N         MULT 4         SQ#     60\n     ..\n     C           ROOT#     TAG\
-    %give --allowance a greater number, if the loop is done often. A negative number is halt\n1. Rejected are whole arrays, resulting indicators, and numbers of too many digits";
+    %give --allowance a greater number, if the loop runs often. A negative number is halt\n1. Rejected are whole arrays, resulting indicators, and numbers of too many digits";

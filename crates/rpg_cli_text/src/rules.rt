@@ -56,7 +56,7 @@ pub(crate) const RULES: &str = "\
     @V18%a result may not be written%rows\
     %- ADD with result 8, the date\
     %- ADD with result 1\
-    @V19%an indicator is missing, or isn't one that may stand there%rows\
+    @V19%an indicator is missing, or isn't allowed there%rows\
     %- SETON of L0, or of nothing; LOKUP in field 6 with HI; LOKUP with HI and LO\
     %- SETON of LR; LOKUP in field 4, which is ascending, with HI\
     @V20%the result of LOKUP isn't a table with enough entries, or factor 2's index can't hold the number of its entries%rows\

@@ -7,7 +7,7 @@ use std::alloc::{AllocError, Global};
 
 /// The title above all pages.
 const TITLE: &str =
-    "# What rpg2's codes mean\n\nrpg2 explain CODE prints one code of this list, as F16, S5, V21, B5 or halt 4; rpg2 explain prints them\nall. Cards stand below a ruler, which is a comment card: column 1 is the first of the line.\n";
+    "# What rpg2's codes mean\n\nrpg2 explain CODE prints one code of this list, such as F16, S5, V21, B5 or halt 4; rpg2 explain prints\nthem all. Cards are shown below a ruler, which is a comment card: column 1 is the first of the line.\n";
 
 /// The ruler above cards, which is itself a card, as `rpg2 cards --ruler` prints it.
 const RULER: &str =

@@ -12,7 +12,7 @@ pub(crate) const WARNINGS: &str = "\
     %take it away, or look for the condition that should test it\
     @W3%a field overlaps another of the same line%cards\
     %- TOT takes places 6 to 10 of the line, and AMT 10 to 12:\n\n     O                         TOT       10\n     O                         AMT       12\
-    %- fields side by side; a field with conditions (23-31) may stand where another does:\n\n     O                         TOT       10\n     O                         AMT       13\n     O                 30                13 'OUT'\
+    %- fields side by side; a field with conditions (23-31) may be where another is:\n\n     O                         TOT       10\n     O                         AMT       13\n     O                 30                13 'OUT'\
     %count the places: a number takes one for each digit, and what its edit code or word\nadds. rpg2 list draws each line with its places\
     @W4%a result has fewer digits before its point than a factor%cards\
     %- TOT has 5 digits before its point, and SUM 4:\n\n     C           TOT       MULT AMT       SUM     40\
