@@ -1,6 +1,6 @@
 #!/usr/bin/env bash
-# Compiles, lists, verifies and runs sources with each of its allocations refused in turn: the answer must be `no memory`, status 1. Nothing is
-# written by a compilation, and of a run's print a first part. Then jobs, cycle by cycle, by the cases of rpg_show_cases: one that ran out
+# Compiles, lists, verifies, runs and converts with each of its allocations refused in turn: the answer must be `no memory`, status 1. Nothing is
+# written by a compilation or a conversion, and of a run's print a first part. Then jobs, cycle by cycle, by the cases of rpg_show_cases: one that ran out
 # of memory has failed from then on. Last a disk that is full, where an old object stays. Both programs must be built: by `make`
 # and by `rt run` in crates/rpg_show_cases, or named by RPG2 and RPG_SHOW_CASES. tests/lay_out.py lays the cases out.
 set -euo pipefail
@@ -112,21 +112,27 @@ SOURCE
 printf '20\n15\n35\n05\n' > "$work/search.txt"
 printf 'B E\nB H\nB\nA H\n' > "$work/search.expected"
 
-# Refuses the allocations of a command in turn, until 100 runs are served one after the other: status 0 comes only with all that it prints.
+# Refuses the allocations of a command in turn, until 100 runs are served one after the other: status 0 comes only with all that it prints,
+# and its usual status, if it is another one, with all of it or a message that a diagnostic is lost.
 keep_told() {
-    local refused=0 served=0 nth status
+    local refused=0 served=0 nth status usual=0
     local wanted=$work/wanted printed=$work/printed
-    "$rpg2" "$@" > "$wanted" 2>&1
+    "$rpg2" "$@" > "$wanted" 2>&1 || usual=$?
     for ((nth = 1; served < 100; nth++)); do
         status=0
         REFUSED=$nth LD_PRELOAD=$work/refuse.so "$rpg2" "$@" > "$printed" 2>&1 || status=$?
-        if [ "$status" = 0 ] && ! cmp -s "$wanted" "$printed"; then
-            echo "$*, allocation $nth refused: status 0, and something isn't printed"
+        if [ "$status" = "$usual" ] && cmp -s "$wanted" "$printed"; then
+            served=$((served + 1))
+            continue
+        fi
+        if [ "$status" = 0 ] || [ "$status" = "$usual" ] && ! grep -q 'a diagnostic is lost' "$printed"; then
+            echo "$*, allocation $nth refused: status $status, and something isn't printed"
             exit 1
         fi
-        if [ "$status" = 0 ]; then served=$((served + 1)); else served=0; refused=$((refused + 1)); fi
+        served=0
+        refused=$((refused + 1))
     done
-    echo "$1: $refused allocations refused in turn, and status 0 only with all that is printed"
+    echo "$1: $refused allocations refused in turn, and status $usual only with all that is printed"
 }
 
 # Subroutines that call one another.
@@ -202,6 +208,24 @@ refuse run "end of job, cycles 2, steps 17 of 18" "$work/print" "$work/loop.expe
 refuse run "end of job, cycles 5, steps 9 of 9" "$work/print" "$work/search.expected" \
     run "$work/search.obj" "$work/search.txt" "$work/print" --date 010576
 
+# The source in place of its object; records to lines and back, rows to lines and back; and a print as a PDF.
+stockval=$top/examples/stockval
+refuse go "end of job, cycles 28, steps 98 of 203" "$work/print" "$stock/stock.expected" \
+    go "$stock/stock.rpg" "$stock/moves.txt" "$work/print" --date 010576 --disk "$work/disk" --allowance 20
+convert() {
+    local line
+    line=$("$rpg2" "$1" "$2" "$work/whole" "${@:3}")
+    refuse "$1" "$line" "$work/converted" "$work/whole" "$1" "$2" "$work/converted" "${@:3}"
+}
+convert records "$stockval/stockval.ebc" --by "$stockval/stockval.rpg"
+cp "$work/whole" "$work/lines"
+convert records "$work/lines" --to "$stockval/stockval.rpg"
+convert records "$top/examples/csv/sales.csv" --by "$top/examples/csv/regions.rpg" --csv --delimiter ';' --decimal , --group . \
+    --columns region,,seller,pieces,price
+cp "$work/whole" "$work/lines"
+convert records "$work/lines" --by "$top/examples/csv/regions.rpg" --to-csv --file SALES
+convert paper "$top/examples/sales/sales.expected"
+
 # A listing, cards of shorthand, and shorthand of cards, each whole or not there.
 "$rpg2" cards --short "$work/search.rpg" > "$work/search.short"
 refuse list "$("$rpg2" list "$work/search.rpg")" "$work/unwritten" "" list "$work/search.rpg"
@@ -211,6 +235,8 @@ refuse cards "$("$rpg2" cards --short "$work/search.rpg")" "$work/unwritten" "" 
 # Diagnostics of commands that end well: changes, warnings, and what a job does.
 keep_told fit "$top/examples/taxes/taxes.old.rpg" "$work/new.rpg" --force --table "BRACKET=$top/examples/taxes/brackets.txt"
 keep_told check "$work/calls.rpg" "$work/loop.rpg"
+sed 's/ADD  1 /ADD  L /' "$work/loop.rpg" > "$work/faulty.rpg"
+keep_told check "$work/faulty.rpg"
 keep_told run "$work/levels.obj" "$work/levels.txt" "$work/print" --trace 9 --watch --sorted
 keep_told run "$work/levels.obj" "$work/levels.txt" "$work/print" --trace-record 2 --format json
 
@@ -266,7 +292,7 @@ echo "a trace of 9 MB: within 24 MB"
 # An object program that writes a disk file and then prints.
 expected=$stock/stock.expected
 for written in print disk; do
-    refuse run "end of job, cycles 28, steps 98 of 190" "$work/$written" "$expected" \
+    refuse run "end of job, cycles 28, steps 98 of 203" "$work/$written" "$expected" \
         run "$work/stock.obj" "$stock/moves.txt" "$work/print" --date 010576 --disk "$work/disk"
     expected=$stock/balance.expected
 done

@@ -30,6 +30,7 @@ RPG2 = os.environ.get("RPG2", str(TOP / "crates/rpg2/out/rpg2"))
 OLD = b"what stood there\n"
 OLD_OBJECT = b"RPGOBJ, what stood there\n"
 STOCK = "run o.obj in p --date 010576 --disk d"
+ROWS = "--by c.rpg --csv --delimiter ; --decimal , --group . --columns region,,seller,pieces,price"
 
 # A command, and the files that it writes; '-' is standard output.
 COMMANDS = {
@@ -42,9 +43,13 @@ COMMANDS = {
     "keep": (STOCK + " --keep", ("p", "d")),
     "keep new": ("run o.obj in new --date 010576 --disk fresh --keep", ("new", "fresh")),
     "keep halt": ("run o.obj halting p --date 010576 --disk d --keep", ("p", "d")),
+    "keep unmade": ("run o.obj in p --date 010576 --disk none/d --keep", ("p",)),
     "keep go": ("go s.rpg in p --date 010576 --disk d", ("p", "d")),
     "records": ("records e p --by v.rpg --deck d", ("p", "d")),
     "records back": ("records l p --to v.rpg", ("p",)),
+    "records rows": (f"records c.csv p {ROWS} --deck d", ("p", "d")),
+    "records to rows": ("records c.txt p --by c.rpg --to-csv --file SALES", ("p",)),
+    "paper": ("paper pages p", ("p",)),
     "fit": ("fit t.old p --table BRACKET=b.txt --force", ("p",)),
     "fit stdout": ("fit t.old - --table BRACKET=b.txt", ("-",)),
     "compile": ("compile s.rpg c", ("c",)),
@@ -60,7 +65,7 @@ PATIENT = ("run", "keep", "records", "compile")
 # What is said of an output that is new, though the command failed.
 NEW = ("was replaced by what this run wrote", "was made by this run")
 # The commands whose files are as they were, or whole.
-WHOLE = ("compile", "fit", "records", "records back")
+WHOLE = ("compile", "fit", "records", "records back", "records rows", "records to rows", "paper")
 ERRORS = {
     "read": ("EIO", "EINTR", "EAGAIN"),
     "write": ("EIO", "ENOSPC", "EINTR", "EAGAIN", "EDQUOT"),
@@ -95,7 +100,10 @@ def begin():
         shutil.copy(examples / place, file)
     for place, file in (("stockval/stockval.ebc", "e"), ("stockval/stockval.rpg", "v.rpg"), ("taxes/taxes.old.rpg", "t.old"), ("taxes/brackets.txt", "b.txt")):
         shutil.copy(examples / place, file)
-    subprocess.run([RPG2, "records", "e", "l", "--by", "v.rpg"], check=True, stdout=subprocess.DEVNULL)
+    for place, file in (("csv/sales.csv", "c.csv"), ("csv/regions.rpg", "c.rpg"), ("sales/sales.expected", "pages")):
+        shutil.copy(examples / place, file)
+    for words in ("records e l --by v.rpg", f"records c.csv c.txt {ROWS}"):
+        subprocess.run([RPG2, *words.split()], check=True, stdout=subprocess.DEVNULL)
     # a quantity that is no number halts the job
     Path("halting").write_text(Path("in").read_text(encoding="ascii") + "RE100 X0\n", encoding="ascii")
     Path("long").write_text((examples / "sales/sales.txt").read_text(encoding="ascii") * 40, encoding="ascii")
@@ -189,7 +197,7 @@ def what_is_wrong(command, error, found, wanted, is_heard):
         return "an old file is gone"
     if command in WHOLE and found.beside:
         return f"{min(found.beside)} is left"
-    if command == "records" and found.outputs["p"] != OLD and not is_told_new(found, "p"):
+    if command.startswith("records") and found.outputs["p"] != OLD and not is_told_new(found, "p"):
         return "p is new, and no message says so"
     lost = [it for it in found.outputs if not is_first_part(command, it, found, wanted)]
     return f"{lost[0]} is no first part, or another one than the message says" if lost else None
@@ -214,7 +222,7 @@ def tried(command):
     if command in ("keep", "keep new", "keep halt", "keep go", *WHOLE) and forced != len(COMMANDS[command][1]):
         wrong += 1
         print(f"{command}: {forced} files are forced onto the disk", flush=True)
-    if command in WHOLE:
+    if command in (*WHOLE, "keep unmade"):
         count += 1
         found = outcome(command, ["-e", "inject=rename:error=EIO", "-e", "inject=unlink:error=EIO"])
         if found.status != 1 or not found.beside or not all(f"{it}: note: it is left there".encode() in found.diagnostics for it in found.beside):

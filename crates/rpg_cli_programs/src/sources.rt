@@ -76,6 +76,7 @@ pub fn report_faults<L: Listener>(
     listener: &mut L,
 ) {
     let Ok(judged) = source_faults(alloc, source) else {
+        listener.lose();
         return;
     };
     if judged.faults.is_empty() {
