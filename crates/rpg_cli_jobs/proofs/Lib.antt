@@ -1,2 +1,3 @@
--- Lemmas on runs whose writers are flushed.
+-- Lemmas on runs that are kept from beginning, and on those whose writers are flushed.
 pub mod Flushing
+pub mod Stopping

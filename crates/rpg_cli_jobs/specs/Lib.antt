@@ -4,3 +4,4 @@ pub mod Flushing
 pub mod Keeping
 pub mod Limits
 pub mod Running
+pub mod Wanted

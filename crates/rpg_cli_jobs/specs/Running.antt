@@ -2,14 +2,18 @@
 use Rattle.std.specs.Prelude.{ℕ, List, Option, Result, Ok, Err}
 use Rattle.rpg_cli_words.specs.declared.files.FileArgument.{FileArgument}
 use Rattle.rpg_cli_words.specs.declared.files.FileArgument.TheVariants as arguments
+use Rattle.rpg_cli_jobs.specs.declared.running.Running.{Running}
+use Rattle.rpg_cli_jobs.specs.declared.running.Running.TheVariants as runnables
 use Rattle.rpg_engine.specs.Devices.{Lent}
 use Rattle.rpg_engine.specs.Faults.{Counts, FaultsAre, OnlyRises, Writer, device_counts}
+use Rattle.rpg_engine.specs.Running.{RunsProgram}
 use Rattle.rpg_engine.specs.declared.fault.RunFault.{RunFault}
 use Rattle.rpg_engine.specs.declared.files.OutputFile.TheVariants.{Print, Disk}
 use Rattle.rpg_engine.specs.declared.files.Readers.{Readers}
 use Rattle.rpg_engine.specs.declared.files.Writers.{Writers}
 use Rattle.rpg_engine.specs.declared.report.Report.{Report}
 use Rattle.rpg_files.specs.Counting.{device_of}
+use Rattle.rpg_meaning.specs.Sources.Running.{RunsSource}
 use Rattle.rpg_cli_answers.specs.declared.answer.Answer.{Answer}
 use Rattle.rpg_cli_answers.specs.declared.answer.Answer.TheVariants as answers
 
@@ -42,3 +46,11 @@ abbrev pub AnswersWhoseFault : {R S P D : Type 0} → (R → Option (List ℕ)) 
 AnswersWhoseFault remaining others readers writers result = ReportsFaults result (remaining (device_of readers.entry.now.primary)) (remaining (device_of readers.exit.now.primary))
     (others (device_of readers.entry.now.secondary)) (others (device_of readers.exit.now.secondary))
     (device_counts readers.entry.now writers.entry.now) (device_counts readers.exit.now writers.exit.now)
+
+module _ {R S P D : Type 0} (remaining : R → Option (List ℕ)) (others : S → Option (List ℕ)) (contents : P → Option (List ℕ)) (stored : D → Option (List ℕ)) where
+  -- an object's program runs as its rows say, and a source as its cards say and as its program does
+  abbrev pub AnswersRunOf : Running → (date : List ℕ) → Lent (Readers R S) → Lent (Writers P D) → Result Report Answer → Type 0
+  AnswersRunOf (runnables.Program program) date readers writers given = AnswersRun (RunsProgram remaining others contents stored program.now date readers writers) given
+  AnswersRunOf (runnables.Source source) date readers writers given =
+      AnswersRun (RunsSource remaining others contents stored source.now date readers writers) given
+      × AnswersRun (RunsProgram remaining others contents stored source.now.program date readers writers) given

@@ -1,8 +1,9 @@
 //! The date of a job: today's or a given one, which may not be a real date, or none if its program doesn't use it.
 
-ghost use Rattle.std.specs.Prelude.{◌≡◌, IfErr, OnOk};
-ghost use Rattle.rpg_cli_jobs.specs.Dated.{HasDate};
-ghost use Rattle.rpg_cli_answers.specs.declared.answer.Answer.TheVariants as answers;
+ghost use Rattle.std.specs.Prelude.{◌≡◌};
+ghost use Rattle.std.specs.Char.{is_ascii_digit};
+ghost use Rattle.std.specs.List.{list_all};
+ghost use Rattle.rpg_cli_jobs.specs.Dated as words;
 
 use rpg_cli_answers::{Answer, Listener, tell_made};
 use rpg_cli_diagnostics::{Diagnostic, Draft, Level};
@@ -16,8 +17,7 @@ use std::rt::{Clock, Env, Files};
 
 /// Requires a date if the program uses it and the arguments have none.
 pub(crate) fn has_date(program: &Program, date: Option<DateArgument<'_>>) -> Result<(), Answer>
-    ensures ok { OnOk result (HasDate date.entry program.now) }
-    ensures err { IfErr result (λ answer. answer ≡ answers.DateWanted) }
+    ensures { result ≡ words.date_answer date.entry program.now }
 {
     match date {
         Some(_) => Ok(()),
@@ -28,6 +28,30 @@ pub(crate) fn has_date(program: &Program, date: Option<DateArgument<'_>>) -> Res
                 Ok(())
             }
         }
+    }
+}
+
+fn are_digits(text: &[u8]) -> bool
+    ensures { result ≡ list_all is_ascii_digit text.now }
+{
+    text.iter().all(|c| c.is_ascii_digit())
+}
+
+fn are_six_digits(text: &[u8]) -> bool
+    ensures { result ≡ words.are_six_digits text.now }
+{
+    text.len() == 6 && are_digits(text)
+}
+
+/// Whether a date is six digits. A job without one has zeros.
+pub(crate) fn is_valid(date: Option<DateArgument<'_>>) -> bool
+    ensures { result ≡ words.are_six_digits (words.date_text date.entry) }
+{
+    match date {
+        None => true,
+        Some(DateArgument::Written(text)) => are_six_digits(text.as_bytes()),
+        Some(DateArgument::Today(_)) => false,
+        Some(DateArgument::Clock(digits)) => are_six_digits(&digits),
     }
 }
 

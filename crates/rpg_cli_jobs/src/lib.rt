@@ -12,5 +12,5 @@ pub use dating::settle_date;
 pub use devices::{Devices, RunFiles, devices_of, empty_files, open_files};
 pub use keeping::Kept;
 pub use limits::{program_of, source_files};
-pub use running::{run_over, run_source_over};
+pub use running::{Running, run_counted};
 pub use wanted::{WantedFiles, report_wanted};

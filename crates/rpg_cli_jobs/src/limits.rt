@@ -1,24 +1,23 @@
 //! Whether a program may run: its date, its rules and its bound.
 
-ghost use Rattle.std.specs.Prelude.{◌≤◌, IfErr, IfOk, IfSome, OnOk};
-ghost use Rattle.rpg_cli_jobs.specs.Limits.{BreaksBound, BreaksLimit};
-ghost use Rattle.rpg_engine.specs.Bound.{bound};
-ghost use Rattle.rpg_engine.specs.Objects.{HasObjectFault, SpellsProgram};
+ghost use Rattle.std.specs.Prelude.{◌≡◌, Ok, IfErr, IfOk};
+ghost use Rattle.rpg_cli_jobs.specs.Limits as words;
+ghost use Rattle.rpg_cli_jobs.specs.Wanted.{IsReady, StopsRun, source_answer};
 
+use crate::dating::is_valid;
 use crate::wanted::WantedFiles;
 use rpg_cli_answers::Answer;
-use rpg_cli_values::are_six_digits;
+use rpg_cli_values::DateArgument;
 use rpg_cli_words::Request;
 use rpg_engine::{ObjectFault, RunFault, Verified, accept, decode_object};
 use rpg_meaning::CompiledSource;
 use std::alloc::Global;
 
 /// Checks whether an accepted program may run: first the date, then its bound.
-fn keeps_bound(program: &Verified, date: &str, most: u64) -> Result<(), Answer>
-    ensures kept { OnOk result (bound program.now ≤ most) }
-    ensures refused { IfErr result (λ answer. BreaksBound answer program.now most) }
+fn keeps_bound(program: &Verified, date: Option<DateArgument<'_>>, most: u64) -> Result<(), Answer>
+    ensures { result ≡ words.bound_answer program.now date.entry most }
 {
-    if !are_six_digits(date) {
+    if !is_valid(date) {
         return Err(Answer::Run(RunFault::BadDate));
     }
     if program.bound() > most {
@@ -32,15 +31,24 @@ fn keeps_bound(program: &Verified, date: &str, most: u64) -> Result<(), Answer>
 /// Checks whether a program may run: first the rules and the date, then its bound.
 fn keeps_limit(
     accepted: &Result<Verified, ObjectFault>,
-    date: &str,
+    date: Option<DateArgument<'_>>,
     most: u64,
 ) -> Result<(), Answer>
-    ensures kept { OnOk result (IfOk accepted.now (λ program. bound program ≤ most)) }
-    ensures refused { IfErr result (λ answer. BreaksLimit answer accepted.now most) }
+    ensures { result ≡ words.limit_answer accepted.now date.entry most }
 {
     match accepted {
         Err(fault) => Err(Answer::Object(*fault)),
         Ok(program) => keeps_bound(program, date, most),
+    }
+}
+
+/// Returns the limit on a program's bound, if that is checked before the other files are opened.
+fn limit_of(request: &Request) -> Option<u64>
+    ensures { result ≡ words.limit_of request.now }
+{
+    match request.most {
+        None if request.keeps => Some(u64::MAX),
+        most => most,
     }
 }
 
@@ -49,14 +57,11 @@ fn keeps_asked_limit(
     accepted: &Result<Verified, ObjectFault>,
     request: &Request,
 ) -> Result<(), Answer>
-    ensures { OnOk result (IfSome request.now.most (λ most. IfOk accepted.now (λ program. bound program ≤ most))) }
+    ensures { result ≡ words.asked_answer (words.limit_of request.now) accepted.now request.now.date }
 {
-    if let Some(most) = request.most {
-        keeps_limit(accepted, request.date_text(), most)
-    } else if request.keeps {
-        keeps_limit(accepted, request.date_text(), u64::MAX)
-    } else {
-        Ok(())
+    match limit_of(request) {
+        None => Ok(()),
+        Some(most) => keeps_limit(accepted, request.date, most),
     }
 }
 
@@ -69,9 +74,8 @@ pub fn program_of<'a>(
     request: &Request<'a>,
     object: &[u8],
 ) -> Result<(Result<Verified, ObjectFault>, WantedFiles<'a>), Answer>
-    ensures spelled { IfOk result (λ reported. IfOk reported.0 (λ program. SpellsProgram object.now program)) }
-    ensures refused { IfOk result (λ reported. IfErr reported.0 (λ fault. HasObjectFault fault object.now)) }
-    ensures limit { IfOk result (λ reported. IfSome request.now.most (λ most. IfOk reported.0 (λ program. bound program ≤ most))) }
+    ensures ready { IfOk result (λ ready. IsReady object.now request.now ready.0 ready.1) }
+    ensures stops { IfErr result (StopsRun object.now request.now) }
 {
     let program = decode_object(alloc, object)?;
     let wanted = WantedFiles::of(&program, request)?;
@@ -86,14 +90,12 @@ pub fn source_files<'a>(
     request: &Request<'a>,
     compiled: &CompiledSource,
 ) -> Result<WantedFiles<'a>, Answer>
-    ensures limit { OnOk result (IfSome request.now.most (λ most. bound compiled.now.program ≤ most)) }
+    ensures { result ≡ source_answer compiled.now.program request.now }
 {
     let program = compiled.program();
     let wanted = WantedFiles::of(program.program(), request)?;
-    if let Some(most) = request.most {
-        keeps_bound(program, request.date_text(), most)?;
-    } else if request.keeps {
-        keeps_bound(program, request.date_text(), u64::MAX)?;
+    if let Some(most) = limit_of(request) {
+        keeps_bound(program, request.date, most)?;
     }
     Ok(wanted)
 }

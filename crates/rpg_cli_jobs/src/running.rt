@@ -2,7 +2,7 @@
 
 ghost use Rattle.std.specs.Prelude.{◌-◌, ◌^◌, ◌<◌};
 ghost use Rattle.rpg_cli_jobs.specs.Flushing.{Flushes};
-ghost use Rattle.rpg_cli_jobs.specs.Running.{AnswersWhoseFault, AnswersRun};
+ghost use Rattle.rpg_cli_jobs.specs.Running.{AnswersRun, AnswersRunOf, AnswersWhoseFault};
 ghost use Rattle.rpg_engine.specs.Devices.{CanCountFaults};
 ghost use Rattle.rpg_engine.specs.Running.{RunsProgram};
 ghost use Rattle.rpg_files.specs.Counting.{faults_of};
@@ -42,7 +42,7 @@ fn flushed<P: Write, D: Write>(
 
 /// Runs an accepted program over its inputs, then flushes the writers. A watcher looks at the job between its cycles. The answer is that of
 /// the run, or of a file that couldn't be flushed after it.
-pub fn run_over<I: Read, S: Read, P: Write, D: Write, W: Watcher>(
+fn run_over<I: Read, S: Read, P: Write, D: Write, W: Watcher>(
     alloc: Global,
     program: &Verified,
     date: &[u8],
@@ -64,7 +64,7 @@ pub fn run_over<I: Read, S: Read, P: Write, D: Write, W: Watcher>(
 
 /// Runs a compiled source over its inputs, then flushes the writers. A watcher looks at the job between its cycles. The answer is that of
 /// the run, or of a file that couldn't be flushed after it.
-pub fn run_source_over<I: Read, S: Read, P: Write, D: Write, W: Watcher>(
+fn run_source_over<I: Read, S: Read, P: Write, D: Write, W: Watcher>(
     alloc: Global,
     source: &CompiledSource,
     date: &[u8],
@@ -83,4 +83,32 @@ pub fn run_source_over<I: Read, S: Read, P: Write, D: Write, W: Watcher>(
         Err(fault) => return Err(Answer::Run(fault)),
     };
     flushed(report, writers)
+}
+
+/// What runs.
+#[derive(Clone, Copy)]
+pub enum Running<'a> {
+    /// The program of an object file.
+    Program(&'a Verified),
+    /// A source, as the program that it compiles to.
+    Source(&'a CompiledSource),
+}
+
+/// Runs a program or a source over its inputs, then flushes the writers.
+pub fn run_counted<I: Read, S: Read, P: Write, D: Write, W: Watcher>(
+    alloc: Global,
+    running: Running<'_>,
+    date: &[u8],
+    readers: &mut Readers<I, S>,
+    writers: &mut Writers<P, D>,
+    watcher: &mut W,
+) -> Result<Report, Answer>
+    requires { CanCountFaults readers.old writers.old }
+    ensures runs { AnswersRunOf I.remaining S.remaining P.contents D.contents running.entry date.now readers writers result }
+    ensures faults { AnswersWhoseFault I.remaining S.remaining readers writers result }
+{
+    match running {
+        Running::Program(program) => run_over(alloc, program, date, readers, writers, watcher),
+        Running::Source(source) => run_source_over(alloc, source, date, readers, writers, watcher),
+    }
 }

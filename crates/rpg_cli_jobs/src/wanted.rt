@@ -1,5 +1,8 @@
 //! The files and the date that a program needs, and the diagnostics if the arguments don't name them.
 
+ghost use Rattle.std.specs.Prelude.{◌≡◌};
+ghost use Rattle.rpg_cli_jobs.specs.Wanted.{files_answer, path_answer};
+
 use crate::dating::has_date;
 use rpg_cli_answers::{Answer, Listener, file_of, tell_made};
 use rpg_cli_diagnostics::{Diagnostic, Draft, FileName};
@@ -13,7 +16,9 @@ fn wanted_path<'a>(
     is_wanted: bool,
     named: Option<&'a str>,
     missing: Answer,
-) -> Result<Option<&'a str>, Answer> {
+) -> Result<Option<&'a str>, Answer>
+    ensures { result ≡ path_answer is_wanted named.entry missing }
+{
     match named {
         _ if !is_wanted => Ok(None),
         None => Err(missing),
@@ -30,7 +35,9 @@ pub struct WantedFiles<'a> {
 
 impl<'a> WantedFiles<'a> {
     /// Returns those that the arguments name. The disk file is checked first, then the secondary file, and the date last.
-    pub(crate) fn of(program: &Program, request: &Request<'a>) -> Result<WantedFiles<'a>, Answer> {
+    pub(crate) fn of(program: &Program, request: &Request<'a>) -> Result<WantedFiles<'a>, Answer>
+        ensures { result ≡ files_answer program.now request.now }
+    {
         let disk = wanted_path(has_disk_file(program), request.disk, Answer::DiskFileWanted)?;
         let has_secondary = has_secondary_file(program);
         let secondary = wanted_path(

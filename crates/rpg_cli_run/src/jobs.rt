@@ -1,15 +1,13 @@
 //! The command that runs an object program over its files.
 
-ghost use Rattle.rpg_engine.specs.Devices.{CanCountFaults};
-
 use crate::halting::{LastInput, LastInputs};
 use crate::looking::run_as_asked;
 use rpg_cli_answers::{Answer, CommandStop, Listener, Reasons, file_of, named};
 use rpg_cli_files::{LineTarget, RecordSource, begins_with, file_bytes};
 use rpg_cli_halts::HaltedSource;
 use rpg_cli_jobs::{
-    Kept, WantedFiles, devices_of, empty_files, open_files, program_of, report_wanted, run_over,
-    run_source_over, settle_date, source_files,
+    Kept, Running, WantedFiles, devices_of, empty_files, open_files, program_of, report_wanted,
+    run_counted, settle_date, source_files,
 };
 use rpg_cli_programs::{OwnSource, own_source, report_object};
 use rpg_cli_show_fields::SourceRows;
@@ -18,7 +16,6 @@ use rpg_engine::{
     Halt, JobEnd, ObjectFault, Readers, Report, Verified, Watcher, Writers, decode_object,
 };
 use rpg_files::{Counted, LastLine};
-use rpg_meaning::CompiledSource;
 use std::alloc::Global;
 use std::cell::Cell;
 use std::fs::OpenFile;
@@ -68,30 +65,6 @@ impl<'a> Runnable<'a> {
                 rows: &source.rows,
             }),
         }
-    }
-}
-
-/// What runs.
-#[derive(Clone, Copy)]
-pub(crate) enum Running<'a> {
-    Program(&'a Verified),
-    Source(&'a CompiledSource),
-}
-
-/// Runs a program or a source over counted devices.
-fn run_counted<I: Read, S: Read, P: Write, D: Write, W: Watcher>(
-    alloc: Global,
-    running: Running<'_>,
-    date: &[u8],
-    readers: &mut Readers<I, S>,
-    writers: &mut Writers<P, D>,
-    watcher: &mut W,
-) -> Result<Report, Answer>
-    requires { CanCountFaults readers.old writers.old }
-{
-    match running {
-        Running::Program(program) => run_over(alloc, program, date, readers, writers, watcher),
-        Running::Source(source) => run_source_over(alloc, source, date, readers, writers, watcher),
     }
 }
 
