@@ -101,7 +101,7 @@ fn bad_file(text: &str, others: &[&str]) -> Option<&'static str> {
 fn bad_files(first: &str, others: &[&str]) -> Option<&'static str> {
     let mut bad = bad_file(first, others);
     for (place, text) in others.iter().enumerate() {
-        bad = bad.or(bad_file(*text, others.get(place + 1..).unwrap_or(&[])));
+        bad = bad.or(bad_file(*text, others.get(place.saturating_add(1)..).unwrap_or(&[])));
     }
     bad
 }

@@ -76,7 +76,7 @@ fn place_of(files: &[Seen], name: &[u8]) -> Option<usize> {
 
 /// Returns the letter in front of the records of a file, by its place.
 fn letter(place: usize) -> u8 {
-    b'A'.saturating_add((place % MOST_FILES) as u8)
+    b'A'.saturating_add((place % 26) as u8)
 }
 
 /// Rejects files that are written too.

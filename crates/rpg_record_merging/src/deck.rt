@@ -189,11 +189,11 @@ fn type_of(alloc: Global, kind: &RecordType) -> Result<MatchType, AllocError> {
 /// Appends the codes of a card whose columns can be read.
 fn push_codes(codes: &mut Vec<TypeCode>, card: &Card) -> Result<(), AllocError> {
     for first in CODES {
-        if let Some(column) = card.number(first, first + 3) {
+        if let Some(column) = card.number(first, first.saturating_add(3)) {
             codes.push(TypeCode {
                 column,
-                is_not: card.column(first + 4) == b'N',
-                character: card.column(first + 6),
+                is_not: card.column(first.saturating_add(4)) == b'N',
+                character: card.column(first.saturating_add(6)),
             })?;
         }
     }
