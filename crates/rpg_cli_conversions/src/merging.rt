@@ -16,7 +16,7 @@ use rpg_cli_files::{
 use rpg_cli_words::{FileArgument, LinesWay, Request, is_standard};
 use rpg_files::Counted;
 use rpg_record_merging::{
-    AheadColumns, DeckStop, MergeStop, RowInput, Secondaries, merge, put_ahead, secondaries_of,
+    AheadColumns, DeckStop, LineInput, MergeStop, Secondaries, merge, put_ahead, secondaries_of,
 };
 use std::alloc::Global;
 use std::fs::OpenFile;
@@ -238,7 +238,7 @@ fn write_lines<F: Read + Drop, S: Read + Drop, W: Write>(
         Work::Merge(deck) => {
             let mut inputs = Vec::new(alloc);
             for source in sources.iter_mut() {
-                inputs.push(RowInput::new(alloc, source)?)?;
+                inputs.push(LineInput::new(alloc, source)?)?;
             }
             merge(alloc, deck, inputs.as_mut_slice(), writer)
         }

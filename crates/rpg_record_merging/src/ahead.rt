@@ -5,7 +5,7 @@ ghost use Rattle.rpg_files.specs.Counting.{faults_of};
 
 use crate::fault::{MOST_RECORDS, MergeStop, send_line};
 use crate::head::Head;
-use rpg_csv_rows::RowInput;
+use crate::input::LineInput;
 use rpg_files::Counted;
 use std::alloc::{AllocError, Global};
 use std::io::{Read, Write};
@@ -65,7 +65,7 @@ pub fn put_ahead<R: Read + Drop, W: Write>(
 ) -> Result<u64, MergeStop>
     requires { faults_of writer.old < 2 ^ 64 - 1 }
 {
-    let mut input = RowInput::new(alloc, reader)?;
+    let mut input = LineInput::new(alloc, reader)?;
     let (mut now, mut out) = (Vec::new(alloc), Vec::new(alloc));
     let mut next = Head::new(alloc);
     next.read(&mut input, 0, columns.length)?;

@@ -5,12 +5,10 @@ ghost use Rattle.rpg_csv_rows.specs.Rows.{row_text};
 
 use crate::deck::{MatchField, MatchType, TypeCode};
 use crate::fault::MergeStop;
-use rpg_csv_rows::{RowInput, RowInputFault, whole_row};
+use crate::input::LineInput;
+use rpg_csv_rows::{RowInputFault, whole_row};
 use std::alloc::{AllocError, Global};
 use std::io::Read;
-
-/// More bytes than a line of the longest record has, with its line end.
-const LONGEST_LINE: usize = 10_002;
 
 /// The record that waits in a file.
 #[derive(Drop)]
@@ -105,11 +103,11 @@ impl Head {
     /// Reads the next line of a file, by the place of the file and the length of its records.
     pub fn read<R: Read>(
         &mut self,
-        input: &mut RowInput<R>,
+        input: &mut LineInput<R>,
         file: usize,
         length: usize,
     ) -> Result<(), MergeStop> {
-        match input.read_line(LONGEST_LINE, &mut self.line) {
+        match input.read(&mut self.line) {
             Ok(()) => {}
             Err(RowInputFault::Device) => return Err(MergeStop::Read { file }),
             Err(RowInputFault::NoMemory) => return Err(MergeStop::NoMemory),

@@ -5,6 +5,7 @@ mod ahead;
 mod deck;
 mod fault;
 mod head;
+mod input;
 mod merge;
 mod order;
 
@@ -13,6 +14,6 @@ pub use deck::{
     DeckStop, MatchField, MatchType, Secondaries, SecondaryFile, TypeCode, secondaries_of,
 };
 pub use fault::MergeStop;
+pub use input::LineInput;
 pub use merge::merge;
-pub use rpg_csv_rows::RowInput;
 pub use rpg_fit_deck::{Refusal, Rule, Sentence, Word};

@@ -8,8 +8,8 @@ ghost use Rattle.rpg_record_merging.specs.Order.{line_of};
 use crate::deck::Secondaries;
 use crate::fault::{MOST_RECORDS, MergeStop, send_line};
 use crate::head::Head;
+use crate::input::LineInput;
 use crate::order::next_file;
-use rpg_csv_rows::RowInput;
 use rpg_files::Counted;
 use std::alloc::{AllocError, Global};
 use std::io::{Read, Write};
@@ -26,7 +26,7 @@ fn heads_of(alloc: Global, deck: &Secondaries) -> Result<Vec<Head>, AllocError> 
 /// Reads the next record of the file at a place.
 fn take_next<R: Read>(
     deck: &Secondaries,
-    inputs: &mut [RowInput<R>],
+    inputs: &mut [LineInput<R>],
     heads: &mut [Head],
     place: usize,
 ) -> Result<(), MergeStop> {
@@ -69,7 +69,7 @@ fn send_record<W: Write>(
 pub fn merge<R: Read, W: Write>(
     alloc: Global,
     deck: &Secondaries,
-    inputs: &mut [RowInput<R>],
+    inputs: &mut [LineInput<R>],
     writer: &mut Counted<W>,
 ) -> Result<u64, MergeStop>
     requires { faults_of writer.old < 2 ^ 64 - 1 }
