@@ -65,10 +65,12 @@ impl Judged {
     pub fn of(alloc: Global, program: Program) -> Result<Judged, AllocError> {
         match verify(alloc, program) {
             Ok(verified) => Ok(Judged::Accepted(verified)),
-            Err((program, VerifyFault::Refused { rule, row })) => {
-                Ok(Judged::Refused(program, BrokenRule { rule, row }))
-            }
-            Err((_, VerifyFault::NoMemory)) => Err(AllocError),
+            Err((program, fault)) => match fault {
+                VerifyFault::Refused { rule, row } => {
+                    Ok(Judged::Refused(program, BrokenRule { rule, row }))
+                }
+                VerifyFault::NoMemory => Err(AllocError),
+            },
         }
     }
 
