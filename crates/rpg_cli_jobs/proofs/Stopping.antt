@@ -1,5 +1,5 @@
 -- Why an object isn't run.
-use Rattle.std.proofs.Common.{◌≡◌, ◌⊎◌, ℕ, List, Option, None, Some, Result, Ok, Err, IfErr, IfOk, inl, inr, subst, sym}
+use Rattle.std.proofs.Common.{◌≡◌, ℕ, List, Option, None, Some, Result, Ok, Err, IfErr, IfOk, inl, inr, subst, sym}
 use Rattle.std.specs.Result.{IsErrAnd}
 use Rattle.rpg_engine.proofs.Refusing.{refused_bytes}
 use Rattle.rpg_engine.specs.Object.{Object}

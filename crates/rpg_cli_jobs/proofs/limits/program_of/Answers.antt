@@ -1,4 +1,4 @@
-use Rattle.std.proofs.Common.{◌≡◌, sym}
+use Rattle.std.proofs.Common.{sym}
 use Rattle.rpg_cli_jobs.proofs.Stopping.{limit_stops, passed_on}
 use Rattle.rpg_cli_jobs.proofs.limits.program_of.Goals as goal
 
