@@ -10,10 +10,11 @@ use rpg_cli_files::{
     lines, records,
 };
 use rpg_cli_words::{FileArgument, PaperArgument, PaperArguments, Request, is_standard};
+use rpg_files::most_tries;
 use rpg_pdf::{PaperFault, PaperForm, Settings, paper};
 use std::alloc::Global;
 use std::fs::OpenFile;
-use std::io::{BufWriter, Read, Write};
+use std::io::{self, BufWriter, ErrorKind, Read, Write};
 use std::rt::Files;
 
 /// How many bytes of the PDF are buffered.
@@ -105,6 +106,24 @@ fn early_answer<L: Listener>(
     }
 }
 
+/// A reader that reads again after an interrupt. Its device fails after 1,000 interrupts in a row.
+#[derive(Drop)]
+struct Resumed<'a, S> {
+    reader: &'a mut S,
+}
+
+impl<S: Read> Read for Resumed<'_, S> {
+    fn read(&mut self, buf: &mut [u8]) -> io::Result<usize> {
+        for _ in 1..most_tries() {
+            match self.reader.read(buf) {
+                Err(error) if error.kind() == ErrorKind::Interrupted => {}
+                answer => return answer,
+            }
+        }
+        self.reader.read(buf)
+    }
+}
+
 /// Writes the PDF of a print, and flushes it.
 fn write_paper<S: Read, T: Write>(
     alloc: Global,
@@ -115,7 +134,7 @@ fn write_paper<S: Read, T: Write>(
     let Some(settings) = settings_of(request.paper) else {
         return Err(PaperFault::Pages);
     };
-    let pages = paper(alloc, settings, source, target)?;
+    let pages = paper(alloc, settings, Resumed { reader: source }, target)?;
     match target.flush() {
         Ok(()) => Ok(pages),
         Err(_) => Err(PaperFault::Write),
