@@ -22,7 +22,7 @@ CHOICES = re.compile(r"\[possible values: ([^\]]+)\]")
 CODE = re.compile(r"^## ([A-Z]\d+):", re.MULTILINE)
 
 # What the values of options and arguments that aren't here are: names of files.
-NOT_FILES = {"N", "XX", "A-B", "CODE", "DATE", "FORMAT", "FORM", "NAME", "NAMES", "C", "NAME=FILE", "00000000"}
+NOT_FILES = {"N", "XX", "A-B", "CODE", "DATE", "WHEN", "FORMAT", "FORM", "NAME", "NAMES", "C", "NAME=FILE", "00000000"}
 # Options that may be given several times.
 MANY = {"allow", "deny", "table"}
 # The words of --date that aren't digits.
