@@ -90,7 +90,7 @@ fn refuse_deck<L: Listener>(
         }
         DeckStop::Length { card } => {
             let draft = Draft::error(alloc, file.line(*card as u64));
-            let told = draft.filled("24 to 27 have no length of a record", &[]);
+            let told = draft.filled("columns 24 to 27 have no record length", &[]);
             (u16::try_from(*card).ok(), told)
         }
         DeckStop::Count(count) => {
@@ -124,9 +124,10 @@ fn check_names<L: Listener>(
     let mut draft = Draft::error(alloc, file_of(request, FileArgument::Merge).whole());
     let counts = [deck.files.len().into(), request.tables.len().into()];
     if let Some(name) = unnamed(request, deck) {
-        draft
-            .message
-            .fill("the secondary file {} has no NAME=FILE", &[name.into()]);
+        draft.message.fill(
+            "no NAME=FILE is given for the secondary file {}",
+            &[name.into()],
+        );
     } else if request.tables.len() > deck.files.len() {
         draft.message.fill("the deck has {} secondary files, and {} are given", &counts);
     } else {
@@ -263,7 +264,7 @@ fn early_answer<F, S, L: Listener>(
         MergeStop::Long { file, number } => {
             let argument = argument_of(request, work, file);
             let place = file_of(request, argument).line(number);
-            let text = "the line has more than {} columns, the length of a record";
+            let text = "the line has more than {} columns, the record length";
             let length = work.length(file).into();
             tell_made(listener, Draft::error(alloc, place).filled(text, &[length]));
             Answer::RecordRefused { number }

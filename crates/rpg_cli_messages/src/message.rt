@@ -17,7 +17,7 @@ use rpg_cli_diagnostics::{Columns, Diagnostic, Diagnostics, Draft, FileName, Lev
 use rpg_cli_text::{TextWriter, Topic};
 use rpg_faults::{CardFault, SourceCode, SourceFaults};
 use rpg_sheet::{Card, ColumnFault, SheetCode};
-use rpg_text::{is_character, trimmed};
+use rpg_text::{has_only_characters, is_character, trimmed};
 use std::alloc::{AllocError, Global};
 use std::collections::HashMap;
 
@@ -375,6 +375,9 @@ fn write_unread(
 
 /// Returns a card, if it can be read.
 fn card_of(line: &[u8; 80], number: u16) -> Option<SpecCard> {
+    if !has_only_characters(line) {
+        return None;
+    }
     let card = Card::new(line);
     let spec = card.read(card.form_type()?).ok()?;
     Some(SpecCard { number, spec })

@@ -3,12 +3,12 @@
 ghost use Rattle.std.specs.Prelude.{◌≡◌, List, [], Err, IfErr, IfOk, Ok, OnOk, Some, map};
 ghost use Rattle.std.specs.List.{flat_map};
 ghost use Rattle.rpg_records.specs.Seen.{layout_seen};
-ghost use Rattle.rpg_record_decks.specs.Layouts.{framed, layout_by, layout_by_cards, layout_for, layout_of_file, layout_with, narrow, some_types, without_numbers};
+ghost use Rattle.rpg_record_decks.specs.Layouts.{framed, layout_by_cards, layout_for, layout_of_file, layout_with, narrow, some_types, without_numbers};
 ghost use Rattle.rpg_record_decks.specs.Outcomes.{IsDeckFaultOf, and_then};
 ghost use Rattle.rpg_record_decks.specs.Reading.{type_read};
 ghost use Rattle.rpg_record_decks.specs.Types.{TypeRead};
 
-use crate::deck::{DeckArguments, DeckCard, deck_cards};
+use crate::deck::{DeckArguments, DeckCard};
 use crate::edits::file_name;
 use crate::fault::{CardFault, DeckFault};
 use crate::file::{file_length, find_file};
@@ -109,6 +109,12 @@ fn layout_of_file(
 }
 
 /// Returns the layout of the records of the file to use.
+///
+/// Its I cards may have P or B in column 43; otherwise its cards must be readable by rpg2. Other cards must only have characters.
+///
+/// # Errors
+///
+/// The first card that is rejected; or there is no such file, or memory ran out.
 #[tactic(auto, using(crate::proofs::LayoutLemmas::no_file, crate::proofs::LayoutLemmas::file_found))]
 pub fn layout_by_cards(
     alloc: Global,
@@ -122,19 +128,4 @@ pub fn layout_by_cards(
         Some(file) => layout_of_file(alloc, words.length, words.are_lines, cards, file),
         None => Err(DeckFault::NoFile),
     }
-}
-
-/// Returns the layout of the records of a deck's file.
-///
-/// Its I cards may have P or B in column 43; otherwise its cards must be readable by rpg2. Other cards must only have characters.
-///
-/// # Errors
-///
-/// The first card that is rejected; or there is no such file, or memory ran out.
-pub fn layout_of(alloc: Global, source: &[u8], words: DeckArguments) -> Result<Layout, DeckFault>
-    ensures layout { IfOk result (λ layout. layout_by words.entry source.now ≡ Ok (layout_seen layout)) }
-    ensures fault { IfErr result (IsDeckFaultOf (layout_by words.entry source.now)) }
-{
-    let cards = deck_cards(alloc, source)?;
-    layout_by_cards(alloc, words, cards.as_slice())
 }

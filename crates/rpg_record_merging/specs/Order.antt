@@ -30,7 +30,7 @@ pub record NextRecord : Type 0 where
 abbrev pub seen_waiting : Waiting → NextRecord
 seen_waiting w = record { place = w.place; value = value_of w.head.now }
 
--- what waits in a file is next, unless the next one of the files after it is before it
+-- what waits in a file is next, unless the next one of the later files is before it; so of equal ones that of the earlier file
 abbrev pub first_or : Bool → ℕ → Option (Option (List ℕ)) → Option NextRecord → Option NextRecord
 first_or is_descending place None later = later
 first_or is_descending place (Some v) None = Some (record { place = place; value = v })

@@ -1,22 +1,18 @@
 -- I cards that read packed and binary arrays.
-use Rattle.std.specs.Prelude.{◌≡◌, ℕ, List, Bool, false, ◌&&◌, codes, is_some, Ok, IfOk}
+use Rattle.std.specs.Prelude.{◌≡◌, ℕ, List, Bool, false, ◌&&◌, codes, is_some, IfOk}
 use Rattle.std.specs.List.{list_any}
 use Rattle.std.specs.Str.{bytes_eq}
 use Rattle.rpg_sheet_specs.specs.Columns.{cols}
 use Rattle.rpg_text.specs.Texts.{all_blank, trimmed}
-use Rattle.rpg_records.specs.Seen.{layout_seen}
-use Rattle.rpg_records.specs.declared.layout.Layout.{Layout}
 use Rattle.rpg_record_decks.specs.Cards.{cards_of}
-use Rattle.rpg_record_decks.specs.Layouts.{layout_by_cards}
 use Rattle.rpg_record_decks.specs.Types.{is_on_sheet, number_form_on}
-use Rattle.rpg_record_decks.specs.declared.deck.DeckArguments.{DeckArguments}
 use Rattle.rpg_record_decks.specs.declared.deck.DeckCard.{DeckCard}
 
--- an E card that defines an array of this name
+-- an E card that defines an array or a table of this name
 abbrev pub defines : List ℕ → DeckCard → Bool
 defines name c = is_on_sheet (codes "E") c.card && bytes_eq (trimmed (cols 27 32 c.card)) name
 
--- a name that an E card defines to be an array
+-- a name that an E card defines to be an array or a table
 abbrev pub is_array : List DeckCard → List ℕ → Bool
 is_array cards name = list_any (defines name) cards
 
@@ -29,6 +25,6 @@ reads_array cards c =
 abbrev pub reads_arrays : List DeckCard → Bool
 reads_arrays cards = list_any (reads_array cards) cards
 
--- Where no card reads such an array, the layout is the one that the cards define.
-abbrev pub IsReadLayout : DeckArguments → List ℕ → Layout → Type 0
-IsReadLayout arguments source layout = IfOk (cards_of source) (λ cards. reads_arrays cards ≡ false → layout_by_cards arguments cards ≡ Ok (layout_seen layout))
+-- no I card of a deck reads a packed or binary array
+abbrev pub ReadsNoArray : List ℕ → Type 0
+ReadsNoArray source = IfOk (cards_of source) (λ cards. reads_arrays cards ≡ false)

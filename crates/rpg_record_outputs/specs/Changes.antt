@@ -1,4 +1,4 @@
--- The changes of a deck that reads and writes digits.
+-- The changes of a deck that reads digits, where it writes none.
 use Rattle.std.specs.Prelude.{◌≡◌, ℕ, List, ◌∷◌, map, Bool, false, ◌&&◌, codes, is_some, IfOk}
 use Rattle.std.specs.List.{list_any}
 use Rattle.rpg_records.specs.Seen.{LayoutSeen, columns_seen, layout_seen}
@@ -18,7 +18,7 @@ layout_changes layout = length_change layout.card (columns_seen layout) ∷ map 
 abbrev pub writes_number : DeckCard → Bool
 writes_number c = is_on_sheet (codes "O") c.card && is_some (number_form_on 44 c.card)
 
--- Where no card reads a packed array or writes a packed or binary field, the changes are those of the layout alone.
+-- Where no card reads a packed or binary array or writes a packed or binary field, the changes are those of the layout alone.
 abbrev pub AreReadChanges : List ℕ → Layout → List CardChange → Type 0
 AreReadChanges source layout changes =
     IfOk (cards_of source) (λ cards. reads_arrays cards ≡ false → list_any writes_number cards ≡ false → changes ≡ layout_changes (layout_seen layout))

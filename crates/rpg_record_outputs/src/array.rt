@@ -27,6 +27,9 @@ struct Entries {
 /// Returns the entries of a packed or binary array, whose columns must be theirs.
 fn entries_on(card: &Card, form: NumberForm, array: Named) -> Result<Entries, CardFault> {
     let name = name_of(columns(card, 53, 58));
+    if array.length > 9 && form.is_same(NumberForm::Binary) {
+        return Err(CardFault::BinaryDigits);
+    }
     let bytes = bytes_of(form, array.length);
     if form.digit_count(usize::from(bytes)) != usize::from(array.length) {
         return Err(CardFault::EntryDigits {

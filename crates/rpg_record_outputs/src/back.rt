@@ -1,9 +1,10 @@
 //! The layout of the records that lines of a deck become.
 
-ghost use Rattle.std.specs.Prelude.{◌≡◌, IfOk, Ok, false};
+ghost use Rattle.std.specs.Prelude.{◌≡◌, IfErr, IfOk, Ok, false};
 ghost use Rattle.rpg_records.specs.Seen.{layout_seen};
-ghost use Rattle.rpg_record_decks.specs.Layouts.{layout_by_cards};
-ghost use Rattle.rpg_record_outputs.specs.Arrays.{IsReadLayout, reads_arrays};
+ghost use Rattle.rpg_record_decks.specs.Layouts.{layout_by, layout_by_cards};
+ghost use Rattle.rpg_record_decks.specs.Outcomes.{IsDeckFaultOf};
+ghost use Rattle.rpg_record_outputs.specs.Arrays.{ReadsNoArray, reads_arrays};
 
 use crate::array::{entry_cards, reads_arrays};
 use crate::file::written_file;
@@ -179,7 +180,8 @@ fn read_layout(
     arguments: DeckArguments,
     cards: &[DeckCard],
 ) -> Result<Layout, DeckFault>
-    ensures { reads_arrays cards.now ≡ false → IfOk result (λ layout. layout_by_cards arguments.entry cards.now ≡ Ok (layout_seen layout)) }
+    ensures layout { reads_arrays cards.now ≡ false → IfOk result (λ layout. layout_by_cards arguments.entry cards.now ≡ Ok (layout_seen layout)) }
+    ensures fault { reads_arrays cards.now ≡ false → IfErr result (IsDeckFaultOf (layout_by_cards arguments.entry cards.now)) }
 {
     if !reads_arrays(cards) {
         return layout_by_cards(alloc, arguments, cards);
@@ -198,7 +200,8 @@ pub fn input_layout(
     source: &[u8],
     arguments: DeckArguments,
 ) -> Result<Layout, DeckFault>
-    ensures { IfOk result (IsReadLayout arguments.entry source.now) }
+    ensures layout { ReadsNoArray source.now → IfOk result (λ layout. layout_by arguments.entry source.now ≡ Ok (layout_seen layout)) }
+    ensures fault { ReadsNoArray source.now → IfErr result (IsDeckFaultOf (layout_by arguments.entry source.now)) }
 {
     let cards = deck_cards(alloc, source)?;
     read_layout(alloc, arguments, cards.as_slice())

@@ -54,14 +54,17 @@ pub(crate) fn is_array(cards: &[DeckCard], name: &[u8]) -> bool
     false
 }
 
-/// Returns what the first E card with this name defines an array to be.
+/// Returns what the first E card with this name defines an array to be. A table stands for its current entry.
 pub(crate) fn array_named(cards: &[DeckCard], name: &[u8]) -> Option<Named> {
     for card in cards {
         if defines(card, name) {
             return Some(Named {
                 length: number_on(&card.card, 40, 42),
                 is_number: is_filled(&card.card, 44),
-                entries: number_on(&card.card, 36, 39),
+                entries: match name {
+                    [b'T', b'A', b'B', ..] => 1,
+                    _ => number_on(&card.card, 36, 39),
+                },
             });
         }
     }
