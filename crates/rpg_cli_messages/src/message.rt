@@ -105,8 +105,8 @@ impl<'a> Told<'a> {
         } else {
             most
         };
-        let listed = faults.get(..usize::from(most)).unwrap_or(&faults);
-        self.add_listed(out, known.cards(), listed)?;
+        let shown = faults.len().min(usize::from(most));
+        self.add_listed(out, known.cards(), &faults[..shown])?;
         let mut draft = Draft::note(self.alloc, self.file.whole());
         write_count(&mut draft.message, &faults, known.unread, most);
         out.push(draft.finish());

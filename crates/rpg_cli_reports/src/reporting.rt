@@ -53,14 +53,16 @@ fn write_bad_date(out: &mut TextWriter, request: &Request) {
         return;
     }
     let text = request.date_text().as_bytes();
-    match six_digits(text) {
-        Some((date, other)) => {
-            out.fill_one("--date needs six digits: give --date {}", date.as_slice());
-            if let Some(other) = other {
-                out.fill_one(" or {}", other.as_slice());
-            }
-        }
-        None => out.fill_one(BAD_DATE, text),
+    let Some(found) = six_digits(text) else {
+        out.fill_one(BAD_DATE, text);
+        return;
+    };
+    let date = found.date;
+    out.fill_one("--date needs six digits: give --date {}", date.as_slice());
+    if found.has_points {
+        let [m, n, d, e, y, z] = date;
+        let other = [d, e, m, n, y, z];
+        out.fill_one(" or {}", other.as_slice());
     }
 }
 
@@ -88,20 +90,22 @@ fn are_digits(text: &[u8]) -> bool {
     true
 }
 
-/// Returns a date with dashes or points in six digits: month, day and year; and of one with points, whose day comes first, day, month and
-/// year too.
-fn six_digits(text: &[u8]) -> Option<([u8; 6], Option<[u8; 6]>)> {
-    let (century, date, other) = match *text {
-        [c, f, y, z, b'-', m, n, b'-', d, e] => ([c, f], [m, n, d, e, y, z], None),
-        [d, e, b'.', m, n, b'.', c, f, y, z] => (
-            [c, f],
-            [m, n, d, e, y, z],
-            Some([d, e, m, n, y, z]),
-        ),
+/// A month, a day and a year of two digits, and whether they were written with points: the day may come first then.
+#[derive(Clone, Copy)]
+struct SixDigits {
+    date: [u8; 6],
+    has_points: bool,
+}
+
+/// Returns a date with dashes or points in six digits.
+fn six_digits(text: &[u8]) -> Option<SixDigits> {
+    let (century, date, has_points) = match *text {
+        [c, f, y, z, b'-', m, n, b'-', d, e] => ([c, f], [m, n, d, e, y, z], false),
+        [d, e, b'.', m, n, b'.', c, f, y, z] => ([c, f], [m, n, d, e, y, z], true),
         _ => return None,
     };
     if are_digits(&century) && are_digits(&date) && is_date(date) {
-        Some((date, other))
+        Some(SixDigits { date, has_points })
     } else {
         None
     }
