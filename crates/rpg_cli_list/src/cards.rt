@@ -22,24 +22,24 @@ fn write_card(out: &mut TextWriter, number: usize, line: &[u8]) {
     out.write_char('\n');
 }
 
-/// Writes the faults of a card, the first of these. Returns the others.
-fn write_faults<'f>(
+/// Writes the faults of a card, the first of these. Returns how many there are.
+fn write_faults(
     alloc: Global,
     out: &mut TextWriter,
     number: usize,
     line: &[u8],
     source: SourceCards<'_>,
-    faults: &'f [&'f CardFault],
-) -> Result<&'f [&'f CardFault], AllocError> {
-    let mut rest = faults;
+    faults: &[&CardFault],
+) -> Result<usize, AllocError> {
+    let mut count = 0usize;
     for fault in faults {
         if usize::from(fault.card) != number {
             break;
         }
         write_note(alloc, out, MARGIN, line, source, fault)?;
-        rest = rest.get(1..).unwrap_or(&[]);
+        count = count.saturating_add(1);
     }
-    Ok(rest)
+    Ok(count)
 }
 
 /// Returns the lines of a source, up to the card that ends it, or to the first one over the limit.
@@ -70,11 +70,13 @@ pub(crate) fn write_cards(
     out.write_str("\n card ");
     write_ruler(out, 80);
     out.write_char('\n');
-    let mut rest = write_faults(alloc, out, 0, &[], source, faults)?;
+    let mut written = write_faults(alloc, out, 0, &[], source, faults)?;
     for (place, line) in lines.iter().enumerate() {
         let number = place.saturating_add(1);
         write_card(out, number, line);
-        rest = write_faults(alloc, out, number, line, source, rest)?;
+        let rest = &faults[written.min(faults.len())..];
+        let more = write_faults(alloc, out, number, line, source, rest)?;
+        written = written.saturating_add(more);
     }
     Ok(())
 }

@@ -6,7 +6,7 @@ mod deck;
 mod fault;
 mod head;
 mod input;
-mod merge;
+mod merging;
 mod order;
 
 pub use ahead::{AheadColumns, put_ahead};
@@ -15,5 +15,5 @@ pub use deck::{
 };
 pub use fault::MergeStop;
 pub use input::LineInput;
-pub use merge::merge;
+pub use merging::merge;
 pub use rpg_fit_deck::{Refusal, Rule, Sentence, Word};

@@ -37,7 +37,7 @@ fn first_or<'a>(
     head: &'a Head,
     later: Option<Waiting<'a>>,
 ) -> Option<Waiting<'a>>
-    ensures { option_map seen_waiting result ≡ spec.first_or is_descending place (waiting_of head.now) (option_map seen_waiting later) }
+    ensures { option_map seen_waiting result ≡ spec.first_or is_descending place (waiting_of head.now) (option_map seen_waiting later.entry) }
 {
     if !head.is_there {
         return later;
