@@ -141,9 +141,11 @@ fn write_cell_fault(out: &mut TextWriter, text: &[u8], fault: TextFault) {
 fn write_row_fault(out: &mut TextWriter, has_header: bool, fault: Fault) {
     match fault {
         Fault::NoRow => out.write_str("there is no row"),
-        Fault::Utf16([first, second]) => {
+        Fault::Utf16(mark) => {
             out.write_str("it begins with ");
-            write_hex(out, u32::from(first) * 256 + u32::from(second), 4);
+            for byte in mark {
+                write_hex(out, u32::from(byte), 2);
+            }
             out.write_str(": the file is UTF-16, and UTF-8 is read");
         }
         Fault::Row(fault) => write_raw_fault(out, fault),
