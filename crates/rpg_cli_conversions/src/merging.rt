@@ -238,7 +238,8 @@ fn write_lines<F: Read + Drop, S: Read + Drop, W: Write>(
     match work {
         Work::Merge(deck) => {
             let mut inputs = Vec::new(alloc);
-            for source in sources.iter_mut() {
+            let all = sources.iter_mut();
+            for source in all {
                 inputs.push(LineInput::new(alloc, source)?)?;
             }
             merge(alloc, deck, inputs.as_mut_slice(), writer)
