@@ -20,7 +20,7 @@ import time
 from dataclasses import dataclass
 from pathlib import Path
 
-from written_records import compare_outputs
+from written_records import card, compare_outputs
 
 TOP = Path(__file__).resolve().parent.parent
 RPG2 = os.environ.get("RPG2", str(TOP / "crates/rpg2/out/rpg2"))
@@ -44,14 +44,6 @@ class Field:
     def digits(self):
         size = self.end - self.start
         return {"packed": 2 * size - 1, "binary": {2: 4, 4: 9}.get(size, 0), "zoned": size, "text": 0}[self.kind]
-
-
-def card(**columns):
-    line = [" "] * 80
-    for place, text in columns.items():
-        at = int(place[1:]) - 1
-        line[at : at + len(text)] = text
-    return "".join(line).rstrip() + "\n"
 
 
 @dataclass(frozen=True)
