@@ -41,6 +41,12 @@ pub fn file_rows<'a, L: Listener>(
         Ok(fields) => Ok(Some(FileRows { arguments, fields })),
         Err(
             Refusal {
+                fault: Fault::NoMemory,
+                ..
+            },
+        ) => Err(Answer::NoMemory),
+        Err(
+            Refusal {
                 part: Part::Card(number),
                 fault,
             },
