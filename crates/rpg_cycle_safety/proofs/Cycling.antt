@@ -102,8 +102,8 @@ module _ (p : Object) (orderly : IsOrderly p) where
 
   selecting_works : (left : Left) → Works p (select_one p left) owing owing (moving_weight p.types)
   selecting_works left =
-      does_work p (λ c. select_from p left (chosen p (waiting_in c.inputs Primary) (waiting_in c.inputs Secondary)) c) owing owing (moving_weight p.types)
-      (λ n c r. let o = chosen p (waiting_in c.inputs Primary) (waiting_in c.inputs Secondary) in
+      does_work p (λ c. select_from p left (chosen p left (waiting_in c.inputs Primary) (waiting_in c.inputs Secondary)) c) owing owing (moving_weight p.types)
+      (λ n c r. let o = chosen p left (waiting_in c.inputs Primary) (waiting_in c.inputs Secondary) in
       picked (moving_weight p.types) n c (select_from p left o c) r (selects p orderly left c r.waiting r.taken o))
 
   abbrev selection_weight : ℕ
@@ -216,7 +216,7 @@ module _ (p : Object) (orderly : IsOrderly p) where
   after_match = fill_fields p before detail_calculations p
 
   abbrev overflow_lines_weight : ℕ
-  overflow_lines_weight = cond (is_some p.overflow) (output_weight p times.Overflow) 0
+  overflow_lines_weight = cond (is_some p.overflow.indicator) (output_weight p times.Overflow) 0
 
   abbrev totals : ℕ
   totals = section_cost p sections.Total + output_weight p times.Total
@@ -235,7 +235,7 @@ module _ (p : Object) (orderly : IsOrderly p) where
     late_work =
         both p end_where_last from_overflow owing owing nothing 0 late (ending_works owing)
         (both p (overflow_lines p) (show_match matches before after_match) owing owing nothing overflow_lines_weight (0 + (0 + section_cost p sections.Detail))
-        (overflow_works p p.overflow (output p times.Overflow) owing (output_weight p times.Overflow) (output_works times.Overflow owing))
+        (overflow_works p p.overflow.indicator (output p times.Overflow) owing (output_weight p times.Overflow) (output_works times.Overflow owing))
         (both p (show_match matches) after_match owing owing nothing 0 (0 + section_cost p sections.Detail) (showing_works matches owing)
         (both p (fill_fields p) (detail_calculations p) owing nothing nothing 0 (section_cost p sections.Detail) filling_works (section_works sections.Detail nothing refl))))
 

@@ -27,7 +27,7 @@ use Rattle.rpg_verify_rules.specs.Sound.{IsAt, IsSound}
 module _ (p : Object) (kept : IsProgram p) (sound : IsSound p) where
   -- the lines of a passage
   pub passage_keeps : (pass : Pass) (w : World nat_cmp) → Holds p w.data → Keeps p (passage_effect p pass w)
-  passage_keeps pass w h = lines_keep p kept p.overflow pass p.lines w sound.lines h
+  passage_keeps pass w h = lines_keep p kept pass p.lines w sound.lines h
 
   detail_keeps : (w : World nat_cmp) → Holds p w.data → Keeps p (detail_effect p w)
   detail_keeps w h =

@@ -178,8 +178,8 @@ module _ (p : Object) (orderly : IsOrderly p) where
 
   selecting_paid : (left : Left) → IsPaid (select_one p left)
   selecting_paid left =
-      picked_paid (moving_weight p.types) (λ c. select_from p left (chosen p (waiting_in c.inputs Primary) (waiting_in c.inputs Secondary)) c)
-      (λ c waiting taken. selects p orderly left c waiting taken (chosen p (waiting_in c.inputs Primary) (waiting_in c.inputs Secondary)))
+      picked_paid (moving_weight p.types) (λ c. select_from p left (chosen p left (waiting_in c.inputs Primary) (waiting_in c.inputs Secondary)) c)
+      (λ c waiting taken. selects p orderly left c waiting taken (chosen p left (waiting_in c.inputs Primary) (waiting_in c.inputs Secondary)))
 
   selected_paid : (left : Left) (primary secondary : Option (List ℕ)) (b : Bool) →
       IsPaid (either b (without_output (λ c. done Continues (with_config (with_all level_indicators true) c))) (take_in p left Primary primary before take_in p left Secondary secondary before select_one p left))
@@ -202,7 +202,7 @@ module _ (p : Object) (orderly : IsOrderly p) where
       (both_paid (section p sections.Total) (output p times.Total) (section_rests sections.Total refl) (output_paid times.Total))
 
   overflow_paid : IsPaid (overflow_lines p)
-  overflow_paid = unless_paid (has_no_overflow p.overflow) (output p times.Overflow) (output_paid times.Overflow)
+  overflow_paid = unless_paid (has_no_overflow p.overflow.indicator) (output p times.Overflow) (output_paid times.Overflow)
 
   filled_paid : (config : Config) (i : Inputs) (s : Option Selected) (previous : Option Position) (e : PhaseEnd) (d : UnderWay) (out : Output) →
       Rests (record { config = config; inputs = i; selected = s }) → StandsNear previous config.world.paper.here → fill_from p s (record { config = config; inputs = i; selected = s }) e d out →

@@ -75,7 +75,7 @@ page_weight (l ∷ ls) = page_by l.time (line_weight l) (lines_weight is_at_deta
 module _ (p : Object) (kept : IsProgram p) (sound : IsSound p) where
   passage_few : (pass : Pass) (is_meant : Time → Bool) → ((time : Time) → is_meant time ≡ false → may_count time pass ≡ false) →
       (previous : Option Position) (w : World nat_cmp) → Holds p w.data → StandsNear previous w.paper.here → PutsFew previous (lines_weight is_meant (lines_of p)) (passage_effect p pass w)
-  passage_few pass is_meant others previous w h near = lines_few p kept p.overflow pass is_meant others p.lines previous w sound.lines h near
+  passage_few pass is_meant others previous w h near = lines_few p kept pass is_meant others p.lines previous w sound.lines h near
 
   detail_few : (previous : Option Position) (w : World nat_cmp) → Holds p w.data → StandsNear previous w.paper.here → PutsFew previous (lines_weight is_at_detail (lines_of p) + 0) (detail_effect p w)
   detail_few previous w h near =

@@ -4,16 +4,15 @@ use Rattle.std.proofs.lemmas.List.{get_or-replicate, length-replicate}
 use Rattle.std.proofs.lemmas.List.Elements.{All-head, All-nil, All-push, All-tail}
 use Rattle.std.specs.Prelude.{All}
 use Rattle.rpg_decimal.proofs.WholeLemmas.{ten_pos}
-use Rattle.rpg_paper.specs.Paper.{Position, spaced, skipped, turns_overflow_on}
 use Rattle.rpg_program.specs.Effect.{Effect, Leaves, unless_wrong}
 use Rattle.rpg_program.specs.Ends.{End, Fault, Continues, Halt, Wrong}
 use Rattle.rpg_program.specs.Entries.{position_of}
 use Rattle.rpg_program.specs.Forms.{form_at, is_index_form, kind_of, length_of, may_write}
 use Rattle.rpg_program.specs.LineFaults.{AreRight, field_fault, fits_source, has_room, has_storage, has_word, prints_page, may_change}
-use Rattle.rpg_program.specs.Lines.{Draft, Drafted, Line, after_movement, after_skip, assembled, blank_line, blanked, blanked_all, with_page_counted, drafted, go_on_with, is_due, laid, line_out, lines_out, next_page, one_out, printed_line, put_on, write_line_out, remembered, spaced_after, spaced_before, unless_faulty, where_due, with_field, with_fields}
+use Rattle.rpg_program.specs.Lines.{Draft, Drafted, Line, assembled, blank_line, blanked, blanked_all, with_page_counted, drafted, go_on_with, is_due, laid, line_out, lines_out, next_page, one_out, printed_line, put_on, write_line_out, remembered, spaced_after, spaced_before, unless_faulty, where_due, with_field, with_fields}
 use Rattle.rpg_program.specs.Rows.{has_entry}
 use Rattle.rpg_program.specs.Values.{Value, Number, Text, number_of}
-use Rattle.rpg_program.specs.World.{Data, Fields, World, set_value, three_hold, value_in}
+use Rattle.rpg_program.specs.World.{Data, World, set_value, three_hold, value_in}
 use Rattle.rpg_program.specs.declared.form.FieldForm.{FieldForm}
 use Rattle.rpg_program.specs.declared.form.Kind.{Kind}
 use Rattle.rpg_program.specs.declared.form.Kind.TheVariants as kinds
@@ -24,8 +23,10 @@ use Rattle.rpg_program.specs.declared.line.Pass.{Pass}
 use Rattle.rpg_program.specs.declared.line.Source.{Source}
 use Rattle.rpg_program.specs.declared.line.Source.TheVariants as sources
 use Rattle.rpg_program.specs.declared.line.Spacing.{Spacing}
+use Rattle.rpg_program.specs.declared.rows.Overflow.{Overflow}
 use Rattle.rpg_cycle_safety.proofs.Writing.{index_may, leaves, number_written, same_fields, text_written, then_keeps}
 use Rattle.rpg_cycle_safety.specs.Holding.{Holds, IsEffectEnd, Keeps}
+use Rattle.rpg_machine.proofs.KeepingLines.{spaced_fields}
 use Rattle.rpg_machine_lines.proofs.Fields.{right}
 use Rattle.rpg_machine_lines.proofs.Keeping.{page_kind, page_room, page_small}
 use Rattle.rpg_machine_lines.proofs.Operands.{entry_there, value_there}
@@ -63,26 +64,6 @@ number_here kinds.Number len (Some (Number n)) is h = refl
 number_here kinds.Number len (Some (Text text)) is h = absurd h
 number_here kinds.Number len None is h = absurd h
 number_here kinds.Text len o is h = cc
-
--- ---- what a movement leaves
-
-module _ (overflow : Option ℕ) where
-  either : (b : Bool) (f : Fields nat_cmp) (u v : World nat_cmp) → u.data.fields ≡ f → v.data.fields ≡ f → (cond b u v).data.fields ≡ f
-  either true f u v h k = h
-  either false f u v h k = k
-
-  moved : (to : Position) (w : World nat_cmp) → (after_movement overflow to w).data.fields ≡ w.data.fields
-  unfolding after_movement
-  moved to w = either (turns_overflow_on w.paper.here to) w.data.fields _ _ refl refl
-
-  skipped_to : (line : ℕ) (w : World nat_cmp) → (after_skip overflow line w).data.fields ≡ w.data.fields
-  skipped_to line w = either _ w.data.fields w _ refl (moved (skipped line w.paper.here) w)
-
-  before : (s : Spacing) (w : World nat_cmp) → (spaced_before overflow s w).data.fields ≡ w.data.fields
-  before s w = moved (spaced s.space_before (after_skip overflow s.skip_before w).paper.here) (after_skip overflow s.skip_before w) ∙ skipped_to s.skip_before w
-
-  after : (s : Spacing) (w : World nat_cmp) → (spaced_after overflow s w).data.fields ≡ w.data.fields
-  after s w = moved (spaced s.space_after (after_skip overflow s.skip_after w).paper.here) (after_skip overflow s.skip_after w) ∙ skipped_to s.skip_after w
 
 -- ---- entries that are written
 
@@ -188,14 +169,14 @@ module _ (p : Object) where
 
   -- ---- a line that is output
 
-  put_keeps : (overflow : Option ℕ) (file : File) (s : Spacing) (text : List ℕ) (w : World nat_cmp) → Holds p w.data → Keeps p (put_on overflow file s text w)
+  put_keeps : (overflow : Overflow) (file : File) (s : Spacing) (text : List ℕ) (w : World nat_cmp) → Holds p w.data → Keeps p (put_on overflow file s text w)
   unfolding put_on
   put_keeps overflow Disk s text w h = record { ending = tt; holds = h }
   put_keeps overflow Printer s text w h =
-      then_keeps p (printed_line (spaced_before overflow s w) text) (λ v. Leaves (spaced_after overflow s v)) (record { ending = tt; holds = same_fields p w.data (spaced_before overflow s w).data h (before overflow s w) })
-      (λ v k. leaves p _ (same_fields p v.data (spaced_after overflow s v).data k (after overflow s v)))
+      then_keeps p (printed_line (spaced_before overflow s w) text) (λ v. Leaves (spaced_after overflow s v)) (record { ending = tt; holds = same_fields p w.data (spaced_before overflow s w).data h (spaced_fields overflow s.skip_before s.space_before w) })
+      (λ v k. leaves p _ (same_fields p v.data (spaced_after overflow s v).data k (spaced_fields overflow s.skip_after s.space_after v)))
 
-  out_keeps : (overflow : Option ℕ) (l : Line ℕ) (w : World nat_cmp) (ending : End) (d : Draft nat_cmp) → IsEffectEnd ending →
+  out_keeps : (overflow : Overflow) (l : Line ℕ) (w : World nat_cmp) (ending : End) (d : Draft nat_cmp) → IsEffectEnd ending →
       Draws w.data (drafted Continues d) → Keeps p (write_line_out (form_at p.fields) (word_at p) overflow l w ending d)
   out_keeps overflow l w Continues d right h =
       then_keeps p (put_on overflow l.file l.spacing d.text (with_fields d.fields w)) (λ v. Leaves (with_fields (blanked_all d.to_blank v.data.fields) v))
@@ -203,32 +184,32 @@ module _ (p : Object) where
   out_keeps overflow l w (Halt k) d right h = record { ending = right; holds = h.fields }
   out_keeps overflow l w (Wrong f) d right h = absurd right
 
-  module _ (kept : IsProgram p) (overflow : Option ℕ) where
-    line_keeps : (l : LineRow) (w : World nat_cmp) → IsSoundLine p l → Holds p w.data → Keeps p (line_out (form_at p.fields) (word_at p) overflow (program_line p l) w)
+  module _ (kept : IsProgram p) where
+    line_keeps : (l : LineRow) (w : World nat_cmp) → IsSoundLine p l → Holds p w.data → Keeps p (line_out (form_at p.fields) (word_at p) p.overflow (program_line p l) w)
     unfolding line_out
     line_keeps l w sound h =
         let len = file_length p l.file in
         let start = blank_line len w in
         let done = assembled (form_at p.fields) (word_at p) w.data.on len l.fields start in
         let draws = assembled_keeps kept len w.data l.fields start sound.fields (record { ending = tt; fields = h; blanks = All-nil (MayWrite p) }) in
-        let out = out_keeps overflow (program_line p l) w done.ending done.draft draws.ending (record { ending = tt; fields = draws.fields; blanks = draws.blanks }) in
-        subst (λ (o : Option Fault). Keeps p (unless_wrong o w (write_line_out (form_at p.fields) (word_at p) overflow (program_line p l) w done.ending done.draft))) (sym sound.line) out
+        let out = out_keeps p.overflow (program_line p l) w done.ending done.draft draws.ending (record { ending = tt; fields = draws.fields; blanks = draws.blanks }) in
+        subst (λ (o : Option Fault). Keeps p (unless_wrong o w (write_line_out (form_at p.fields) (word_at p) p.overflow (program_line p l) w done.ending done.draft))) (sym sound.line) out
 
     asked_keeps : (b : Bool) (e : Effect nat_cmp) (w : World nat_cmp) → Keeps p e → Holds p w.data → Keeps p (where_due (form_at p.fields) (word_at p) b e w)
     asked_keeps true e w k h = k
     asked_keeps false e w k h = leaves p w h
 
     pub one_keeps : (pass : Pass) (l : LineRow) (w : World nat_cmp) → IsSoundLine p l → Holds p w.data →
-        Keeps p (one_out (form_at p.fields) (word_at p) overflow pass (program_line p l) w)
+        Keeps p (one_out (form_at p.fields) (word_at p) p.overflow pass (program_line p l) w)
     unfolding one_out
     one_keeps pass l w sound h =
-        asked_keeps (is_due overflow pass w.data.on l.time l.alternatives) (line_out (form_at p.fields) (word_at p) overflow (program_line p l) w) w (line_keeps l w sound h) h
+        asked_keeps (is_due p.overflow.indicator pass w.data.on l.time l.alternatives) (line_out (form_at p.fields) (word_at p) p.overflow (program_line p l) w) w (line_keeps l w sound h) h
 
     -- the lines of a passage
     pub lines_keep : (pass : Pass) (ls : List LineRow) (w : World nat_cmp) → All (IsSoundLine p) ls → Holds p w.data →
-        Keeps p (lines_out (form_at p.fields) (word_at p) overflow pass (map (program_line p) ls) w)
+        Keeps p (lines_out (form_at p.fields) (word_at p) p.overflow pass (map (program_line p) ls) w)
     unfolding lines_out
     lines_keep pass [] w sound h = leaves p w h
     lines_keep pass (l ∷ ls) w sound h =
-        then_keeps p (one_out (form_at p.fields) (word_at p) overflow pass (program_line p l) w) (lines_out (form_at p.fields) (word_at p) overflow pass (map (program_line p) ls))
+        then_keeps p (one_out (form_at p.fields) (word_at p) p.overflow pass (program_line p l) w) (lines_out (form_at p.fields) (word_at p) p.overflow pass (map (program_line p) ls))
         (one_keeps pass l w (All-head (IsSoundLine p) l ls sound) h) (λ v k. lines_keep pass ls v (All-tail (IsSoundLine p) l ls sound) k)

@@ -19,7 +19,10 @@ use Rattle.rpg_program.specs.declared.line.Pass.{Pass}
 use Rattle.rpg_program.specs.declared.line.Spacing.{Spacing}
 use Rattle.rpg_program.specs.declared.line.Time.{Time}
 use Rattle.rpg_cycle_safety.proofs.Laying.{assembled_long}
-use Rattle.rpg_cycle_safety.proofs.Moving.{IsShort, after_up, before_up, short_spacing, way_short}
+use Rattle.rpg_cycle_safety.proofs.Moving.{after_up, before_up, way_short}
+use Rattle.rpg_machine_lines.proofs.Moving.{short_spacing}
+use Rattle.rpg_machine_lines.specs.Ready.{IsShort}
+use Rattle.rpg_program.specs.declared.rows.Overflow.{Overflow}
 use Rattle.rpg_cycle_safety.proofs.Printing.{Draws, one_keeps}
 use Rattle.rpg_cycle_safety.specs.Holding.{Holds}
 use Rattle.rpg_cycle_safety.specs.Measuring.{StandsNear, bytes_of_step}
@@ -30,7 +33,7 @@ use Rattle.rpg_program.specs.Kept.{IsProgram}
 use Rattle.rpg_program.specs.Object.{LineRow, Object, file_length, program_line}
 use Rattle.rpg_paper.proofs.Papers.{bytes_from-append}
 use Rattle.rpg_paper.specs.Form.{page_or_1}
-use Rattle.rpg_paper.specs.Paper.{Placed, Position, bytes_from, last_position_from, way}
+use Rattle.rpg_paper.specs.Paper.{IsPage, Placed, Position, bytes_from, last_position_from, way}
 use Rattle.rpg_text.specs.Texts.{is_blank, trimmed}
 use Rattle.rpg_verify_rules.specs.Sound.{IsSoundLine}
 
@@ -91,7 +94,7 @@ then_few previous n m e go h k = both_few previous n m e.ending e go h k
 trimmed_short : (text : List ℕ) → length (trimmed text) ≤ length text
 trimmed_short text = let is = length-take (length text - suffix_len is_blank text) text in omega (arith, is)
 
-placed_few : (previous : Option Position) (at : Position) (text : List ℕ) → length (way previous at) ≤ 70 → length text ≤ 132 →
+placed_few : (previous : Option Position) (at : Position) (text : List ℕ) → length (way previous at) ≤ 116 → length text ≤ 132 →
     length (way previous at ++ trimmed text ++ []) ≤ 9999
 placed_few previous at text short few =
     let one = length-append (way previous at ++ trimmed text) [] in
@@ -107,38 +110,38 @@ abbrev limit_of : File → ℕ
 limit_of Printer = 132
 limit_of Disk = 9999
 
-put_few : (overflow : Option ℕ) (file : File) (s : Spacing) (text : List ℕ) (previous : Option Position) (w : World nat_cmp) → IsShort s →
+put_few : (overflow : Overflow) → IsPage overflow.page → (file : File) (s : Spacing) (text : List ℕ) (previous : Option Position) (w : World nat_cmp) → IsShort s →
     length text ≤ limit_of file → StandsNear previous w.paper.here → PutsFew previous 1 (put_on overflow file s text w)
 unfolding put_on
-put_few overflow Printer s text previous w short few near =
+put_few overflow is Printer s text previous w short few near =
     let v = spaced_before overflow s w in
-    let up = before_up overflow s (page_or_1 previous + 2) w short (record { line = near.line; page = near.page }) in
+    let up = before_up overflow is s (page_or_1 previous + 2) w short (record { line = near.line; page = near.page }) in
     let pages = up.page in
     let at = v.paper.here in
     let far = way_short previous at (record { line = up.line; page = omega (arith, pages) }) in
     let bytes = placed_few previous at text far few in
-    let following = after_up overflow s at.page v short (record { line = up.line; page = omega arith }) in
+    let following = after_up overflow is s at.page v short (record { line = up.line; page = omega arith }) in
     record { few = omega (arith, bytes); near = record { line = following.line; page = following.page } }
-put_few overflow Disk s text previous w short few near = let bytes = record_few text few in record { few = omega (arith, bytes); near = near }
+put_few overflow is Disk s text previous w short few near = let bytes = record_few text few in record { few = omega (arith, bytes); near = near }
 
 module _ (p : Object) where
-  out_few : (overflow : Option ℕ) (l : Line ℕ) (previous : Option Position) (w : World nat_cmp) (ending : End) (d : Draft nat_cmp) → IsShort l.spacing →
+  out_few : (overflow : Overflow) → IsPage overflow.page → (l : Line ℕ) (previous : Option Position) (w : World nat_cmp) (ending : End) (d : Draft nat_cmp) → IsShort l.spacing →
       length d.text ≤ limit_of l.file → StandsNear previous w.paper.here → PutsFew previous 1 (write_line_out (form_at p.fields) (word_at p) overflow l w ending d)
-  out_few overflow l previous w Continues d short few near =
+  out_few overflow is l previous w Continues d short few near =
       let put = put_on overflow l.file l.spacing d.text (with_fields d.fields w) in
-      let one = put_few overflow l.file l.spacing d.text previous (with_fields d.fields w) short few near in
+      let one = put_few overflow is l.file l.spacing d.text previous (with_fields d.fields w) short few near in
       let v : World nat_cmp = with_fields (blanked_all d.to_blank put.world.data.fields) put.world in
       then_few previous 1 0 put (λ v. Leaves (with_fields (blanked_all d.to_blank v.data.fields) v)) one (leaves_few (last_position_from previous put.lines) v one.near)
-  out_few overflow l previous w (Halt k) d short few near = record { few = omega arith; near = near }
-  out_few overflow l previous w (Wrong f) d short few near = record { few = omega arith; near = near }
+  out_few overflow is l previous w (Halt k) d short few near = record { few = omega arith; near = near }
+  out_few overflow is l previous w (Wrong f) d short few near = record { few = omega arith; near = near }
 
   within_limit : (kept : IsProgram p) (file : File) → file_length p file ≤ limit_of file
   within_limit kept Printer = kept.widest_line
   within_limit kept Disk = kept.longest_disk_record
 
-  module _ (kept : IsProgram p) (overflow : Option ℕ) where
+  module _ (kept : IsProgram p) where
     line_few : (l : LineRow) (previous : Option Position) (w : World nat_cmp) → IsSoundLine p l → Holds p w.data → StandsNear previous w.paper.here →
-        PutsFew previous 1 (line_out (form_at p.fields) (word_at p) overflow (program_line p l) w)
+        PutsFew previous 1 (line_out (form_at p.fields) (word_at p) p.overflow (program_line p l) w)
     unfolding line_out
     line_few l previous w sound h near =
         let len = file_length p l.file in
@@ -148,9 +151,9 @@ module _ (p : Object) where
         let blanks : length start.text ≡ len = length-replicate len 32 in
         let long = assembled_long p kept len w.data l.fields start sound.fields draws blanks in
         let limit = within_limit kept l.file in
-        let short = short_spacing len l.spacing sound.line in
-        let out = out_few overflow (program_line p l) previous w done.ending done.draft short (omega (arith, long, limit)) near in
-        subst (λ (o : Option Fault). PutsFew previous 1 (unless_wrong o w (write_line_out (form_at p.fields) (word_at p) overflow (program_line p l) w done.ending done.draft))) (sym sound.line) out
+        let short = short_spacing p.overflow.page len l.spacing kept.page sound.line in
+        let out = out_few p.overflow kept.page (program_line p l) previous w done.ending done.draft short (omega (arith, long, limit)) near in
+        subst (λ (o : Option Fault). PutsFew previous 1 (unless_wrong o w (write_line_out (form_at p.fields) (word_at p) p.overflow (program_line p l) w done.ending done.draft))) (sym sound.line) out
 
     asked_few : (b : Bool) (n : ℕ) (e : Effect nat_cmp) (previous : Option Position) (w : World nat_cmp) → PutsFew previous n e → StandsNear previous w.paper.here →
         PutsFew previous n (where_due (form_at p.fields) (word_at p) b e w)
@@ -160,26 +163,26 @@ module _ (p : Object) where
     -- at this passage no lines are output but those that are meant
     module _ (pass : Pass) (is_meant : Time → Bool) (others : (time : Time) → is_meant time ≡ false → may_count time pass ≡ false) where
       one_by : (b : Bool) (l : LineRow) (previous : Option Position) (w : World nat_cmp) → is_meant l.time ≡ b → IsSoundLine p l → Holds p w.data → StandsNear previous w.paper.here →
-          PutsFew previous (cond b (line_weight (program_line p l)) 0) (one_out (form_at p.fields) (word_at p) overflow pass (program_line p l) w)
+          PutsFew previous (cond b (line_weight (program_line p l)) 0) (one_out (form_at p.fields) (word_at p) p.overflow pass (program_line p l) w)
       unfolding one_out
       one_by true l previous w meant sound h near =
-          let line = line_out (form_at p.fields) (word_at p) overflow (program_line p l) w in
-          asked_few (is_due overflow pass w.data.on l.time l.alternatives) (line_weight (program_line p l)) line previous w
+          let line = line_out (form_at p.fields) (word_at p) p.overflow (program_line p l) w in
+          asked_few (is_due p.overflow.indicator pass w.data.on l.time l.alternatives) (line_weight (program_line p l)) line previous w
           (few_more previous 1 (line_weight (program_line p l)) line (omega arith) (line_few l previous w sound h near)) near
       one_by false l previous w meant sound h near =
-          let line = line_out (form_at p.fields) (word_at p) overflow (program_line p l) w in
-          subst (λ (b : Bool). PutsFew previous 0 (where_due (form_at p.fields) (word_at p) b line w)) (sym (none_due overflow pass w.data.on l.time l.alternatives (others l.time meant)))
+          let line = line_out (form_at p.fields) (word_at p) p.overflow (program_line p l) w in
+          subst (λ (b : Bool). PutsFew previous 0 (where_due (form_at p.fields) (word_at p) b line w)) (sym (none_due p.overflow.indicator pass w.data.on l.time l.alternatives (others l.time meant)))
           (leaves_few previous w near)
 
       -- the lines of a passage
       pub lines_few : (ls : List LineRow) (previous : Option Position) (w : World nat_cmp) → All (IsSoundLine p) ls → Holds p w.data → StandsNear previous w.paper.here →
-          PutsFew previous (lines_weight is_meant (map (program_line p) ls)) (lines_out (form_at p.fields) (word_at p) overflow pass (map (program_line p) ls) w)
+          PutsFew previous (lines_weight is_meant (map (program_line p) ls)) (lines_out (form_at p.fields) (word_at p) p.overflow pass (map (program_line p) ls) w)
       unfolding lines_out
       lines_few [] previous w sound h near = leaves_few previous w near
       lines_few (l ∷ ls) previous w sound h near =
-          let one = one_out (form_at p.fields) (word_at p) overflow pass (program_line p l) w in
+          let one = one_out (form_at p.fields) (word_at p) p.overflow pass (program_line p l) w in
           let first = All-head (IsSoundLine p) l ls sound in
           let few = one_by (is_meant l.time) l previous w refl first h near in
           then_few previous (cond (is_meant l.time) (line_weight (program_line p l)) 0) (lines_weight is_meant (map (program_line p) ls)) one
-          (lines_out (form_at p.fields) (word_at p) overflow pass (map (program_line p) ls)) few
-          (lines_few ls (last_position_from previous one.lines) one.world (All-tail (IsSoundLine p) l ls sound) (one_keeps p kept overflow pass l w first h).holds few.near)
+          (lines_out (form_at p.fields) (word_at p) p.overflow pass (map (program_line p) ls)) few
+          (lines_few ls (last_position_from previous one.lines) one.world (All-tail (IsSoundLine p) l ls sound) (one_keeps p kept pass l w first h).holds few.near)

@@ -166,8 +166,8 @@ module _ (p : Object) (orderly : IsOrderly p) where
 
   selecting_safe : (left : Left) → IsSafePhase (select_one p left)
   selecting_safe left =
-      picked_safely (moving_weight p.types) (λ c. select_from p left (chosen p (waiting_in c.inputs Primary) (waiting_in c.inputs Secondary)) c)
-      (λ c waiting taken. selects p orderly left c waiting taken (chosen p (waiting_in c.inputs Primary) (waiting_in c.inputs Secondary)))
+      picked_safely (moving_weight p.types) (λ c. select_from p left (chosen p left (waiting_in c.inputs Primary) (waiting_in c.inputs Secondary)) c)
+      (λ c waiting taken. selects p orderly left c waiting taken (chosen p left (waiting_in c.inputs Primary) (waiting_in c.inputs Secondary)))
 
   selected_safe : (left : Left) (primary secondary : Option (List ℕ)) (b : Bool) →
       IsSafePhase (either b (without_output (λ c. done Continues (with_config (with_all level_indicators true) c))) (take_in p left Primary primary before take_in p left Secondary secondary before select_one p left))
@@ -194,7 +194,7 @@ module _ (p : Object) (orderly : IsOrderly p) where
   end_safe c e d out r h = resting e d (subst (λ (y : UnderWay). Rests y) (sym h.1) r)
 
   overflow_safe : IsSafePhase (overflow_lines p)
-  overflow_safe = unless_safe (has_no_overflow p.overflow) (output p times.Overflow) (output_safe times.Overflow)
+  overflow_safe = unless_safe (has_no_overflow p.overflow.indicator) (output p times.Overflow) (output_safe times.Overflow)
 
   filled_safely : (config : Config) (i : Inputs) (s : Option Selected) (e : PhaseEnd) (d : UnderWay) (out : Output) → Rests (record { config = config; inputs = i; selected = s }) →
       fill_from p s (record { config = config; inputs = i; selected = s }) e d out → Leads e d

@@ -25,9 +25,9 @@ output_size previous out = length (bytes_from previous out.lines) + length (disk
 abbrev pub bytes_of_step : ℕ
 bytes_of_step = 10000
 
--- the form is on one of 66 lines, on the page of the line placed last or on one of the two after it
+-- the form is on a line that a page can have, on the page of the line placed last or on one of the two after it
 pub record StandsNear (previous : Option Position) (here : Position) : Type 0 where
-  pub line : here.line ≤ 66
+  pub line : here.line ≤ 112
   pub page : here.page ≤ page_or_1 previous + 2
 
 -- between one configuration and another no more was output than the steps between them may output, and the form is near the line placed

@@ -3,13 +3,13 @@ use Rattle.std.proofs.Common.{◌≡◌, ℕ, suc, Bool, true, false, cond, eqb,
 use Rattle.std.specs.FinSet as set
 use Rattle.std.specs.Ordering.{nat_cmp}
 use Rattle.std.specs.Prelude.{All}
-use Rattle.rpg_paper.specs.Paper.{Position, skipped, spaced, turns_overflow_on}
+use Rattle.rpg_paper.specs.Paper.{Position, skipped, spaced}
 use Rattle.rpg_program.specs.Effect.{Effect, Leaves, go_on, unless_wrong}
 use Rattle.rpg_program.specs.Ends.{End, Fault, Continues, Halt, Wrong}
 use Rattle.rpg_program.specs.Entries.{position_of}
 use Rattle.rpg_program.specs.Forms.{form_at, kind_of}
 use Rattle.rpg_program.specs.LineFaults.{AreRight, field_fault, fits_source}
-use Rattle.rpg_program.specs.Lines.{Draft, Drafted, after_movement, after_skip, after_space, assembled, blank_line, blanked_all, blanked_at, with_page_counted, drafted, exception_output, go_on_with, is_due, laid, line_out, lines_out, one_out, put_on, write_line_out, remembered, spaced_before, unless_faulty, where_due, with_field, with_fields}
+use Rattle.rpg_program.specs.Lines.{Draft, Drafted, after_movement, after_skip, after_skip_to, after_space, assembled, blank_line, blanked_all, blanked_at, with_page_counted, drafted, exception_output, go_on_with, is_due, laid, line_out, lines_out, one_out, put_on, write_line_out, remembered, spaced_before, unless_faulty, where_due, with_field, with_fields}
 use Rattle.rpg_program.specs.Showing.{turned_on}
 use Rattle.rpg_program.specs.Values.{Number, Text, Value, number_of}
 use Rattle.rpg_program.specs.World.{Fields, World, three_hold, value_in}
@@ -34,6 +34,7 @@ use Rattle.rpg_machine.specs.Laws.{FitsIn, GoesRight, IsNoFault}
 use Rattle.rpg_program.specs.Constants.{word_at}
 use Rattle.rpg_program.specs.Kept.{IsFieldRow}
 use Rattle.rpg_program.specs.Object.{LineRow, Object, file_length, lines_of, program_line}
+use Rattle.rpg_program.specs.declared.rows.Overflow.{Overflow}
 use Rattle.rpg_memory.specs.Fits.{Fits, HasForm}
 use Rattle.rpg_store.specs.Store.{IsNumber}
 
@@ -42,27 +43,26 @@ AreFit forms fields = Fits forms fields.values fields.current
 
 -- ---- movements leave the fields as they are
 
-moved_by : (overflow : Option ℕ) (to : Position) (w : World nat_cmp) (b : Bool) → (cond {A = World nat_cmp} b (record { «data» = record w.data { on = turned_on overflow w.data.on }; paper = record w.paper { here = to; has_turned_on = true } }) (record w { paper = record w.paper { here = to } })).data.fields ≡ w.data.fields
-moved_by overflow to w true = refl
-moved_by overflow to w false = refl
-
-movement_fields : (overflow : Option ℕ) (to : Position) (w : World nat_cmp) → (after_movement overflow to w).data.fields ≡ w.data.fields
+movement_fields : (indicator : Option ℕ) (b : Bool) (to : Position) (w : World nat_cmp) → (after_movement indicator b to w).data.fields ≡ w.data.fields
 unfolding after_movement
-movement_fields overflow to w = moved_by overflow to w (turns_overflow_on w.paper.here to)
+movement_fields indicator true to w = refl
+movement_fields indicator false to w = refl
 
-skip_by : (overflow : Option ℕ) (line : ℕ) (w : World nat_cmp) (b : Bool) → (cond {A = World nat_cmp} b w (after_movement overflow (skipped line w.paper.here) w)).data.fields ≡ w.data.fields
+skip_by : (overflow : Overflow) (line : ℕ) (w : World nat_cmp) (b : Bool) → (cond {A = World nat_cmp} b w (after_skip_to overflow line w)).data.fields ≡ w.data.fields
 skip_by overflow line w true = refl
-skip_by overflow line w false = movement_fields overflow (skipped line w.paper.here) w
+skip_by overflow line w false = movement_fields overflow.indicator _ (skipped line w.paper.here) w
 
-spaced_fields : (overflow : Option ℕ) (skip space : ℕ) (w : World nat_cmp) → (after_space overflow space (after_skip overflow skip w)).data.fields ≡ w.data.fields
-spaced_fields overflow skip space w = movement_fields overflow (spaced space (after_skip overflow skip w).paper.here) (after_skip overflow skip w) ∙ skip_by overflow skip w (eqb skip 0)
+pub spaced_fields : (overflow : Overflow) (skip space : ℕ) (w : World nat_cmp) → (after_space overflow space (after_skip overflow skip w)).data.fields ≡ w.data.fields
+spaced_fields overflow skip space w =
+    let there = after_skip overflow skip w in
+    movement_fields overflow.indicator _ (spaced overflow.page space there.paper.here) there ∙ skip_by overflow skip w (eqb skip 0)
 
 -- a line is output, or a record written
 pub record PutsRight (w : World nat_cmp) (e : Effect nat_cmp) : Type 0 where
   pub goes : e.ending ≡ Continues
   pub fields : e.world.data.fields ≡ w.data.fields
 
-put_right : (overflow : Option ℕ) (file : File) (s : Spacing) (text : List ℕ) (w : World nat_cmp) → PutsRight w (put_on overflow file s text w)
+put_right : (overflow : Overflow) (file : File) (s : Spacing) (text : List ℕ) (w : World nat_cmp) → PutsRight w (put_on overflow file s text w)
 unfolding put_on
 put_right overflow Printer s text w = record {
   goes = refl;
@@ -184,7 +184,7 @@ module _ (p : Object) (rows : All IsFieldRow p.fields) where
   one_right : (pass : Pass) (l : LineRow) (w : World nat_cmp) → IsRightLine p l → FitsIn p.fields w.data → GoesRight p.fields (one_out (form_at p.fields) (word_at p) p.overflow pass (program_line p l) w)
   unfolding one_out
   one_right pass l w r fits =
-      asked_right (is_due p.overflow pass w.data.on l.time l.alternatives) (line_out (form_at p.fields) (word_at p) p.overflow (program_line p l) w) w fits (line_right l w r fits)
+      asked_right (is_due p.overflow.indicator pass w.data.on l.time l.alternatives) (line_out (form_at p.fields) (word_at p) p.overflow (program_line p l) w) w fits (line_right l w r fits)
 
   lines_right : (pass : Pass) (ls : List LineRow) (w : World nat_cmp) → All (IsRightLine p) ls → FitsIn p.fields w.data → GoesRight p.fields (lines_out (form_at p.fields) (word_at p) p.overflow pass (map (program_line p) ls) w)
   unfolding lines_out

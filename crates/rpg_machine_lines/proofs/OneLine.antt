@@ -1,27 +1,26 @@
 -- A line, from its parts.
-use Rattle.std.proofs.Common.{◌≡◌, ℕ, Bool, true, false, ◌&&◌, cond, nat_le, List, [], Option, None, Some, refl, sym, ap, ◌∙◌, subst, nat_cmp, replicate}
+use Rattle.std.proofs.Common.{◌≡◌, ℕ, Bool, true, false, List, [], Option, None, refl, sym, ap, ◌∙◌, subst, nat_cmp, replicate}
 use Rattle.std.specs.FinSet as sets
 use Rattle.rpg_paper.specs.Paper.{Position}
 use Rattle.rpg_program.proofs.Putting.{quiet_done, then_done}
 use Rattle.rpg_program.specs.Effect.{Effect, Leaves, unless_wrong}
-use Rattle.rpg_program.specs.Ends.{End, Fault, Continues, Halt, Storage, end_of}
-use Rattle.rpg_program.specs.LineFaults.{is_spacing, line_fault}
+use Rattle.rpg_program.specs.Ends.{End, Continues, Halt, end_of}
+use Rattle.rpg_program.specs.LineFaults.{line_fault}
 use Rattle.rpg_program.specs.Lines.{Draft, Drafted, Line, assembled, blank_line, blanked_all, drafted, is_due, line_out, one_out, put_on, write_line_out, where_due, with_fields}
 use Rattle.rpg_program.specs.Put.{Bytes, Held, IsDone, IsLeft, on_paper}
 use Rattle.rpg_program.specs.World.{Fields, World}
 use Rattle.rpg_program.specs.declared.form.FieldForm.{FieldForm}
 use Rattle.rpg_program.specs.declared.line.LineField.{LineField}
 use Rattle.rpg_program.specs.declared.line.Pass.{Pass}
-use Rattle.rpg_program.specs.declared.line.Spacing.{Spacing}
 use Rattle.rpg_program.specs.declared.outcome.End as rust
-use Rattle.rpg_memory.proofs.Entries.{and_true}
+use Rattle.rpg_program.specs.declared.rows.Overflow.{Overflow}
 use Rattle.rpg_machine_lines.specs.Drafts.{draft_of}
 
 -- the same with other fields
 abbrev pub fields_replaced : Fields nat_cmp → Held → Held
 fields_replaced fields w = record { last = w.last; world = with_fields fields w.world }
 
-module _ (forms : ℕ → Option FieldForm) (words : ℕ → List ℕ) (overflow : Option ℕ) (l : Line ℕ) (w : Held) (q : Bytes) where
+module _ (forms : ℕ → Option FieldForm) (words : ℕ → List ℕ) (overflow : Overflow) (l : Line ℕ) (w : Held) (q : Bytes) where
   -- the line's fields were assembled to this draft
   abbrev pub IsDrafted : End → Draft nat_cmp → Type 0
   IsDrafted e d = drafted e d ≡ assembled forms words w.world.data.on l.len l.fields (blank_line l.len w.world)
@@ -30,7 +29,7 @@ module _ (forms : ℕ → Option FieldForm) (words : ℕ → List ℕ) (overflow
   abbrev out_at : Option Position → Effect nat_cmp
   out_at previous = line_out forms words overflow l (on_paper previous w.world)
 
-  line_is : (previous : Option Position) (e : End) (d : Draft nat_cmp) → line_fault l.len l.spacing ≡ None → IsDrafted e d →
+  line_is : (previous : Option Position) (e : End) (d : Draft nat_cmp) → line_fault overflow.page.lines l.len l.spacing ≡ None → IsDrafted e d →
       out_at previous ≡ write_line_out forms words overflow l (on_paper previous w.world) e d
   unfolding line_out
   line_is previous e d h a =
@@ -40,7 +39,7 @@ module _ (forms : ℕ → Option FieldForm) (words : ℕ → List ℕ) (overflow
       ∙ ap (λ (y : Drafted nat_cmp). write_line_out forms words overflow l x y.ending y.draft) (sym a)
 
   -- a field halted
-  pub line_halted : (k : ℕ) (d : Draft nat_cmp) (v : Held) → line_fault l.len l.spacing ≡ None → IsDrafted (Halt k) d → v ≡ fields_replaced d.fields w →
+  pub line_halted : (k : ℕ) (d : Draft nat_cmp) (v : Held) → line_fault overflow.page.lines l.len l.spacing ≡ None → IsDrafted (Halt k) d → v ≡ fields_replaced d.fields w →
       IsDone (line_out forms words overflow l) w q (Halt k) v q
   line_halted k d v h a is =
       let last = ap (λ (x : Held). x.last) is in
@@ -50,7 +49,7 @@ module _ (forms : ℕ → Option FieldForm) (words : ℕ → List ℕ) (overflow
       }
 
   -- the line was put on its file, and its entries were blanked
-  pub line_placed : (d : Draft nat_cmp) (v u : Held) (o : Bytes) → line_fault l.len l.spacing ≡ None → IsDrafted Continues d →
+  pub line_placed : (d : Draft nat_cmp) (v u : Held) (o : Bytes) → line_fault overflow.page.lines l.len l.spacing ≡ None → IsDrafted Continues d →
       IsDone (put_on overflow l.file l.spacing d.text) (fields_replaced d.fields w) q Continues v o →
       u.last ≡ v.last → u.world ≡ with_fields (blanked_all d.to_blank v.world.data.fields) v.world →
       IsDone (line_out forms words overflow l) w q Continues u o
@@ -67,14 +66,14 @@ module _ (forms : ℕ → Option FieldForm) (words : ℕ → List ℕ) (overflow
   due_at b previous = where_due forms words b (out_at previous) (on_paper previous w.world)
 
   -- it isn't due
-  pub not_due : (pass : Pass) → is_due overflow pass w.world.data.on l.time l.alternatives ≡ false → IsDone (one_out forms words overflow pass l) w q Continues w q
+  pub not_due : (pass : Pass) → is_due overflow.indicator pass w.world.data.on l.time l.alternatives ≡ false → IsDone (one_out forms words overflow pass l) w q Continues w q
   unfolding one_out
   not_due pass h =
       let none = quiet_done (λ x. x) Continues w w q refl (λ p. refl) in
       record { following = λ previous e. subst (λ b. IsLeft previous (due_at b previous) q Continues w q) (sym h) (none.following previous e) }
 
   -- it is due
-  pub line_due : (pass : Pass) (e : End) (v : Held) (o : Bytes) → is_due overflow pass w.world.data.on l.time l.alternatives ≡ true →
+  pub line_due : (pass : Pass) (e : End) (v : Held) (o : Bytes) → is_due overflow.indicator pass w.world.data.on l.time l.alternatives ≡ true →
       IsDone (line_out forms words overflow l) w q e v o → IsDone (one_out forms words overflow pass l) w q e v o
   unfolding one_out
   line_due pass e v o h d =
@@ -92,12 +91,3 @@ assembled_from forms words on fields r e d n len fs gs text es ends long same bl
     ∙ ap (λ (xs : List (LineField ℕ)). assembled forms words on len xs (draft_of fields text es)) same
     ∙ ap (λ (t : List ℕ). assembled forms words on len gs (draft_of fields t es)) blank
     ∙ ap (λ (xs : List (ℕ × ℕ)). assembled forms words on len gs (draft_of fields (replicate len 32) xs)) none
-
-none_tested : (b : Bool) → ◌≡◌ {A = Option Fault} (cond b None (Some Storage)) None → b ≡ true
-none_tested true h = refl
-none_tested false h = cc
-
--- the movements of a line with nothing wrong
-pub right_moves : (len : ℕ) (s : Spacing) → line_fault len s ≡ None → is_spacing s ≡ true
-unfolding line_fault
-right_moves len s h = (and_true (nat_le 1 len) (is_spacing s) (none_tested (nat_le 1 len && is_spacing s) h)).1

@@ -43,27 +43,27 @@ no_exception passes.OverflowTotal h = refl
 no_exception passes.OverflowDetail h = refl
 no_exception passes.Exception h = cc
 
-counts_elsewhere : (overflow : Option ℕ) (time : Time) (pass : Pass) (cs : List Condition) → may_count time pass ≡ false → is_pass (pass_of overflow time cs) pass ≡ false
+counts_elsewhere : (indicator : Option ℕ) (time : Time) (pass : Pass) (cs : List Condition) → may_count time pass ≡ false → is_pass (pass_of indicator time cs) pass ≡ false
 unfolding pass_of
-counts_elsewhere overflow times.Heading pass cs h = neither (names_overflow overflow cs) passes.OverflowDetail passes.Detail pass (no_detail pass (no_heading pass h))
-counts_elsewhere overflow times.Detail pass cs h = neither (names_overflow overflow cs) passes.OverflowDetail passes.Detail pass (no_detail pass h)
-counts_elsewhere overflow times.Total pass cs h = neither (names_overflow overflow cs) passes.OverflowTotal passes.Total pass (no_total pass h)
-counts_elsewhere overflow times.Exception pass cs h = no_exception pass h
+counts_elsewhere indicator times.Heading pass cs h = neither (names_overflow indicator cs) passes.OverflowDetail passes.Detail pass (no_detail pass (no_heading pass h))
+counts_elsewhere indicator times.Detail pass cs h = neither (names_overflow indicator cs) passes.OverflowDetail passes.Detail pass (no_detail pass h)
+counts_elsewhere indicator times.Total pass cs h = neither (names_overflow indicator cs) passes.OverflowTotal passes.Total pass (no_total pass h)
+counts_elsewhere indicator times.Exception pass cs h = no_exception pass h
 
 -- where no alternative may count, none is met
-pub none_due : (overflow : Option ℕ) (pass : Pass) (on : sets.FinSet nat_cmp) (time : Time) (alternatives : List (List Condition)) →
-    may_count time pass ≡ false → is_due overflow pass on time alternatives ≡ false
-none_due overflow pass on time [] h = refl
-none_due overflow pass on time (cs ∷ rest) h = rw (counts_elsewhere overflow time pass cs h) (none_due overflow pass on time rest h)
+pub none_due : (indicator : Option ℕ) (pass : Pass) (on : sets.FinSet nat_cmp) (time : Time) (alternatives : List (List Condition)) →
+    may_count time pass ≡ false → is_due indicator pass on time alternatives ≡ false
+none_due indicator pass on time [] h = refl
+none_due indicator pass on time (cs ∷ rest) h = rw (counts_elsewhere indicator time pass cs h) (none_due indicator pass on time rest h)
 
 any_fewer : (a b c d : Bool) → (a || c) ≡ false → (c ≡ false → d ≡ false) → ((a && b) || d) ≡ false
 any_fewer true b c d h k = cc
 any_fewer false b c d h k = k h
 
 -- where no alternative counts, none is met
-pub none_counts : (overflow : Option ℕ) (pass : Pass) (on : sets.FinSet nat_cmp) (time : Time) (alternatives : List (List Condition)) →
-    counts_at overflow time alternatives pass ≡ false → is_due overflow pass on time alternatives ≡ false
-none_counts overflow pass on time [] h = refl
-none_counts overflow pass on time (cs ∷ rest) h =
-    any_fewer (is_pass (pass_of overflow time cs) pass) (all_hold on cs) (counts_at overflow time rest pass) (is_due overflow pass on time rest) h
-    (none_counts overflow pass on time rest)
+pub none_counts : (indicator : Option ℕ) (pass : Pass) (on : sets.FinSet nat_cmp) (time : Time) (alternatives : List (List Condition)) →
+    counts_at indicator time alternatives pass ≡ false → is_due indicator pass on time alternatives ≡ false
+none_counts indicator pass on time [] h = refl
+none_counts indicator pass on time (cs ∷ rest) h =
+    any_fewer (is_pass (pass_of indicator time cs) pass) (all_hold on cs) (counts_at indicator time rest pass) (is_due indicator pass on time rest) h
+    (none_counts indicator pass on time rest)

@@ -40,7 +40,7 @@ module _ (p : Object) (w : Held) (q : Bytes) where
   none_out [] h = quiet_done (λ x. x) Continues w w q refl (λ x. refl)
   none_out (l ∷ ls) h =
       let others = lines_weight is_at_total (map (program_line p) ls) in
-      let none = none_due p.overflow Total w.world.data.on l.time l.alternatives (no_total l.time (length l.fields) others h) in
+      let none = none_due p.overflow.indicator Total w.world.data.on l.time l.alternatives (no_total l.time (length l.fields) others h) in
       let quiet = not_due (form_at p.fields) (word_at p) p.overflow (program_line p l) w q Total none in
       went_on (one_effect p Total l) (totals_of ls) w w q q answers.Continues quiet w q Continues refl (none_out ls (others_nothing (is_at_total l.time) (length l.fields) others h))
 

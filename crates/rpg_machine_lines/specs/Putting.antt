@@ -1,7 +1,7 @@
 -- What output of lines and their fields needs, and what it leaves as it was.
 use Rattle.std.specs.Prelude.{◌≡◌, ℕ, ◌+◌, ◌<◌, ◌≤◌, true, List, length, Option, Result, OnOk}
+use Rattle.rpg_paper.specs.Paper.{IsPage}
 use Rattle.rpg_program.specs.Fronts.{OnlyGrows}
-use Rattle.rpg_program.specs.LineFaults.{is_spacing}
 use Rattle.rpg_program.specs.Put.{Bytes}
 use Rattle.rpg_program.specs.Rows.{has_entry, is_one_entry}
 use Rattle.rpg_program.specs.declared.form.FieldForm.{FieldForm}
@@ -10,7 +10,7 @@ use Rattle.rpg_program.specs.declared.operation.Operand.{Operand}
 use Rattle.rpg_machine_lines.specs.Drafts.{fields_replaced}
 use Rattle.rpg_machine_lines.specs.Entries.{AreFieldEntries}
 use Rattle.rpg_machine_lines.specs.Plans.{IsLinePlan, IsPlanOf, IsPlannedLine}
-use Rattle.rpg_machine_lines.specs.Ready.{IsBlankAfter, IsNear}
+use Rattle.rpg_machine_lines.specs.Ready.{IsBlankAfter, IsNear, IsShort}
 use Rattle.rpg_machine_lines.specs.Right.{AreRightLines, HasLineRoom, IsRightLine}
 use Rattle.rpg_machine_lines.specs.declared.plan.LinePlan.{LinePlan}
 use Rattle.rpg_machine_lines.specs.declared.plan.Plan.{Plan}
@@ -37,13 +37,14 @@ pub record CanPutDue (m : Working) (text : List ℕ) (line : Line) (found : Line
 -- one of them over a text as long as the lines of its file
 pub record CanPutLine (m : Working) (text : List ℕ) (line : Line) (found : LinePlan) : Type 0 where
   pub near : IsNear m.world.paper.here
+  pub page : IsPage m.program.overflow.page
   pub right : IsRightLine m.program (line_row line)
   pub planned : IsLinePlan m.program.fields line.fields.items found
   pub len : length text ≡ file_length m.program line.file
 
--- an assembled line: the form may move so, few pages were begun, and the text is blank after its reach
+-- an assembled line: the form moves no further than it may, few pages were begun, and the text is blank after its reach
 pub record CanPlace (m : Working) (moves : Spacing) (text : List ℕ) (reach : ℕ) : Type 0 where
-  pub spacing : is_spacing moves ≡ true
+  pub spacing : IsShort moves
   pub near : IsNear m.world.paper.here
   pub blank : IsBlankAfter reach text
 

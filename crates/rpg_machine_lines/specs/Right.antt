@@ -25,7 +25,7 @@ FitsEditing p form editing fill = fits_editing (form_at p.fields) (word_at p) (S
 
 -- nothing is wrong with the line and its fields, and they are no more than a line may have
 pub record IsRightLine (p : Object) (l : LineRow) : Type 0 where
-  pub fault : line_fault (file_length p l.file) l.spacing ≡ None
+  pub fault : line_fault p.overflow.page.lines (file_length p l.file) l.spacing ≡ None
   pub fields : AreRight (form_at p.fields) (word_at p) (file_length p l.file) l.fields
   pub few : length l.fields ≤ 200
 

@@ -16,7 +16,7 @@ use std::alloc::AllocError;
 /// Moves the form: a skip, then a space.
 #[tactic(auto, using(crate::proofs::Moving::moving), unfolding(rpg_program::specs::Lines::after_movement))]
 fn move_form<S: Store + Drop>(memory: &mut Memory<'_, S>, line: u8, spaces: u8)
-    requires line { line ≤ 66 }
+    requires line { line ≤ 112 }
     requires spaces { spaces ≤ 3 }
     requires near { IsNear memory.old.world.paper.here }
     ensures moved { memory.new ≡ form_moved line spaces memory.old }
@@ -27,7 +27,7 @@ fn move_form<S: Store + Drop>(memory: &mut Memory<'_, S>, line: u8, spaces: u8)
 }
 
 /// Moves the form, places the line without the blanks after `reach`, and moves the form.
-#[tactic(auto, using(crate::proofs::Moving::printing, crate::proofs::Moving::moving), unfolding(rpg_program::specs::Lines::after_movement))]
+#[tactic(auto, using(crate::proofs::Moving::moving), unfolding(rpg_program::specs::Lines::after_movement))]
 fn print_line<S: Store + Drop>(
     memory: &mut Memory<'_, S>,
     output: &mut Output,

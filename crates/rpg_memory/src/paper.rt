@@ -1,19 +1,22 @@
 //! Movements of the printed form, and the indicator that they turn on.
 ghost use Rattle.std.specs.Prelude.{◌≡◌, ◌<◌, ◌≤◌, ◌++◌, OnErr, OnOk};
 ghost use Rattle.rpg_paper.specs.Form.{way_of};
+ghost use Rattle.rpg_paper.specs.Paper.{IsPage};
 ghost use Rattle.rpg_text.specs.Texts.{trimmed};
 ghost use Rattle.rpg_program.specs.Lines as lines;
 ghost use Rattle.rpg_memory.specs.Memory.{with_line_placed, standing_of};
 
 use crate::indicators::{turn_off, turn_on};
 use crate::memory::Memory;
+use rpg_program::rows::Overflow;
 use rpg_store::store::Store;
 use std::alloc::AllocError;
 
 impl<'a, S: Store + Drop> Memory<'a, S> {
-    /// Returns the overflow indicator of its program.
-    fn overflow(&self) -> Option<u8>
-        ensures { result ≡ self.now.program.overflow }
+    /// Returns the page of its program, and the indicator that a full page turns on.
+    fn overflow(&self) -> Overflow
+        ensures own { result ≡ self.now.program.overflow }
+        ensures page { IsPage result.page }
     {
         self.rows().overflow
     }
@@ -26,8 +29,8 @@ impl<'a, S: Store + Drop> Memory<'a, S> {
         ensures { self.new ≡ record self.old { world = lines.after_space self.old.program.overflow spaces self.old.world } }
     {
         let overflow = self.overflow();
-        if self.form.space(spaces) {
-            turn_on(&mut self.on, overflow);
+        if self.form.space(overflow.page, spaces) {
+            turn_on(&mut self.on, overflow.indicator);
             self.has_turned_on = true;
         }
     }
@@ -35,13 +38,13 @@ impl<'a, S: Store + Drop> Memory<'a, S> {
     /// Moves the form to a line; 0 means no skip.
     #[tactic(auto, unfolding(rpg_program::specs::Lines::after_movement))]
     pub fn skip(&mut self, line: u8)
-        requires line { line ≤ 66 }
+        requires line { line ≤ 112 }
         requires few { self.old.world.paper.here.page < 1000 }
         ensures { self.new ≡ record self.old { world = lines.after_skip self.old.program.overflow line self.old.world } }
     {
         let overflow = self.overflow();
-        if line != 0 && self.form.skip(line) {
-            turn_on(&mut self.on, overflow);
+        if line != 0 && self.form.skip(overflow.page, line) {
+            turn_on(&mut self.on, overflow.indicator);
             self.has_turned_on = true;
         }
     }
@@ -52,7 +55,7 @@ impl<'a, S: Store + Drop> Memory<'a, S> {
     {
         let overflow = self.overflow();
         if self.was_overflow && !self.has_turned_on {
-            turn_off(&mut self.on, overflow);
+            turn_off(&mut self.on, overflow.indicator);
         }
         self.was_overflow = false;
     }

@@ -1,18 +1,19 @@
 -- What lines do: the paper, EXCPT, blank after.
-use Rattle.std.proofs.Common.{◌≡◌, ℕ, zero, suc, Bool, true, false, ◌&&◌, ◌||◌, cond, List, [], ◌∷◌, ◌++◌, length, Option, None, Some, Ordering, refl, sym, ap, ap₂, ◌∙◌, subst}
+use Rattle.std.proofs.Common.{◌≡◌, ℕ, zero, suc, ◌+◌, ◌-◌, ◌≤◌, Bool, true, false, not, ◌&&◌, ◌||◌, cond, eqb, nat_le, nat_lt, List, [], ◌∷◌, ◌++◌, length, Option, None, Some, Ordering, refl, sym, ap, ap₂, ◌∙◌, subst, arith}
 use Rattle.std.proofs.Math.Dec.{eqb-suc-zero}
-use Rattle.std.specs.Cmp.{IsTotalOrder}
+use Rattle.std.proofs.lemmas.Bool.{eq-eqb, le-leb, lt-leb, lt-ltb}
+use Rattle.std.specs.Cmp.{IsTotalOrder, nat_cmp_total, unsigned_tied}
 use Rattle.std.specs.FinMap as map
 use Rattle.std.specs.FinSet as set
 use Rattle.std.specs.List.{list_any}
 use Rattle.std.specs.Ordering.{eq_by_cmp, nat_cmp}
-use Rattle.rpg_paper.specs.Paper.{Position, skipped, spaced, turns_overflow_on}
+use Rattle.rpg_paper.specs.Paper.{Position, passes_overflow, reaches_overflow, skipped, space_turns_on, spaced}
+use Rattle.rpg_paper.specs.declared.form.Page.{Page}
 use Rattle.rpg_program.specs.Effect.{Effect, Leaves, then_go, unless_wrong}
 use Rattle.rpg_program.specs.Ends.{End, Fault, Continues, Halt, Wrong}
 use Rattle.rpg_program.specs.Entries.{position_of}
 use Rattle.rpg_program.specs.LineFaults.{field_fault, line_fault}
-use Rattle.rpg_program.specs.Lines.{Draft, Drafted, Line, after_movement, after_skip, after_space, assembled, blank_line, blanked, blanked_all, blanked_at, drafted, exception_output, is_due, is_pass, laid, line_out, lines_out, names_overflow, one_out, pass_of, put_on, remembered, spaced_after, spaced_before, unless_faulty, where_due, with_field, with_fields, write_line_out}
-use Rattle.rpg_program.specs.Showing.{turned_on}
+use Rattle.rpg_program.specs.Lines.{Draft, Drafted, Line, after_movement, after_skip, after_skip_to, after_space, assembled, blank_line, blanked, blanked_all, blanked_at, drafted, exception_output, is_due, is_pass, laid, line_out, lines_out, names_overflow, one_out, pass_of, put_on, remembered, spaced_after, spaced_before, unless_faulty, where_due, with_field, with_fields, write_line_out}
 use Rattle.rpg_program.specs.Values.{Value, Number, Text, entry_cmp}
 use Rattle.rpg_program.specs.World.{Fields, World, all_hold, three_hold, value_in}
 use Rattle.rpg_program.specs.declared.condition.Condition.{Condition}
@@ -25,48 +26,46 @@ use Rattle.rpg_program.specs.declared.line.Pass.TheVariants as passes
 use Rattle.rpg_program.specs.declared.line.Spacing.{Spacing}
 use Rattle.rpg_program.specs.declared.line.Time.{Time}
 use Rattle.rpg_program.specs.declared.line.Time.TheVariants as times
+use Rattle.rpg_program.specs.declared.rows.Overflow.{Overflow}
 use Rattle.rpg_operation_laws.proofs.Results.{entries_total, has_value}
-use Rattle.rpg_operation_laws.specs.Output.{Blanks, BlanksNoted, IsBlank, Prints, PutsExceptions, Zero, is_exception, moved_on, skipped_if_any}
+use Rattle.rpg_operation_laws.specs.Output.{Blanks, BlanksNoted, IsBlank, LinesTurnOn, Prints, PutsExceptions, Zero, is_exception, moved_on, skipped_if_any}
 
 -- ---- the paper
 
-module _ {K : Type 0} {R : K → K → Ordering} (overflow : Option ℕ) where
+module _ {K : Type 0} {R : K → K → Ordering} (overflow : Overflow) where
   -- the paper moves to a position, and no field changes
   record Moved (w : World R) (to : Position) (v : World R) : Type 0 where
     here : v.paper.here ≡ to
     fields : v.data.fields ≡ w.data.fields
 
-  moves : (to : Position) (w : World R) → Moved w to (after_movement overflow to w)
+  moves : (b : Bool) (to : Position) (w : World R) → Moved w to (after_movement overflow.indicator b to w)
   unfolding after_movement
-  moves to w = by (turns_overflow_on w.paper.here to)
-    where
-      by : (b : Bool) → Moved w to (cond b (record { «data» = record w.data { on = turned_on overflow w.data.on }; paper = record w.paper { here = to; has_turned_on = true } }) (record w { paper = record w.paper { here = to } }))
-      by true = record { here = refl; fields = refl }
-      by false = record { here = refl; fields = refl }
+  moves true to w = record { here = refl; fields = refl }
+  moves false to w = record { here = refl; fields = refl }
 
   skips : (n : ℕ) (w : World R) → Moved w (skipped_if_any n w.paper.here) (after_skip overflow n w)
   skips zero w = record { here = refl; fields = refl }
-  skips (suc n) w = subst (λ b. Moved w (skipped (suc n) w.paper.here) (cond b w (after_movement overflow (skipped (suc n) w.paper.here) w))) (sym (eqb-suc-zero n)) (moves (skipped (suc n) w.paper.here) w)
+  skips (suc n) w = subst (λ b. Moved w (skipped (suc n) w.paper.here) (cond b w (after_skip_to overflow (suc n) w))) (sym (eqb-suc-zero n)) (moves _ (skipped (suc n) w.paper.here) w)
 
-  moves_on : (skip space : ℕ) (w : World R) → Moved w (moved_on skip space w.paper.here) (after_space overflow space (after_skip overflow skip w))
+  moves_on : (skip space : ℕ) (w : World R) → Moved w (moved_on overflow.page skip space w.paper.here) (after_space overflow space (after_skip overflow skip w))
   moves_on skip space w =
       let skipping = skips skip w in
-      let spacing = moves (spaced space (after_skip overflow skip w).paper.here) (after_skip overflow skip w) in
-      record { here = spacing.here ∙ ap (spaced space) skipping.here; fields = spacing.fields ∙ skipping.fields }
+      let spacing = moves _ (spaced overflow.page space (after_skip overflow skip w).paper.here) (after_skip overflow skip w) in
+      record { here = spacing.here ∙ ap (spaced overflow.page space) skipping.here; fields = spacing.fields ∙ skipping.fields }
 
-  before : (s : Spacing) (w : World R) → Moved w (moved_on s.skip_before s.space_before w.paper.here) (spaced_before overflow s w)
+  before : (s : Spacing) (w : World R) → Moved w (moved_on overflow.page s.skip_before s.space_before w.paper.here) (spaced_before overflow s w)
   before s w = moves_on s.skip_before s.space_before w
 
-  after : (s : Spacing) (w : World R) → Moved w (moved_on s.skip_after s.space_after w.paper.here) (spaced_after overflow s w)
+  after : (s : Spacing) (w : World R) → Moved w (moved_on overflow.page s.skip_after s.space_after w.paper.here) (spaced_after overflow s w)
   after s w = moves_on s.skip_after s.space_after w
 
-  pub prints : (s : Spacing) (text : List ℕ) (w : World R) → Prints s text w (put_on overflow Printer s text w)
+  pub prints : (s : Spacing) (text : List ℕ) (w : World R) → Prints overflow.page s text w (put_on overflow Printer s text w)
   unfolding put_on
   prints s text w = record {
     goes_on = refl;
     line = ap (λ p. record { at = p; text = text } ∷ []) (before s w).here;
     record_none = refl;
-    rests = (after s (spaced_before overflow s w)).here ∙ ap (moved_on s.skip_after s.space_after) (before s w).here;
+    rests = (after s (spaced_before overflow s w)).here ∙ ap (moved_on overflow.page s.skip_after s.space_after) (before s w).here;
   }
 
   -- entries are blanked after a line
@@ -76,33 +75,72 @@ module _ {K : Type 0} {R : K → K → Ordering} (overflow : Option ℕ) where
   put_then Printer s text w es = ap (blanked_all es) ((after s (spaced_before overflow s w)).fields ∙ (before s w).fields)
   put_then Disk s text w es = refl
 
+-- ---- overflow
+
+-- one line on, on the same page
+turns : (page : Page) (p : Position) → p.line + 1 ≤ page.lines → space_turns_on page 1 p ≡ nat_le page.overflow_line (p.line + 1)
+turns page p h =
+    ap (λ (b : Bool). let to : Position = cond b (record { page = p.page; line = p.line + 1 }) (record { page = p.page + 1; line = p.line + 1 - page.lines }) in reaches_overflow page p to || passes_overflow page p to)
+    (le-leb (p.line + 1) page.lines h)
+    ∙ by (eqb p.page p.page) (nat_lt p.line (p.line + 1)) (nat_le page.overflow_line (p.line + 1)) (nat_lt p.line page.overflow_line) (eq-eqb p.page p.page refl) (lt-ltb p.line (p.line + 1) (omega arith))
+  where
+    by : (a b c d : Bool) → a ≡ true → b ≡ true → ((a && b && c) || (not a && d)) ≡ c
+    by false b c d h k = cc
+    by true false c d h k = cc
+    by true true true d h k = refl
+    by true true false d h k = refl
+
+module _ {K : Type 0} {R : K → K → Ordering} where
+  lit : (o : Option ℕ) (n : ℕ) (b : Bool) (to : Position) (w : World R) → b ≡ true → o ≡ Some n → set.contains (after_movement o b to w).data.on n ≡ true
+  unfolding after_movement
+  lit o n false to w h e = cc
+  lit None n true to w h e = cc
+  lit (Some k) n true to w h e =
+      set.contains-insert nat_cmp_total w.data.on k n ∙ ap (λ b. b || set.contains w.data.on n) (unsigned_tied n k ∙ eq-eqb n k (sym (one k n e)))
+    where
+      one : (k n : ℕ) → Some k ≡ Some n → k ≡ n
+      one k n e = cc
+
+  unlit : (o : Option ℕ) (b : Bool) (to : Position) (w : World R) → b ≡ false → (after_movement o b to w).data.on ≡ w.data.on
+  unfolding after_movement
+  unlit o true to w h = cc
+  unlit o false to w h = refl
+
+  pub turns_on : LinesTurnOn R
+  turns_on overflow n w within e = record {
+    at = λ k. lit overflow.indicator n (space_turns_on overflow.page 1 w.paper.here) _ w
+        (turns overflow.page w.paper.here (omega (arith, k, within)) ∙ le-leb overflow.page.overflow_line (w.paper.here.line + 1) (omega (arith, k))) e;
+    above = λ k. unlit overflow.indicator (space_turns_on overflow.page 1 w.paper.here) _ w
+        (turns overflow.page w.paper.here (omega (arith, k, within)) ∙ lt-leb overflow.page.overflow_line (w.paper.here.line + 1) k);
+  }
+
 -- ---- EXCPT
 
 either_pass : (b : Bool) (p q : Pass) → is_pass p passes.Exception ≡ false → is_pass q passes.Exception ≡ false → is_pass (cond b p q) passes.Exception ≡ false
 either_pass true p q h k = h
 either_pass false p q h k = k
 
-at_exception : (overflow : Option ℕ) (t : Time) (cs : List Condition) → is_pass (pass_of overflow t cs) passes.Exception ≡ is_exception t
+at_exception : (indicator : Option ℕ) (t : Time) (cs : List Condition) → is_pass (pass_of indicator t cs) passes.Exception ≡ is_exception t
 unfolding pass_of
-at_exception overflow times.Heading cs = either_pass (names_overflow overflow cs) passes.OverflowDetail passes.Detail refl refl
-at_exception overflow times.Detail cs = either_pass (names_overflow overflow cs) passes.OverflowDetail passes.Detail refl refl
-at_exception overflow times.Total cs = either_pass (names_overflow overflow cs) passes.OverflowTotal passes.Total refl refl
-at_exception overflow times.Exception cs = refl
+at_exception indicator times.Heading cs = either_pass (names_overflow indicator cs) passes.OverflowDetail passes.Detail refl refl
+at_exception indicator times.Detail cs = either_pass (names_overflow indicator cs) passes.OverflowDetail passes.Detail refl refl
+at_exception indicator times.Total cs = either_pass (names_overflow indicator cs) passes.OverflowTotal passes.Total refl refl
+at_exception indicator times.Exception cs = refl
 
-due_is : (overflow : Option ℕ) (on : set.FinSet nat_cmp) (t : Time) (alts : List (List Condition)) → is_due overflow passes.Exception on t alts ≡ (is_exception t && list_any (all_hold on) alts)
-due_is overflow on t [] = by (is_exception t)
+due_is : (indicator : Option ℕ) (on : set.FinSet nat_cmp) (t : Time) (alts : List (List Condition)) → is_due indicator passes.Exception on t alts ≡ (is_exception t && list_any (all_hold on) alts)
+due_is indicator on t [] = by (is_exception t)
   where
     by : (b : Bool) → false ≡ (b && false)
     by true = refl
     by false = refl
-due_is overflow on t (cs ∷ alts) =
-    ap₂ (λ b c. (b && all_hold on cs) || c) (at_exception overflow t cs) (due_is overflow on t alts) ∙ by (is_exception t)
+due_is indicator on t (cs ∷ alts) =
+    ap₂ (λ b c. (b && all_hold on cs) || c) (at_exception indicator t cs) (due_is indicator on t alts) ∙ by (is_exception t)
   where
     by : (b : Bool) → ((b && all_hold on cs) || (b && list_any (all_hold on) alts)) ≡ (b && (all_hold on cs || list_any (all_hold on) alts))
     by true = refl
     by false = refl
 
-module _ {K : Type 0} {R : K → K → Ordering} (forms : K → Option FieldForm) (words : K → List ℕ) (overflow : Option ℕ) where
+module _ {K : Type 0} {R : K → K → Ordering} (forms : K → Option FieldForm) (words : K → List ℕ) (overflow : Overflow) where
   where_is : (b : Bool) (e : Effect R) (w : World R) → where_due forms words b e w ≡ cond b e (Leaves w)
   where_is true e w = refl
   where_is false e w = refl
@@ -112,7 +150,7 @@ module _ {K : Type 0} {R : K → K → Ordering} (forms : K → Option FieldForm
   puts_exceptions l ls w = record {
     no_lines = refl;
     next_line = ap (λ e. then_go e (exception_output forms words overflow ls))
-        (ap (λ b. where_due forms words b (line_out forms words overflow l w) w) (due_is overflow w.data.on l.time l.alternatives) ∙ where_is _ (line_out forms words overflow l w) w);
+        (ap (λ b. where_due forms words b (line_out forms words overflow l w) w) (due_is overflow.indicator w.data.on l.time l.alternatives) ∙ where_is _ (line_out forms words overflow l w) w);
   }
 
 -- ---- blank after
@@ -168,10 +206,10 @@ module _ {K : Type 0} {R : K → K → Ordering} (o : IsTotalOrder R) where
       or_parts true b k = absurd cc
       or_parts false b k = (refl, k)
 
-  pub blanks_noted : (forms : K → Option FieldForm) (words : K → List ℕ) (overflow : Option ℕ) (l : Line K) (w : World R) → (line_out forms words overflow l w).ending ≡ Continues
+  pub blanks_noted : (forms : K → Option FieldForm) (words : K → List ℕ) (overflow : Overflow) (l : Line K) (w : World R) → (line_out forms words overflow l w).ending ≡ Continues
       → BlanksNoted (assembled forms words w.data.on l.len l.fields (blank_line l.len w)).draft (line_out forms words overflow l w).world.data.fields
   unfolding line_out
-  blanks_noted forms words overflow l w goes = by_fault (line_fault l.len l.spacing) goes
+  blanks_noted forms words overflow l w goes = by_fault (line_fault overflow.page.lines l.len l.spacing) goes
     where
       done : Drafted R
       done = assembled forms words w.data.on l.len l.fields (blank_line l.len w)

@@ -5,7 +5,7 @@
 
 ghost use Rattle.rpg_operation_laws.specs.Found.{OperandsNameEntries, SearchesFind};
 ghost use Rattle.rpg_operation_laws.specs.Labels.{NamesAreSame};
-ghost use Rattle.rpg_operation_laws.specs.Output.{ExceptionsAreDue, FieldsAreNoted, LinesBlankNoted, LinesMovePaper};
+ghost use Rattle.rpg_operation_laws.specs.Output.{ExceptionsAreDue, FieldsAreNoted, LinesBlankNoted, LinesMovePaper, LinesTurnOn};
 ghost use Rattle.rpg_operation_laws.specs.Results.{OperationsCompute};
 
 /// What operations on numbers leave in the result field, the indicators and the remainder (`compute`); what LOKUP finds, and where it
@@ -17,11 +17,12 @@ pub fn operations_do<K: Ord>()
     ensures positions { OperandsNameEntries K.cmp }
 {}
 
-/// Where lines are printed (`paper`), and which of them EXCPT puts out (`exceptions`); which entries blank after notes (`noted`), and which are
+/// Where lines are printed (`paper`), where the paper turns overflow on (`overflow`), and which lines EXCPT puts out (`exceptions`); which entries blank after notes (`noted`), and which are
 /// blank after a line (`blanked`).
-#[tactic(auto, using(crate::proofs::Lines::prints, crate::proofs::Lines::notes, crate::proofs::Lines::blanks_noted))]
+#[tactic(auto, using(crate::proofs::Lines::prints, crate::proofs::Lines::turns_on, crate::proofs::Lines::notes, crate::proofs::Lines::blanks_noted))]
 pub fn lines_do<K: Ord>()
     ensures paper { LinesMovePaper K.cmp }
+    ensures overflow { LinesTurnOn K.cmp }
     ensures exceptions { ExceptionsAreDue K.cmp }
     ensures noted { FieldsAreNoted K.cmp }
     ensures blanked { LinesBlankNoted K.cmp }

@@ -1,6 +1,7 @@
 -- The position of a form. A form counts pages from the page of the line placed last, so no page number grows without bound.
 use Rattle.std.specs.Prelude.{◌≡◌, ℕ, ◌+◌, ◌-◌, ◌≤◌, List, [], ◌∷◌, ◌++◌, length, replicate, take, Option, Some, None, option_map, unwrap_or, Result, OnOk, OnErr, if◌then◌else◌, ◌==◌}
 pub use Rattle.rpg_text.specs.Texts.{trimmed}
+use Rattle.rpg_paper.specs.declared.form.Page.{Page}
 use Rattle.rpg_paper.specs.Paper.{Position, Placed, placed_at, spaced, skipped, bytes_from, paper, last_position}
 
 -- the line placed last on its page, the pages begun since, and the present line
@@ -13,10 +14,10 @@ pub record Standing : Type 0 where
 abbrev pub at_first_line : Standing
 at_first_line = record { last = None; begun = 0; line = 1 }
 
--- on one of 66 lines, and not before a line that was placed on the same page
+-- on a line that a page can have, and not before a line that was placed on the same page
 pub record IsOnPaper (last : Option ℕ) (begun line : ℕ) : Type 0 where
   pub first : 1 ≤ line
-  pub within : line ≤ 66
+  pub within : line ≤ 112
   pub few_pages : begun ≤ 1000
   pub forward : begun ≡ 0 → unwrap_or last 1 ≤ line
 
@@ -59,8 +60,8 @@ abbrev pub moved_to : Position → Standing → Standing
 moved_to to form = record { last = form.last; begun = to.page; line = to.line }
 
 -- after a space of n lines
-abbrev pub form_after_space : ℕ → Standing → Standing
-form_after_space n form = moved_to (spaced n (here_of form)) form
+abbrev pub form_after_space : Page → ℕ → Standing → Standing
+form_after_space page n form = moved_to (spaced page n (here_of form)) form
 
 -- after a skip to a line
 abbrev pub form_after_skip : ℕ → Standing → Standing

@@ -1,6 +1,18 @@
--- The printed form: positions, movements and the bytes of a list of placed lines. A page has 66 lines.
-use Rattle.std.specs.Prelude.{◌≡◌, ℕ, ◌+◌, ◌-◌, ◌*◌, ◌≤◌, ◌&&◌, List, [], ◌∷◌, ◌++◌, replicate, Option, Some, None, if◌then◌else◌, nat_lt, nat_le, ◌==◌, Bool}
+-- The printed form: its pages, positions, movements and the bytes of a list of placed lines.
+use Rattle.std.specs.Prelude.{ℕ, ◌+◌, ◌-◌, ◌*◌, ◌≤◌, not, ◌&&◌, ◌||◌, List, [], ◌∷◌, ◌++◌, replicate, Option, Some, None, if◌then◌else◌, nat_lt, nat_le, ◌==◌, Bool}
+use Rattle.rpg_paper.specs.declared.form.Page.{Page}
 use Rattle.rpg_text.specs.Texts.{trimmed}
+
+-- 3 to 112 lines, with the overflow line on the page
+pub record IsPage (page : Page) : Type 0 where
+  pub shortest : 3 ≤ page.lines
+  pub longest : page.lines ≤ 112
+  pub first : 1 ≤ page.overflow_line
+  pub within : page.overflow_line ≤ page.lines
+
+-- the page of a program that names none
+abbrev pub standard_page : Page
+standard_page = record { lines = 66; overflow_line = 60 }
 
 -- a line of a page, both counted from 1
 pub record Position : Type 0 where
@@ -21,26 +33,33 @@ abbrev pub top_of_paper : Position
 top_of_paper = record { page = 1; line = 1 }
 
 -- the lines of the paper up to a position, counted from one page before the first
-abbrev pub lines_to : Position → ℕ
-lines_to p = p.page * 66 + p.line
+abbrev pub lines_to : Page → Position → ℕ
+lines_to page p = p.page * page.lines + p.line
 
--- n lines on, 66 to a page
-abbrev pub spaced : ℕ → Position → Position
-spaced n p = if nat_le (p.line + n) 66 then record { page = p.page; line = p.line + n } else record { page = p.page + 1; line = p.line + n - 66 }
+-- n lines on
+abbrev pub spaced : Page → ℕ → Position → Position
+spaced page n p =
+    if nat_le (p.line + n) page.lines then record { page = p.page; line = p.line + n } else record { page = p.page + 1; line = p.line + n - page.lines }
 
 -- to the next such line that isn't before the present one
 abbrev pub skipped : ℕ → Position → Position
 skipped line p = if nat_le p.line line then record { page = p.page; line = line } else record { page = p.page + 1; line = line }
 
--- a movement that really moves, stays on its page, and reaches line 60 or below
-pub record TurnsOverflowOn (from to : Position) : Type 0 where
-  pub same_page : to.page ≡ from.page
-  pub moved : from.line + 1 ≤ to.line
-  pub low : 60 ≤ to.line
+-- a movement that really moves, stays on its page, and ends at the overflow line or below
+abbrev pub reaches_overflow : Page → Position → Position → Bool
+reaches_overflow page from to = (to.page == from.page) && nat_lt from.line to.line && nat_le page.overflow_line to.line
 
--- the same as a test
-abbrev pub turns_overflow_on : Position → Position → Bool
-turns_overflow_on from to = (to.page == from.page) && nat_lt from.line to.line && nat_le 60 to.line
+-- a movement from above the overflow line to the next page
+abbrev pub passes_overflow : Page → Position → Position → Bool
+passes_overflow page from to = not (to.page == from.page) && nat_lt from.line page.overflow_line
+
+-- a space of n lines turns the overflow indicator on
+abbrev pub space_turns_on : Page → ℕ → Position → Bool
+space_turns_on page n p = reaches_overflow page p (spaced page n p) || passes_overflow page p (spaced page n p)
+
+-- a skip to a line turns it on only on its page
+abbrev pub skip_turns_on : Page → ℕ → Position → Bool
+skip_turns_on page line p = reaches_overflow page p (skipped line p)
 
 -- form feeds to the page, then line feeds from its first line; on the page, line feeds
 abbrev pub travel : Position → Position → List ℕ

@@ -1,8 +1,8 @@
 //! The printed form: where the paper is, and the bytes that move it to a line.
 
-ghost use Rattle.std.specs.Prelude.{◌≡◌, ◌+◌, ◌<◌, ◌≤◌, ◌↔◌, [], ◌++◌, Option, Some, None, IsTrue, OnOk, OnErr};
+ghost use Rattle.std.specs.Prelude.{◌≡◌, ◌+◌, ◌<◌, ◌≤◌, [], ◌++◌, Option, Some, None, OnOk, OnErr};
 ghost use Rattle.rpg_text.specs.Texts.{trimmed};
-ghost use Rattle.rpg_paper.specs.Paper.{Position, TurnsOverflowOn, turns_overflow_on, top_of_paper, spaced, skipped};
+ghost use Rattle.rpg_paper.specs.Paper.{IsPage, Position, skip_turns_on, skipped, space_turns_on, spaced, standard_page, top_of_paper};
 ghost use Rattle.rpg_paper.specs.Form.{Adds, AddsLine, PrintsLine, StandsAt, HasPrinted, at_first_line, here_of, form_after_space, form_after_skip, after_line, way_of};
 
 use crate::paper::append_times;
@@ -24,11 +24,26 @@ impl fmt::Display for NoMemory {
 
 impl Error for NoMemory {}
 
-/// The lines of a page in this profile.
-const PAGE_LINES: u8 = 66;
+/// A page of the form.
+#[derive(Clone, Copy)]
+pub struct Page {
+    /// How many lines it has, 3 to 112.
+    pub lines: u8,
+    /// Where the overflow area begins, 1 to the last line: a movement that ends there turns the overflow indicator on.
+    pub overflow_line: u8,
+}
 
-/// The first line of the overflow area: a movement that ends there turns the overflow indicator on in this profile.
-const OVERFLOW_LINE: u8 = 60;
+impl Page {
+    /// Returns the page of a program that names none: 66 lines, with overflow line 60.
+    pub fn standard() -> Self
+        ensures { result ≡ standard_page }
+    {
+        Page {
+            lines: 66,
+            overflow_line: 60,
+        }
+    }
+}
 
 const LINE_FEED: u8 = 10;
 
@@ -36,8 +51,8 @@ const FORM_FEED: u8 = 12;
 
 const CARRIAGE_RETURN: u8 = 13;
 
-/// Where the printer's paper is: the line placed last, the pages begun since, and the present line. Lines are counted from 1 to 66, on
-/// endless pages.
+/// Where the printer's paper is: the line placed last, the pages begun since, and the present line. Lines are counted from 1, on endless
+/// pages; the page is named at each movement.
 #[derive(Clone, Copy)]
 pub struct Form {
     last: Option<u8>,
@@ -86,45 +101,43 @@ impl Form {
     }
 
     /// Moves on by `lines` lines. Returns whether this turns the overflow indicator on.
-    pub fn space(&mut self, lines: u8) -> bool
+    pub fn space(&mut self, page: Page, lines: u8) -> bool
+        requires page { IsPage page }
         requires few_lines { lines ≤ 3 }
         requires few_pages { self.old.begun < 1000 }
         ensures moved { (last : Option Position) (here : Position) → StandsAt self.old last here
-            → StandsAt self.new last (spaced lines here) }
+            → StandsAt self.new last (spaced page lines here) }
         ensures overflow { (last : Option Position) (here : Position) → StandsAt self.old last here
-            → IsTrue result ↔ TurnsOverflowOn here (spaced lines here) }
+            → result ≡ space_turns_on page lines here }
 
         // The same in terms of the form's own state.
-        ensures form { self.new ≡ form_after_space lines self.old }
-        ensures test { result ≡ turns_overflow_on (here_of self.old) (here_of self.new) }
+        ensures form { self.new ≡ form_after_space page lines self.old }
+        ensures test { result ≡ space_turns_on page lines (here_of self.old) }
     {
         let from = self.line;
-        if lines == 0 {
-            return false;
-        }
         let line = from + lines;
-        if line > PAGE_LINES {
+        if line > page.lines {
             self.begun += 1;
-            self.line = line - PAGE_LINES;
-            return false;
+            self.line = line - page.lines;
+            return from < page.overflow_line;
         }
         self.line = line;
-        line >= OVERFLOW_LINE
+        lines > 0 && line >= page.overflow_line
     }
 
     /// Moves to the next line with this number that isn't before the present one. Returns whether this turns the overflow indicator on.
-    pub fn skip(&mut self, line: u8) -> bool
+    pub fn skip(&mut self, page: Page, line: u8) -> bool
         requires low { 1 ≤ line }
-        requires high { line ≤ 66 }
+        requires high { line ≤ 112 }
         requires few_pages { self.old.begun < 1000 }
         ensures moved { (last : Option Position) (here : Position) → StandsAt self.old last here
             → StandsAt self.new last (skipped line here) }
         ensures overflow { (last : Option Position) (here : Position) → StandsAt self.old last here
-            → IsTrue result ↔ TurnsOverflowOn here (skipped line here) }
+            → result ≡ skip_turns_on page line here }
 
         // The same in terms of the form's own state.
         ensures form { self.new ≡ form_after_skip line self.old }
-        ensures test { result ≡ turns_overflow_on (here_of self.old) (here_of self.new) }
+        ensures test { result ≡ skip_turns_on page line (here_of self.old) }
     {
         let from = self.line;
         self.line = line;
@@ -132,7 +145,7 @@ impl Form {
             self.begun += 1;
             return false;
         }
-        line > from && line >= OVERFLOW_LINE
+        line > from && line >= page.overflow_line
     }
 
     /// Places a line of text here: appends the bytes that move the paper from the line placed last to this one, and the text without

@@ -1,20 +1,21 @@
 -- One line on the paper, wherever the lines before it ended.
-use Rattle.std.proofs.Common.{◌≡◌, ℕ, ◌+◌, ◌-◌, Bool, true, false, cond, ◌&&◌, nat_le, nat_lt, ◌==◌, eqb, eqb-true, eq-eqb, ne_eqb, add-zero, List, [], ◌∷◌, ◌++◌, Option, Some, refl, sym, ap, ◌∙◌, subst, add_assoc, append_assoc, append-nil}
+use Rattle.std.proofs.Common.{◌≡◌, ℕ, ◌+◌, ◌-◌, Bool, true, false, not, cond, ◌&&◌, ◌||◌, nat_le, nat_lt, ◌==◌, eqb, eqb-true, eq-eqb, ne_eqb, add-zero, List, [], ◌∷◌, ◌++◌, Option, Some, refl, sym, ap, ◌∙◌, subst, add_assoc, append_assoc, append-nil}
 use Rattle.std.proofs.Math.Nat.{add_left_cancel}
 use Rattle.std.specs.Ordering.{nat_cmp}
 use Rattle.rpg_paper.proofs.Papers.{way_is}
 use Rattle.rpg_paper.specs.Form.{Standing, StandsAt, line_of, page_or_1, way_of}
-use Rattle.rpg_paper.specs.Paper.{Position, spaced, skipped, turns_overflow_on, way}
+use Rattle.rpg_paper.specs.Paper.{Position, passes_overflow, reaches_overflow, skip_turns_on, skipped, space_turns_on, spaced, way}
+use Rattle.rpg_paper.specs.declared.form.Page.{Page}
 use Rattle.rpg_paper.specs.Form.{trimmed}
 use Rattle.rpg_program.proofs.Putting.{quiet_done, then_done}
 use Rattle.rpg_program.specs.Effect.{Leaves}
-use Rattle.rpg_program.specs.Lines.{after_skip, after_space, spaced_after, spaced_before, after_movement, printed_line, put_on}
+use Rattle.rpg_program.specs.Lines.{after_skip, after_skip_to, after_space, spaced_after, spaced_before, after_movement, printed_line, put_on}
 use Rattle.rpg_program.specs.Put.{Bytes, Held, IsDone, IsLeft, on_paper}
 use Rattle.rpg_program.specs.Ends.{Continues}
-use Rattle.rpg_program.specs.Showing.{turned_on}
 use Rattle.rpg_program.specs.World.{World}
 use Rattle.rpg_program.specs.declared.line.File.TheVariants.{Printer, Disk}
 use Rattle.rpg_program.specs.declared.line.Spacing.{Spacing}
+use Rattle.rpg_program.specs.declared.rows.Overflow.{Overflow}
 
 -- so many pages on
 abbrev pub on : ℕ → Position → Position
@@ -26,8 +27,8 @@ on_by : (k : ℕ) (b : Bool) (page line other : ℕ) →
 on_by k true page line other = refl
 on_by k false page line other = ap (λ n. record { page = n; line = other }) (add_assoc k page 1)
 
-spaced_on : (k n : ℕ) (p : Position) → spaced n (on k p) ≡ on k (spaced n p)
-spaced_on k n p = on_by k (nat_le (p.line + n) 66) p.page (p.line + n) (p.line + n - 66)
+spaced_on : (page : Page) (k n : ℕ) (p : Position) → spaced page n (on k p) ≡ on k (spaced page n p)
+spaced_on page k n p = on_by k (nat_le (p.line + n) page.lines) p.page (p.line + n) (p.line + n - page.lines)
 
 skipped_on : (k line : ℕ) (p : Position) → skipped line (on k p) ≡ on k (skipped line p)
 skipped_on k line p = on_by k (nat_le p.line line) p.page line line
@@ -39,33 +40,37 @@ same_by k a b false h = ne_eqb (k + a) (k + b) (λ e. let is : eqb a b ≡ true 
 same_page : (k a b : ℕ) → eqb (k + a) (k + b) ≡ eqb a b
 same_page k a b = same_by k a b (eqb a b) refl
 
-turns_on : (k : ℕ) (from to : Position) → turns_overflow_on (on k from) (on k to) ≡ turns_overflow_on from to
-turns_on k from to = ap (λ b. b && nat_lt from.line to.line && nat_le 60 to.line) (same_page k to.page from.page)
+reaches_on : (page : Page) (k : ℕ) (from to : Position) → reaches_overflow page (on k from) (on k to) ≡ reaches_overflow page from to
+reaches_on page k from to = ap (λ b. b && nat_lt from.line to.line && nat_le page.overflow_line to.line) (same_page k to.page from.page)
 
-module _ (overflow : Option ℕ) (previous : Option Position) where
+passes_on : (page : Page) (k : ℕ) (from to : Position) → passes_overflow page (on k from) (on k to) ≡ passes_overflow page from to
+passes_on page k from to = ap (λ b. not b && nat_lt from.line page.overflow_line) (same_page k to.page from.page)
+
+space_turns : (page : Page) (k n : ℕ) (p : Position) → space_turns_on page n (on k p) ≡ space_turns_on page n p
+space_turns page k n p =
+    ap (λ (to : Position). reaches_overflow page (on k p) to || passes_overflow page (on k p) to) (spaced_on page k n p)
+    ∙ (λ i. reaches_on page k p (spaced page n p) i || passes_on page k p (spaced page n p) i)
+
+skip_turns : (page : Page) (k line : ℕ) (p : Position) → skip_turns_on page line (on k p) ≡ skip_turns_on page line p
+skip_turns page k line p = ap (λ (to : Position). reaches_overflow page (on k p) to) (skipped_on k line p) ∙ reaches_on page k p (skipped line p)
+
+module _ (overflow : Overflow) (previous : Option Position) where
   -- a movement is the same wherever the lines before ended
-  -- the world after a movement there, into the foot of its page or not
-  abbrev moved : Bool → Position → World nat_cmp → World nat_cmp
-  moved b to w =
-      cond {A = World nat_cmp} b (record { «data» = record w.data { on = turned_on overflow w.data.on }; paper = record w.paper { here = to; has_turned_on = true } })
-      (record w { paper = record w.paper { here = to } })
-
-  moved_by : (b : Bool) (to : Position) (w : World nat_cmp) → moved b (on (page_or_1 previous) to) (on_paper previous w) ≡ on_paper previous (moved b to w)
-  moved_by true to w = refl
-  moved_by false to w = refl
-
-  moved_on : (to : Position) (w : World nat_cmp) → after_movement overflow (on (page_or_1 previous) to) (on_paper previous w) ≡ on_paper previous (after_movement overflow to w)
+  moved_on : (b c : Bool) (to too : Position) (w : World nat_cmp) → c ≡ b → too ≡ on (page_or_1 previous) to →
+      after_movement overflow.indicator c too (on_paper previous w) ≡ on_paper previous (after_movement overflow.indicator b to w)
   unfolding after_movement
-  moved_on to w = ap (λ b. moved b (on (page_or_1 previous) to) (on_paper previous w)) (turns_on (page_or_1 previous) w.paper.here to)
-      ∙ moved_by (turns_overflow_on w.paper.here to) to w
+  moved_on true c to too w e h = λ i. after_movement overflow.indicator (e i) (h i) (on_paper previous w)
+  moved_on false c to too w e h = λ i. after_movement overflow.indicator (e i) (h i) (on_paper previous w)
 
   space_on : (n : ℕ) (w : World nat_cmp) → after_space overflow n (on_paper previous w) ≡ on_paper previous (after_space overflow n w)
-  space_on n w = ap (λ (p : Position). after_movement overflow p (on_paper previous w)) (spaced_on (page_or_1 previous) n w.paper.here) ∙ moved_on (spaced n w.paper.here) w
+  space_on n w =
+      moved_on _ _ _ _ w (space_turns overflow.page (page_or_1 previous) n w.paper.here) (spaced_on overflow.page (page_or_1 previous) n w.paper.here)
 
   skip_by : (b : Bool) (line : ℕ) (w : World nat_cmp) →
-      cond b (on_paper previous w) (after_movement overflow (skipped line (on (page_or_1 previous) w.paper.here)) (on_paper previous w)) ≡ on_paper previous (cond b w (after_movement overflow (skipped line w.paper.here) w))
+      cond b (on_paper previous w) (after_skip_to overflow line (on_paper previous w)) ≡ on_paper previous (cond b w (after_skip_to overflow line w))
   skip_by true line w = refl
-  skip_by false line w = ap (λ (p : Position). after_movement overflow p (on_paper previous w)) (skipped_on (page_or_1 previous) line w.paper.here) ∙ moved_on (skipped line w.paper.here) w
+  skip_by false line w =
+      moved_on _ _ _ _ w (skip_turns overflow.page (page_or_1 previous) line w.paper.here) (skipped_on (page_or_1 previous) line w.paper.here)
 
   skip_on : (line : ℕ) (w : World nat_cmp) → after_skip overflow line (on_paper previous w) ≡ on_paper previous (after_skip overflow line w)
   skip_on line w = skip_by (line == 0) line w
@@ -105,7 +110,7 @@ placed_left previous last w text p o v l h k b d =
     }
 
 -- a line printed: the form moves, its way and its text are appended, and the form moves on
-pub print_done : (overflow : Option ℕ) (s : Spacing) (text : List ℕ) (w u v : Held) (p o : Bytes) →
+pub print_done : (overflow : Overflow) (s : Spacing) (text : List ℕ) (w u v : Held) (p o : Bytes) →
     u.world ≡ from_line (spaced_before overflow s w.world) → u.last ≡ Some (spaced_before overflow s w.world).paper.here.line →
     v.world ≡ spaced_after overflow s u.world → v.last ≡ u.last →
     o.print ≡ p.print ++ way_of (form_of w.last (spaced_before overflow s w.world)) ++ trimmed text → o.disk ≡ p.disk →
@@ -122,7 +127,7 @@ print_done overflow s text w u v p o h k i l b d =
     then_done (λ x. printed_line (spaced_before overflow s x) text) (λ x. Leaves (spaced_after overflow s x)) w u v p o o Continues placed moved
 
 -- a record written
-pub record_done : (overflow : Option ℕ) (s : Spacing) (text : List ℕ) (w : Held) (p o : Bytes) → o.print ≡ p.print → o.disk ≡ (p.disk ++ text) ++ 10 ∷ [] →
+pub record_done : (overflow : Overflow) (s : Spacing) (text : List ℕ) (w : Held) (p o : Bytes) → o.print ≡ p.print → o.disk ≡ (p.disk ++ text) ++ 10 ∷ [] →
     IsDone (put_on overflow Disk s text) w p Continues w o
 unfolding put_on
 record_done overflow s text w p o h d = record {

@@ -1,5 +1,5 @@
 -- The limits of an object program's rows, in plain words.
-use Rattle.std.specs.Prelude.{◌≡◌, ◌≢◌, ℕ, ◌+◌, ◌^◌, ◌<◌, ◌≤◌, Bool, false, ◌||◌, List, [], ◌∷◌, length, All, Option, unsigned_abs}
+use Rattle.std.specs.Prelude.{◌≡◌, ◌≢◌, ℕ, ◌+◌, ◌^◌, ◌<◌, ◌≤◌, Bool, false, ◌||◌, List, [], ◌∷◌, length, All, Option, None, unsigned_abs}
 use Rattle.std.specs.Option.{ForSome}
 use Rattle.rpg_program.specs.Forms.{is_array, is_table, size_of}
 use Rattle.rpg_program.specs.Input.{TypeRow}
@@ -27,9 +27,9 @@ use Rattle.rpg_program.specs.declared.operation.Instruction.{Instruction}
 use Rattle.rpg_program.specs.declared.operation.Instruction.TheVariants.{Act, Except, Branch, Call, Return}
 use Rattle.rpg_program.specs.declared.operation.Operand.{Operand}
 use Rattle.rpg_program.specs.declared.operation.Shows.{Shows}
-use Rattle.rpg_program.specs.Object.{LineRow, Object, SubroutineRow}
+use Rattle.rpg_paper.specs.Paper.{IsPage, standard_page}
+use Rattle.rpg_program.specs.Object.{LineRow, Object, SubroutineRow, has_page, has_secondary}
 use Rattle.rpg_program.specs.Sections.{places_of}
-use Rattle.rpg_program.specs.declared.rows.Version.TheVariants as versions
 
 -- ---- numbers of the format
 
@@ -255,6 +255,11 @@ pub record IsPlain (p : Object) : Type 0 where
   pub secondary : p.secondary_length ≡ 0
   pub types : All IsPlainType p.types
 
+-- what a version without a page has: the standard one, and no file that ends the job alone
+pub record IsStandard (p : Object) : Type 0 where
+  pub page : p.overflow.page ≡ standard_page
+  pub ends : p.ends ≡ None
+
 -- limits, tables, and values for each field
 pub record IsProgram (p : Object) : Type 0 where
   pub lowest_allowance : 1 ≤ p.allowance
@@ -264,7 +269,9 @@ pub record IsProgram (p : Object) : Type 0 where
   pub longest_secondary : p.secondary_length ≤ 9999
   pub widest_line : p.printer_length ≤ 132
   pub longest_disk_record : p.disk_length ≤ 9999
-  pub overflow : ForSome p.overflow IsOverflowIndicator
+  pub overflow : ForSome p.overflow.indicator IsOverflowIndicator
+  pub page : IsPage p.overflow.page
+  pub ends : p.secondary_length ≡ 0 → p.ends ≡ None
   pub few_fields : length p.fields ≤ 4000
   pub fields : All IsFieldRow p.fields
   pub storage : storage_of p.fields ≤ 65535
@@ -278,4 +285,5 @@ pub record IsProgram (p : Object) : Type 0 where
   pub few_subroutines : length p.subroutines ≤ 100
   pub subroutines : All IsSubroutineRow p.subroutines
   pub few_instructions : places_of p ≤ 8192
-  pub plain : p.version ≡ versions.One → IsPlain p
+  pub plain : has_secondary p.version ≡ false → IsPlain p
+  pub standard : has_page p.version ≡ false → IsStandard p

@@ -17,13 +17,13 @@ use Rattle.rpg_program.specs.declared.line.Spacing.{Spacing}
 use Rattle.rpg_program.specs.declared.line.Source.{Source}
 use Rattle.rpg_program.specs.declared.line.Source.TheVariants as sources
 
--- spaces of at most 3 lines, skips to line 66 at most
-abbrev pub is_spacing : Spacing → Bool
-is_spacing s = (nat_le s.space_before 3 && nat_le s.space_after 3) && (nat_le s.skip_before 66 && nat_le s.skip_after 66)
+-- spaces of at most 3 lines, skips to a line of the page
+abbrev pub is_spacing : ℕ → Spacing → Bool
+is_spacing lines s = (nat_le s.space_before 3 && nat_le s.space_after 3) && (nat_le s.skip_before lines && nat_le s.skip_after lines)
 
--- what is wrong with a line before its fields are checked: no file, a space over 3, a skip over 66
-unfoldable pub line_fault : ℕ → Spacing → Option Fault
-line_fault len s = if nat_le 1 len && is_spacing s then None else Some Storage
+-- what is wrong with a line before its fields are checked: no file, a space over 3, a skip over the lines of a page
+unfoldable pub line_fault : ℕ → ℕ → Spacing → Option Fault
+line_fault lines len s = if nat_le 1 len && is_spacing lines s then None else Some Storage
 
 -- ---- editing
 

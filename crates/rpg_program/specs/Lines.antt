@@ -4,7 +4,7 @@ use Rattle.std.specs.FinSet as set
 use Rattle.std.specs.List.{list_any}
 use Rattle.std.specs.Ordering.{nat_cmp, int_eq}
 use Rattle.std.specs.declared.cmp.Ordering.{Ordering}
-use Rattle.rpg_paper.specs.Paper.{Position, spaced, skipped, turns_overflow_on}
+use Rattle.rpg_paper.specs.Paper.{Position, skip_turns_on, skipped, space_turns_on, spaced}
 use Rattle.rpg_program.specs.Effect.{Effect, Leaves, quiet, then_go, unless_wrong}
 use Rattle.rpg_program.specs.Editing.{how_of, text_of}
 use Rattle.rpg_program.specs.Ends.{End, Fault, Continues, Halt, Wrong}
@@ -25,6 +25,7 @@ use Rattle.rpg_program.specs.declared.line.Source.{Source}
 use Rattle.rpg_program.specs.declared.line.Source.TheVariants as sources
 use Rattle.rpg_program.specs.declared.line.Time.{Time}
 use Rattle.rpg_program.specs.declared.line.Time.TheVariants as times
+use Rattle.rpg_program.specs.declared.rows.Overflow.{Overflow}
 
 -- a line with its length, that of its file (0 if it doesn't exist)
 pub record Line (K : Type 0) : Type 0 where
@@ -48,10 +49,10 @@ names_overflow (Some n) cs = names_indicator n cs
 
 -- the pass at which an alternative of a line counts: that of overflow if it names the overflow indicator, otherwise its line's own
 unfoldable pub pass_of : Option ℕ → Time → List Condition → Pass
-pass_of overflow times.Heading cs = if names_overflow overflow cs then passes.OverflowDetail else passes.Detail
-pass_of overflow times.Detail cs = if names_overflow overflow cs then passes.OverflowDetail else passes.Detail
-pass_of overflow times.Total cs = if names_overflow overflow cs then passes.OverflowTotal else passes.Total
-pass_of overflow times.Exception cs = passes.Exception
+pass_of indicator times.Heading cs = if names_overflow indicator cs then passes.OverflowDetail else passes.Detail
+pass_of indicator times.Detail cs = if names_overflow indicator cs then passes.OverflowDetail else passes.Detail
+pass_of indicator times.Total cs = if names_overflow indicator cs then passes.OverflowTotal else passes.Total
+pass_of indicator times.Exception cs = passes.Exception
 
 -- two passes are the same
 abbrev pub is_pass : Pass → Pass → Bool
@@ -64,29 +65,35 @@ is_pass p q = false
 
 -- the alternative counts at this pass, and all its conditions hold
 abbrev pub is_met : Option ℕ → Pass → set.FinSet nat_cmp → Time → List Condition → Bool
-is_met overflow pass on time cs = is_pass (pass_of overflow time cs) pass && all_hold on cs
+is_met indicator pass on time cs = is_pass (pass_of indicator time cs) pass && all_hold on cs
 
 -- a line is due if one of its alternatives is met
 abbrev pub is_due : Option ℕ → Pass → set.FinSet nat_cmp → Time → List (List Condition) → Bool
-is_due overflow pass on time alternatives = list_any (λ cs. is_met overflow pass on time cs) alternatives
+is_due indicator pass on time alternatives = list_any (λ cs. is_met indicator pass on time cs) alternatives
 
 -- ---- the form
 
 module _ {K : Type 0} {R : K → K → Ordering} where
-  -- the form moves, and a movement into the bottom of its page, from line 60 on, turns the overflow indicator on
-  unfoldable pub after_movement : Option ℕ → Position → World R → World R
-  after_movement overflow to w =
-      if turns_overflow_on w.paper.here to
-      then record { «data» = record w.data { on = turned_on overflow w.data.on }; paper = record w.paper { here = to; has_turned_on = true } }
+  -- the form moves, which may turn the overflow indicator on
+  unfoldable pub after_movement : Option ℕ → Bool → Position → World R → World R
+  after_movement indicator is_overflow to w =
+      if is_overflow
+      then record { «data» = record w.data { on = turned_on indicator w.data.on }; paper = record w.paper { here = to; has_turned_on = true } }
       else record w { paper = record w.paper { here = to } }
 
   -- n lines on
-  abbrev pub after_space : Option ℕ → ℕ → World R → World R
-  after_space overflow n w = after_movement overflow (spaced n w.paper.here) w
+  abbrev pub after_space : Overflow → ℕ → World R → World R
+  after_space overflow n w =
+      after_movement overflow.indicator (space_turns_on overflow.page n w.paper.here) (spaced overflow.page n w.paper.here) w
+
+  -- to the next line of this number
+  abbrev pub after_skip_to : Overflow → ℕ → World R → World R
+  after_skip_to overflow line w =
+      after_movement overflow.indicator (skip_turns_on overflow.page line w.paper.here) (skipped line w.paper.here) w
 
   -- 0 means no skip
-  abbrev pub after_skip : Option ℕ → ℕ → World R → World R
-  after_skip overflow line w = if line == 0 then w else after_movement overflow (skipped line w.paper.here) w
+  abbrev pub after_skip : Overflow → ℕ → World R → World R
+  after_skip overflow line w = if line == 0 then w else after_skip_to overflow line w
 
   -- the line is placed where the form is
   abbrev pub printed_line : World R → List ℕ → Effect R
@@ -97,15 +104,15 @@ module _ {K : Type 0} {R : K → K → Ordering} where
   recorded w text = record { ending = Continues; world = w; lines = []; records = text ∷ [] }
 
   -- skip before, space before
-  abbrev pub spaced_before : Option ℕ → Spacing → World R → World R
+  abbrev pub spaced_before : Overflow → Spacing → World R → World R
   spaced_before overflow s w = after_space overflow s.space_before (after_skip overflow s.skip_before w)
 
   -- skip after, space after
-  abbrev pub spaced_after : Option ℕ → Spacing → World R → World R
+  abbrev pub spaced_after : Overflow → Spacing → World R → World R
   spaced_after overflow s w = after_space overflow s.space_after (after_skip overflow s.skip_after w)
 
   -- the form moves, the line is placed, the form moves; a record is written
-  unfoldable pub put_on : Option ℕ → File → Spacing → List ℕ → World R → Effect R
+  unfoldable pub put_on : Overflow → File → Spacing → List ℕ → World R → Effect R
   put_on overflow Printer s text w = then_go (printed_line (spaced_before overflow s w) text) (λ v. Leaves (spaced_after overflow s v))
   put_on overflow Disk s text w = recorded w text
 
@@ -181,9 +188,9 @@ module _ {K : Type 0} {R : K → K → Ordering} where
 
 module _ {K : Type 0} {R : K → K → Ordering} where
   -- after an overflow output the indicator is settled: it turns off, unless a later movement has turned it on again
-  abbrev pub settled : Option ℕ → World R → World R
+  abbrev pub settled : Overflow → World R → World R
   settled overflow w = record {
-    «data» = record w.data { on = if w.paper.was_overflow && not w.paper.has_turned_on then turned_off overflow w.data.on else w.data.on };
+    «data» = record w.data { on = if w.paper.was_overflow && not w.paper.has_turned_on then turned_off overflow.indicator w.data.on else w.data.on };
     paper = record w.paper { was_overflow = false };
   }
 
@@ -216,16 +223,16 @@ module _ {K : Type 0} {R : K → K → Ordering} (forms : K → Option FieldForm
   assembled on len (f ∷ fs) d = let one = with_field on len d f in go_on_with one.ending one (assembled on len fs)
 
   -- the line is output, and then its entries are blanked, unless a field has halted it
-  abbrev pub write_line_out : Option ℕ → Line K → World R → End → Draft R → Effect R
+  abbrev pub write_line_out : Overflow → Line K → World R → End → Draft R → Effect R
   write_line_out overflow l w Continues d =
       then_go (put_on overflow l.file l.spacing d.text (with_fields d.fields w)) (λ v. Leaves (with_fields (blanked_all d.to_blank v.data.fields) v))
   write_line_out overflow l w (Halt k) d = quiet (Halt k) (with_fields d.fields w)
   write_line_out overflow l w (Wrong f) d = quiet (Wrong f) (with_fields d.fields w)
 
   -- a line is assembled, and then output
-  unfoldable pub line_out : Option ℕ → Line K → World R → Effect R
+  unfoldable pub line_out : Overflow → Line K → World R → Effect R
   line_out overflow l w =
-      unless_wrong (line_fault l.len l.spacing) w
+      unless_wrong (line_fault overflow.page.lines l.len l.spacing) w
       (let done = assembled w.data.on l.len l.fields (blank_line l.len w) in write_line_out overflow l w done.ending done.draft)
 
   -- an effect, if it is due
@@ -234,32 +241,32 @@ module _ {K : Type 0} {R : K → K → Ordering} (forms : K → Option FieldForm
   where_due false e w = Leaves w
 
   -- a line, if it is due in this pass
-  unfoldable pub one_out : Option ℕ → Pass → Line K → World R → Effect R
-  one_out overflow pass l w = where_due (is_due overflow pass w.data.on l.time l.alternatives) (line_out overflow l w) w
+  unfoldable pub one_out : Overflow → Pass → Line K → World R → Effect R
+  one_out overflow pass l w = where_due (is_due overflow.indicator pass w.data.on l.time l.alternatives) (line_out overflow l w) w
 
   -- the lines of a pass, in order
-  unfoldable pub lines_out : Option ℕ → Pass → List (Line K) → World R → Effect R
+  unfoldable pub lines_out : Overflow → Pass → List (Line K) → World R → Effect R
   lines_out overflow pass [] w = Leaves w
   lines_out overflow pass (l ∷ ls) w = then_go (one_out overflow pass l w) (lines_out overflow pass ls)
 
   -- ---- the outputs of a cycle
 
   -- H and D lines, and then the overflow indicator is settled
-  abbrev pub detail_output : Option ℕ → List (Line K) → World R → Effect R
+  abbrev pub detail_output : Overflow → List (Line K) → World R → Effect R
   detail_output overflow lines w = then_go (lines_out overflow passes.Detail lines w) (λ v. Leaves (settled overflow v))
 
   -- T lines
-  abbrev pub total_output : Option ℕ → List (Line K) → World R → Effect R
+  abbrev pub total_output : Overflow → List (Line K) → World R → Effect R
   total_output overflow lines w = lines_out overflow passes.Total lines w
 
   -- H and D lines, and from then on movements are watched
-  abbrev pub overflow_details : Option ℕ → List (Line K) → World R → Effect R
+  abbrev pub overflow_details : Overflow → List (Line K) → World R → Effect R
   overflow_details overflow lines w = then_go (lines_out overflow passes.OverflowDetail lines w) (λ v. Leaves (movements_watched v))
 
   -- total lines at overflow time, and then the heading and detail lines
-  abbrev pub overflow_output : Option ℕ → List (Line K) → World R → Effect R
+  abbrev pub overflow_output : Overflow → List (Line K) → World R → Effect R
   overflow_output overflow lines w = then_go (lines_out overflow passes.OverflowTotal lines w) (overflow_details overflow lines)
 
   -- E lines
-  abbrev pub exception_output : Option ℕ → List (Line K) → World R → Effect R
+  abbrev pub exception_output : Overflow → List (Line K) → World R → Effect R
   exception_output overflow lines w = lines_out overflow passes.Exception lines w

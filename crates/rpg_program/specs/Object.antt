@@ -1,5 +1,5 @@
 -- An object program as its rows, independent of where their tables are in memory.
-use Rattle.std.specs.Prelude.{ℕ, Bool, not, ◌==◌, List, map, Option}
+use Rattle.std.specs.Prelude.{ℕ, Bool, true, false, not, ◌==◌, List, map, Option}
 use Rattle.rpg_program.specs.Input.{TypeRow}
 use Rattle.rpg_program.specs.Lines as lines
 use Rattle.rpg_program.specs.Values.{Value, entries_held}
@@ -14,11 +14,12 @@ use Rattle.rpg_program.specs.declared.line.Spacing.{Spacing}
 use Rattle.rpg_program.specs.declared.line.Time.{Time}
 use Rattle.rpg_program.specs.declared.operation.Instruction.{Instruction}
 use Rattle.rpg_program.specs.declared.rows.Line.{Line}
+use Rattle.rpg_program.specs.declared.rows.Overflow.{Overflow}
 use Rattle.rpg_program.specs.declared.rows.RecordType.{RecordType}
 use Rattle.rpg_program.specs.declared.rows.Rows.{Rows}
 use Rattle.rpg_program.specs.declared.rows.Subroutine.{Subroutine}
 use Rattle.rpg_program.specs.declared.rows.Version.{Version}
-use Rattle.rpg_program.specs.declared.rows.Version.TheVariants.{One, Two}
+use Rattle.rpg_program.specs.declared.rows.Version.TheVariants.{One, Two, Three}
 
 -- an output line, as its row has it
 pub record LineRow : Type 0 where
@@ -41,7 +42,8 @@ pub record Object : Type 0 where
   pub secondary_length : ℕ
   pub printer_length : ℕ
   pub disk_length : ℕ
-  pub overflow : Option ℕ
+  pub overflow : Overflow
+  pub ends : Option InputFile
   pub fields : List FieldForm
   pub values : List (List Value)
   pub types : List (TypeRow ℕ)
@@ -72,6 +74,7 @@ seen r = record {
   printer_length = r.printer_length;
   disk_length = r.disk_length;
   overflow = r.overflow;
+  ends = r.ends;
   fields = r.fields.items;
   values = map entries_held r.values.items;
   types = map type_row r.types.items;
@@ -87,6 +90,19 @@ seen r = record {
 abbrev pub version_number : Version → ℕ
 version_number One = 1
 version_number Two = 2
+version_number Three = 3
+
+-- a version with a secondary file and match fields
+abbrev pub has_secondary : Version → Bool
+has_secondary One = false
+has_secondary Two = true
+has_secondary Three = true
+
+-- a version with a page of its own, and a file that can end the job alone
+abbrev pub has_page : Version → Bool
+has_page One = false
+has_page Two = false
+has_page Three = true
 
 -- ---- input files
 

@@ -4,7 +4,7 @@ use Rattle.std.specs.Prelude.{◌≡◌, ℕ, ◌+◌, List, [], ◌∷◌, ◌+
 use Rattle.std.specs.Ordering.{nat_cmp}
 use Rattle.std.specs.declared.cmp.Ordering.{Ordering}
 use Rattle.rpg_paper.specs.Form.{line_of, page_or_1}
-use Rattle.rpg_paper.specs.Paper.{Position, Placed, bytes_from, last_position_from, paper}
+use Rattle.rpg_paper.specs.Paper.{Position, Placed, bytes_from, last_position_from}
 use Rattle.rpg_program.specs.Effect.{Effect}
 use Rattle.rpg_program.specs.Ends.{End}
 use Rattle.rpg_program.specs.World.{World}

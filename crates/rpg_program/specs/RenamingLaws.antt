@@ -14,6 +14,7 @@ use Rattle.rpg_program.specs.declared.input.InputField.{InputField}
 use Rattle.rpg_program.specs.declared.line.Pass.{Pass}
 use Rattle.rpg_program.specs.declared.operation.Action.{Action}
 use Rattle.rpg_program.specs.declared.operation.Operand.{Operand}
+use Rattle.rpg_program.specs.declared.rows.Overflow.{Overflow}
 use Rattle.rpg_program.specs.Naming.{Agree, AgreeData, AreNamed, IsRenaming, SameEffect, SameEnd, Uses, renamed_action, renamed_input, renamed_line}
 
 -- an operation whose operands have forms does the same by both names
@@ -28,7 +29,7 @@ abbrev pub LinesAgree : {K L : Type 0} → (K → K → Ordering) → (L → L �
 LinesAgree {K} {L} R S =
     (old : K → Option FieldForm) (new : L → Option FieldForm) (at : K → L) → IsRenaming R S old new at
     → (words : K → List ℕ) (new_words : L → List ℕ) → ((k : K) → new_words (at k) ≡ words k)
-    → (overflow : Option ℕ) (pass : Pass) (ls : List (Line K)) (v : World R) (w : World S) → Agree old at v w → AreNamed old ls
+    → (overflow : Overflow) (pass : Pass) (ls : List (Line K)) (v : World R) (w : World S) → Agree old at v w → AreNamed old ls
     → SameEffect old at (lines_out old words overflow pass ls v) (lines_out new new_words overflow pass (map (renamed_line at) ls) w)
 
 -- and so do the input fields of a record

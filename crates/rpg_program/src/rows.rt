@@ -10,6 +10,7 @@ use crate::input::{ControlField, InputField, InputFile, RecordCode};
 use crate::line::{File, LineField, Spacing, Time};
 use crate::operation::Instruction;
 use crate::value::FieldValues;
+use rpg_paper::Page;
 
 /// A record type. Columns of a record are counted from 1, fields from 1.
 #[derive(Drop)]
@@ -61,11 +62,13 @@ pub struct Subroutine {
     pub instructions: Vec<Instruction<u16>>,
 }
 
-/// How an object program is encoded. Version 1 has neither a secondary file nor match fields.
+/// How an object program is encoded. Version 1 has neither a secondary file nor match fields; only version 3 has a page of its own and a
+/// file that can end the job alone.
 #[derive(Clone, Copy, PartialEq, Eq)]
 pub enum Version {
     One,
     Two,
+    Three,
 }
 
 impl Version {
@@ -75,8 +78,37 @@ impl Version {
         match self {
             Version::One => 1,
             Version::Two => 2,
+            Version::Three => 3,
         }
     }
+
+    /// Whether there can be a secondary file and match fields.
+    pub fn has_secondary(self) -> bool
+        ensures { result ≡ objects.has_secondary self }
+    {
+        match self {
+            Version::One => false,
+            Version::Two | Version::Three => true,
+        }
+    }
+
+    /// Whether there can be a page other than the standard one, and a file that ends the job alone.
+    pub fn has_page(self) -> bool
+        ensures { result ≡ objects.has_page self }
+    {
+        match self {
+            Version::One | Version::Two => false,
+            Version::Three => true,
+        }
+    }
+}
+
+/// The form's page, and the indicator that a full page turns on.
+#[derive(Clone, Copy)]
+pub struct Overflow {
+    /// 112 to 119.
+    pub indicator: Option<u8>,
+    pub page: Page,
 }
 
 /// The numbers and tables of a program.
@@ -93,8 +125,9 @@ pub struct Rows {
     pub printer_length: u16,
     /// The length of a disk record, at most 9,999; 0 without a disk file.
     pub disk_length: u16,
-    /// The indicator that a full page turns on, 112 to 119.
-    pub overflow: Option<u8>,
+    pub overflow: Overflow,
+    /// The input file that ends the job alone, if one does. Otherwise the job ends once both have ended.
+    pub ends: Option<InputFile>,
     /// At most 4,000, of 65,535 bytes in all.
     pub fields: Vec<FieldForm>,
     /// The first values of each field, one for each entry. Texts are characters, 0x20 to 0x7e.

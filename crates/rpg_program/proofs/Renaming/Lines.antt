@@ -3,7 +3,7 @@ use Rattle.std.proofs.Common.{◌≡◌, ℕ, Bool, true, false, not, ◌&&◌, 
 use Rattle.std.proofs.lemmas.List.Elements.{All-head, All-nil, All-push, All-tail}
 use Rattle.std.specs.FinSet as set
 use Rattle.std.specs.Prelude.{All, nat_le, ◌==◌}
-use Rattle.rpg_paper.specs.Paper.{Position, spaced, skipped, turns_overflow_on}
+use Rattle.rpg_paper.specs.Paper.{Position, skip_turns_on, skipped, space_turns_on, spaced}
 use Rattle.rpg_edit_marks.specs.declared.code.Fill.{Fill}
 use Rattle.rpg_edit_marks.specs.declared.how.How.TheVariants as hows
 use Rattle.rpg_program.specs.Editing.{how_of, text_of, width_as}
@@ -13,7 +13,7 @@ use Rattle.rpg_program.specs.Entries.{position_of}
 use Rattle.rpg_program.specs.Forms.{has_field, is_array, is_index_form, is_text_constant, kind_of, length_of, may_write, same_kind}
 use Rattle.rpg_edit_marks.specs.Code.{is_blank_fill}
 use Rattle.rpg_program.specs.LineFaults.{KeepsFieldRules, field_fault, fits_editing, fits_source, fits_word, has_kinds, has_storage, has_word, prints_page, line_fault}
-use Rattle.rpg_program.specs.Lines.{Draft, Drafted, Line, after_movement, after_skip, after_space, assembled, blank_line, blanked, blanked_all, with_page_counted, drafted, go_on_with, is_due, laid, laid_over, line_out, lines_out, next_page, one_out, printed_line, put_on, write_line_out, remembered, spaced_before, unless_faulty, where_due, with_field, with_fields}
+use Rattle.rpg_program.specs.Lines.{Draft, Drafted, Line, after_movement, after_skip, after_skip_to, after_space, assembled, blank_line, blanked, blanked_all, with_page_counted, drafted, go_on_with, is_due, laid, laid_over, line_out, lines_out, next_page, one_out, printed_line, put_on, write_line_out, remembered, spaced_before, unless_faulty, where_due, with_field, with_fields}
 use Rattle.rpg_program.specs.Rows.{has_entry, has_index, has_operand, is_one, is_one_entry, is_shaped}
 use Rattle.rpg_program.specs.Showing.{turned_on}
 use Rattle.rpg_program.specs.Values.{Number, number_of}
@@ -27,7 +27,6 @@ use Rattle.rpg_program.specs.declared.line.File.{File}
 use Rattle.rpg_program.specs.declared.line.File.TheVariants.{Printer, Disk}
 use Rattle.rpg_program.specs.declared.line.LineField.{LineField}
 use Rattle.rpg_program.specs.declared.line.Pass.{Pass}
-use Rattle.rpg_program.specs.declared.line.Pass.TheVariants as passes
 use Rattle.rpg_program.specs.declared.line.Source.{Source}
 use Rattle.rpg_program.specs.declared.line.Source.TheVariants as sources
 use Rattle.rpg_program.specs.declared.line.Spacing.{Spacing}
@@ -35,6 +34,7 @@ use Rattle.rpg_program.specs.declared.operation.Index.{Index}
 use Rattle.rpg_program.specs.declared.operation.Index.TheVariants.{Blank, Literal, Field}
 use Rattle.rpg_program.specs.declared.operation.Operand.{Operand}
 use Rattle.rpg_program.specs.declared.row.Shape.TheVariants as shapes
+use Rattle.rpg_program.specs.declared.rows.Overflow.{Overflow}
 use Rattle.rpg_program.proofs.Renaming.Operations.{position_same, written}
 use Rattle.rpg_program.specs.Naming.{Agree, AgreeFields, AreNamed, IsNamed, IsRenaming, SameEffect, SameEnd, renamed_editing, renamed_field, renamed_index, renamed_line, renamed_operand}
 
@@ -62,33 +62,34 @@ module _ {K L : Type 0} {R : K → K → Ordering} {S : L → L → Ordering} {o
 
   -- ---- the form
 
-  movement_agrees : (overflow : Option ℕ) (v : World R) (w : World S) → Agree old at v w → (to too : Position) → too ≡ to → Agree old at (after_movement overflow to v) (after_movement overflow too w)
+  movement_agrees : (indicator : Option ℕ) (turns : Position → Bool) (to : Position → Position) (v : World R) (w : World S) → Agree old at v w →
+      Agree old at (after_movement indicator (turns v.paper.here) (to v.paper.here) v) (after_movement indicator (turns w.paper.here) (to w.paper.here) w)
   unfolding after_movement
-  movement_agrees overflow v w a to too e =
-      subst (λ b. Agree old at (after_movement overflow to v) (cond b (record { «data» = record w.data { on = turned_on overflow w.data.on }; paper = record w.paper { here = too; has_turned_on = true } }) (record w { paper = record w.paper { here = too } }))) (λ i. turns_overflow_on (sym a.paper i).here (sym e i))
-      (by_turn (turns_overflow_on v.paper.here to))
+  movement_agrees indicator turns to v w a =
+      subst (λ b. Agree old at (after_movement indicator (turns v.paper.here) (to v.paper.here) v) (after_movement indicator b (to w.paper.here) w)) (λ i. turns (sym a.paper i).here)
+      (by_turn (turns v.paper.here))
     where
-      by_turn : (b : Bool) → Agree old at (cond b (record { «data» = record v.data { on = turned_on overflow v.data.on }; paper = record v.paper { here = to; has_turned_on = true } }) (record v { paper = record v.paper { here = to } })) (cond b (record { «data» = record w.data { on = turned_on overflow w.data.on }; paper = record w.paper { here = too; has_turned_on = true } }) (record w { paper = record w.paper { here = too } }))
+      by_turn : (b : Bool) → Agree old at (after_movement indicator b (to v.paper.here) v) (after_movement indicator b (to w.paper.here) w)
       by_turn true = record {
-        «data» = record { fields = a.data.fields; on = ap (turned_on overflow) a.data.on; remainder = a.data.remainder };
-        paper = λ i. record (a.paper i) { here = e i; has_turned_on = true };
+        «data» = record { fields = a.data.fields; on = ap (turned_on indicator) a.data.on; remainder = a.data.remainder };
+        paper = λ i. record (a.paper i) { here = to (a.paper i).here; has_turned_on = true };
       }
-      by_turn false = record { «data» = a.data; paper = λ i. record (a.paper i) { here = e i } }
+      by_turn false = record { «data» = a.data; paper = λ i. record (a.paper i) { here = to (a.paper i).here } }
 
-  space_agrees : (overflow : Option ℕ) (n : ℕ) (v : World R) (w : World S) → Agree old at v w → Agree old at (after_space overflow n v) (after_space overflow n w)
-  space_agrees overflow n v w a = movement_agrees overflow v w a _ _ (λ i. spaced n (a.paper i).here)
+  space_agrees : (overflow : Overflow) (n : ℕ) (v : World R) (w : World S) → Agree old at v w → Agree old at (after_space overflow n v) (after_space overflow n w)
+  space_agrees overflow n v w a = movement_agrees overflow.indicator (space_turns_on overflow.page n) (spaced overflow.page n) v w a
 
-  skip_agrees : (overflow : Option ℕ) (n : ℕ) (v : World R) (w : World S) → Agree old at v w → Agree old at (after_skip overflow n v) (after_skip overflow n w)
+  skip_agrees : (overflow : Overflow) (n : ℕ) (v : World R) (w : World S) → Agree old at v w → Agree old at (after_skip overflow n v) (after_skip overflow n w)
   skip_agrees overflow n v w a = by_none (n == 0)
     where
-      by_none : (b : Bool) → Agree old at (cond b v (after_movement overflow (skipped n v.paper.here) v)) (cond b w (after_movement overflow (skipped n w.paper.here) w))
+      by_none : (b : Bool) → Agree old at (cond b v (after_skip_to overflow n v)) (cond b w (after_skip_to overflow n w))
       by_none true = a
-      by_none false = movement_agrees overflow v w a _ _ (λ i. skipped n (a.paper i).here)
+      by_none false = movement_agrees overflow.indicator (skip_turns_on overflow.page n) (skipped n) v w a
 
   printed_same : (text written : List ℕ) → written ≡ text → (v : World R) (w : World S) → Agree old at v w → SameEffect old at (printed_line v text) (printed_line w written)
   printed_same text written e v w a = record { ending = refl; world = a; lines = λ i. record { at = (a.paper i).here; text = e i } ∷ []; records = refl }
 
-  put_same : (overflow : Option ℕ) (file : File) (s : Spacing) (text written : List ℕ) → written ≡ text → (v : World R) (w : World S) → Agree old at v w → SameEffect old at (put_on overflow file s text v) (put_on overflow file s written w)
+  put_same : (overflow : Overflow) (file : File) (s : Spacing) (text written : List ℕ) → written ≡ text → (v : World R) (w : World S) → Agree old at v w → SameEffect old at (put_on overflow file s text v) (put_on overflow file s written w)
   unfolding put_on
   put_same overflow Printer s text written e v w a =
       then_same (printed_line (spaced_before overflow s v) text) (printed_line (spaced_before overflow s w) written) _ _
@@ -258,7 +259,7 @@ module _ {K L : Type 0} {R : K → K → Ordering} {S : L → L → Ordering} {o
   fields_agree : (v : World R) (w : World S) → Agree old at v w → (x : Fields R) (y : Fields S) → AgreeFields old at x y → Agree old at (with_fields x v) (with_fields y w)
   fields_agree v w a x y b = record { «data» = record { fields = b; on = a.data.on; remainder = a.data.remainder }; paper = a.paper }
 
-  output_same : (overflow : Option ℕ) (l : Line K) (v : World R) (w : World S) → Agree old at v w → (x : End) (d : Draft R) (e : Draft S) → SameDraft d e → SameEffect old at (write_line_out old words overflow l v x d) (write_line_out new new_words overflow (renamed_line at l) w x e)
+  output_same : (overflow : Overflow) (l : Line K) (v : World R) (w : World S) → Agree old at v w → (x : End) (d : Draft R) (e : Draft S) → SameDraft d e → SameEffect old at (write_line_out old words overflow l v x d) (write_line_out new new_words overflow (renamed_line at l) w x e)
   output_same overflow l v w a Continues d e b =
       then_same _ _ _ _ (put_same overflow l.file l.spacing d.text e.text b.text _ _ (fields_agree v w a d.fields e.fields b.fields))
       (λ x y c. leaves_same _ _ (fields_agree x y c _ _
@@ -266,9 +267,9 @@ module _ {K L : Type 0} {R : K → K → Ordering} {S : L → L → Ordering} {o
   output_same overflow l v w a (Halt k) d e b = quiet_same _ _ _ (fields_agree v w a d.fields e.fields b.fields)
   output_same overflow l v w a (Wrong f) d e b = quiet_same _ _ _ (fields_agree v w a d.fields e.fields b.fields)
 
-  line_same : (overflow : Option ℕ) (l : Line K) → All IsThere l.fields → (v : World R) (w : World S) → Agree old at v w → SameEffect old at (line_out old words overflow l v) (line_out new new_words overflow (renamed_line at l) w)
+  line_same : (overflow : Overflow) (l : Line K) → All IsThere l.fields → (v : World R) (w : World S) → Agree old at v w → SameEffect old at (line_out old words overflow l v) (line_out new new_words overflow (renamed_line at l) w)
   unfolding line_out
-  line_same overflow l there v w a = by_fault (line_fault l.len l.spacing)
+  line_same overflow l there v w a = by_fault (line_fault overflow.page.lines l.len l.spacing)
     where
       done : SameDrafted (assembled old words v.data.on l.len l.fields (blank_line l.len v)) (assembled new new_words w.data.on l.len (map (renamed_field at) l.fields) (blank_line l.len w))
       done = subst (λ on. SameDrafted (assembled old words v.data.on l.len l.fields (blank_line l.len v)) (assembled new new_words on l.len (map (renamed_field at) l.fields) (blank_line l.len w))) (sym a.data.on)
@@ -284,17 +285,17 @@ module _ {K L : Type 0} {R : K → K → Ordering} {S : L → L → Ordering} {o
       by_fault None = put
       by_fault (Some f) = quiet_same _ v w a
 
-  one_out_same : (overflow : Option ℕ) (pass : Pass) (l : Line K) → All IsThere l.fields → (v : World R) (w : World S) → Agree old at v w → SameEffect old at (one_out old words overflow pass l v) (one_out new new_words overflow pass (renamed_line at l) w)
+  one_out_same : (overflow : Overflow) (pass : Pass) (l : Line K) → All IsThere l.fields → (v : World R) (w : World S) → Agree old at v w → SameEffect old at (one_out old words overflow pass l v) (one_out new new_words overflow pass (renamed_line at l) w)
   unfolding one_out
   one_out_same overflow pass l there v w a =
-      subst (λ on. SameEffect old at (one_out old words overflow pass l v) (where_due new new_words (is_due overflow pass on l.time l.alternatives) (line_out new new_words overflow (renamed_line at l) w) w)) (sym a.data.on)
-      (by_asked (is_due overflow pass v.data.on l.time l.alternatives))
+      subst (λ on. SameEffect old at (one_out old words overflow pass l v) (where_due new new_words (is_due overflow.indicator pass on l.time l.alternatives) (line_out new new_words overflow (renamed_line at l) w) w)) (sym a.data.on)
+      (by_asked (is_due overflow.indicator pass v.data.on l.time l.alternatives))
     where
       by_asked : (b : Bool) → SameEffect old at (where_due old words b (line_out old words overflow l v) v) (where_due new new_words b (line_out new new_words overflow (renamed_line at l) w) w)
       by_asked true = line_same overflow l there v w a
       by_asked false = leaves_same v w a
 
-  pub lines_same : (overflow : Option ℕ) (pass : Pass) (ls : List (Line K)) → AreNamed old ls → (v : World R) (w : World S) → Agree old at v w → SameEffect old at (lines_out old words overflow pass ls v) (lines_out new new_words overflow pass (map (renamed_line at) ls) w)
+  pub lines_same : (overflow : Overflow) (pass : Pass) (ls : List (Line K)) → AreNamed old ls → (v : World R) (w : World S) → Agree old at v w → SameEffect old at (lines_out old words overflow pass ls v) (lines_out new new_words overflow pass (map (renamed_line at) ls) w)
   unfolding lines_out
   lines_same overflow pass [] there v w a = leaves_same v w a
   lines_same overflow pass (l ∷ ls) there v w a = then_same _ _ _ _ (one_out_same overflow pass l (All-head AreAll l ls there) v w a) (lines_same overflow pass ls (All-tail AreAll l ls there))

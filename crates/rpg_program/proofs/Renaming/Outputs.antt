@@ -7,14 +7,15 @@ use Rattle.rpg_program.specs.Showing.{turned_off}
 use Rattle.rpg_program.specs.World.{World}
 use Rattle.rpg_program.specs.declared.form.FieldForm.{FieldForm}
 use Rattle.rpg_program.specs.declared.line.Pass.TheVariants as passes
+use Rattle.rpg_program.specs.declared.rows.Overflow.{Overflow}
 
 module _ {K L : Type 0} {R : K → K → Ordering} {S : L → L → Ordering} {old : K → Option FieldForm} {new : L → Option FieldForm} {at : K → L} (r : IsRenaming R S old new at)
-    (words : K → List ℕ) (new_words : L → List ℕ) (same_words : (k : K) → new_words (at k) ≡ words k) (overflow : Option ℕ) (ls : List (Line K)) (named : AreNamed old ls) where
+    (words : K → List ℕ) (new_words : L → List ℕ) (same_words : (k : K) → new_words (at k) ≡ words k) (overflow : Overflow) (ls : List (Line K)) (named : AreNamed old ls) where
   settled_agrees : (v : World R) (w : World S) → Agree old at v w → Agree old at (settled overflow v) (settled overflow w)
   settled_agrees v w a = record {
     «data» = record {
       fields = a.data.fields;
-      on = λ i. cond ((a.paper i).was_overflow && not (a.paper i).has_turned_on) (turned_off overflow (a.data.on i)) (a.data.on i);
+      on = λ i. cond ((a.paper i).was_overflow && not (a.paper i).has_turned_on) (turned_off overflow.indicator (a.data.on i)) (a.data.on i);
       remainder = a.data.remainder;
     };
     paper = λ i. record (a.paper i) { was_overflow = false };

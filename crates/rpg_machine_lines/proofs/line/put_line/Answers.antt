@@ -5,7 +5,8 @@ use Rattle.rpg_program.specs.Forms.{form_at}
 use Rattle.rpg_program.specs.Halts.{halt_number}
 use Rattle.rpg_program.specs.Lines.{blanked_all, put_on}
 use Rattle.rpg_program.specs.Put.{IsDone}
-use Rattle.rpg_machine_lines.proofs.OneLine.{assembled_from, line_halted, line_placed, right_moves}
+use Rattle.rpg_machine_lines.proofs.OneLine.{assembled_from, line_halted, line_placed}
+use Rattle.rpg_machine_lines.proofs.Moving.{short_spacing}
 use Rattle.rpg_machine_lines.proofs.Reaching.{blank_after_reach, reach_in_line}
 use Rattle.rpg_machine_lines.specs.Drafts.{draft_in, fields_replaced}
 use Rattle.rpg_machine_lines.specs.Outputs.{output_of}
@@ -22,7 +23,7 @@ put_on-requires g c =
     let len = file_length p l.file in
     let blank = c.fill_blanks.ensures ∙ ap (λ (n : ℕ). replicate n 32) c.requires.len in
     record {
-      spacing = right_moves _ _ c.requires.right.fault;
+      spacing = short_spacing _ _ _ c.requires.page c.requires.right.fault;
       near = subst (λ (m : Working). IsNear m.world.paper.here) (sym c.assemble.ensures.changes.rest) c.requires.near;
       blank = blank_after_reach l.fields.items c.deref.result.now c.args.plan.now.reach len c.fill_blanks.new.text c.assemble.new.text c.requires.planned.reach c.deref.ensures.value
           (reach_in_line (form_at p.fields) (word_at p) len l.fields.items c.requires.right.fields) blank c.assemble.auto.text c.assemble.ensures.following;

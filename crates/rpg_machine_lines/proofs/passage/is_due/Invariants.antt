@@ -6,5 +6,5 @@ use Rattle.rpg_machine_lines.proofs.passage.is_due.Given as goal
 
 abbrev pub invariant-alternatives : goal.invariant-alternatives
 invariant-alternatives l =
-    is_due l.overflow l.pass l.on l.time (map (λ (a : Vec Condition). a.items) (drop l.alternative-index l.alternatives))
-    ≡ is_due l.overflow l.pass l.on l.time (map (λ (a : Vec Condition). a.items) l.alternatives)
+    is_due l.indicator l.pass l.on l.time (map (λ (a : Vec Condition). a.items) (drop l.alternative-index l.alternatives))
+    ≡ is_due l.indicator l.pass l.on l.time (map (λ (a : Vec Condition). a.items) l.alternatives)

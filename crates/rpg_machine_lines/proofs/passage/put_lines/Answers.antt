@@ -46,7 +46,7 @@ lines-preserved-then-not-may_be_due g c =
     let low : i < length (pass_lines p pass) = omega (arith, c.lines-test.true, listed_many p pass found has listed known) in
     let w = held_of c.lines.memory in
     let q = output_of c.lines.output in
-    let fails : holds_if_any w.world.data.on (needed_at p.overflow l.time l.alternatives pass) ≡ false =
+    let fails : holds_if_any w.world.data.on (needed_at p.overflow.indicator l.time l.alternatives pass) ≡ false =
     ap (holds_if_any w.world.data.on) (sym here.needed) ∙ ap (λ s. holds_if_any s (get_or listed i none).needed) (sym c.on-on.ensures)
     ∙ sym c.may_be_due.ensures ∙ c.if-not-may_be_due.true in
     record {
@@ -80,9 +80,9 @@ lines-preserved-then-not-is_due_then g c =
     let low : i < length (pass_lines p pass) = omega (arith, c.lines-test.true, listed_many p pass c.args.plan.now.passages has listed known) in
     let w = held_of c.lines.memory in
     let q = output_of c.lines.output in
-    let same = ap (λ (x : Object). x.overflow) c.rows-rows.ensures.same in
+    let same = ap (λ (x : Object). x.overflow.indicator) c.rows-rows.ensures.same in
     let asks = answered p pass (get_or listed i none) (line_row l) (listed_of p pass c.args.plan.now.passages has listed known i none c.lines-test.true (line_row l) is)
-    c.on-on.result.now w.world.data.on c.rows-rows.result.now.overflow c.may_be_due.result c.is_due_then.result
+    c.on-on.result.now w.world.data.on c.rows-rows.result.now.overflow.indicator c.may_be_due.result c.is_due_then.result
     c.on-on.ensures same c.may_be_due.ensures c.if-not-may_be_due.false c.is_due_then.ensures in
     record {
       near = c.lines.invariant.near;
@@ -142,9 +142,9 @@ lines-preserved g c =
     let v = held_of c.put_due.new.memory in
     let q = output_of c.lines.output in
     let o = output_of c.put_due.new.output in
-    let same = ap (λ (x : Object). x.overflow) c.rows-rows.ensures.same in
+    let same = ap (λ (x : Object). x.overflow.indicator) c.rows-rows.ensures.same in
     let asks = answered p pass (get_or listed i none) (line_row l) (listed_of p pass c.args.plan.now.passages has listed known i none c.lines-test.true (line_row l) is)
-    c.on-on.result.now w.world.data.on c.rows-rows.result.now.overflow c.may_be_due.result c.is_due_then.result
+    c.on-on.result.now w.world.data.on c.rows-rows.result.now.overflow.indicator c.may_be_due.result c.is_due_then.result
     c.on-on.ensures same c.may_be_due.ensures c.if-not-may_be_due.false c.is_due_then.ensures in
     let put = subst (λ (x : Object). IsDone (line_effect x (line_row l)) w q (end_of c.in_ok-put_due.field-0) v o) c.lines.invariant.program c.in_ok-put_due.ensures.done in
     let done : IsDone (one p pass (line_row l)) w q (end_of c.in_ok-put_due.field-0) v o =
@@ -174,9 +174,9 @@ returns-in-Halt-clause-done g c =
     let q = output_of c.lines.output in
     let o = output_of c.put_due.new.output in
     let k = c.in-Halt.halt in
-    let same = ap (λ (x : Object). x.overflow) c.rows-rows.ensures.same in
+    let same = ap (λ (x : Object). x.overflow.indicator) c.rows-rows.ensures.same in
     let asks = answered p pass (get_or listed i none) (line_row l) (listed_of p pass c.args.plan.now.passages has listed known i none c.lines-test.true (line_row l) is)
-    c.on-on.result.now w.world.data.on c.rows-rows.result.now.overflow c.may_be_due.result c.is_due_then.result
+    c.on-on.result.now w.world.data.on c.rows-rows.result.now.overflow.indicator c.may_be_due.result c.is_due_then.result
     c.on-on.ensures same c.may_be_due.ensures c.if-not-may_be_due.false c.is_due_then.ensures in
     let put = subst (λ (x : Object). IsDone (line_effect x (line_row l)) w q (end_of c.in_ok-put_due.field-0) v o) c.lines.invariant.program c.in_ok-put_due.ensures.done in
     let done : IsDone (one p pass (line_row l)) w q (end_of c.in_ok-put_due.field-0) v o =
