@@ -198,7 +198,7 @@ pub(crate) fn write_cause(out: &mut TextWriter, rows: &Rows, row: usize, cause: 
         ),
         Cause::Called { subroutine, level } => write_called(out, rows, subroutine, level),
         Cause::StrayReturn { place } => {
-            out.fill_one(": the RET at place {} stands in no subroutine", place);
+            out.fill_one(": the RET at place {} is in no subroutine", place);
         }
         Cause::ForeignReturn { .. } | Cause::Unended | Cause::Level { .. } => {
             write_subroutine(out, rows, row);

@@ -2,7 +2,7 @@
 
 /// The header without its last part.
 pub(crate) const HEADER: &str = "6 the name RPGOBJ
-2 version 1 or 2
+2 version 1, 2 or 3
 2 the allowance, 1 to 65,535,
 2 the length of a record, 1 to 9,999,
 2 the length of a printed line, 0 to 132,
@@ -19,6 +19,11 @@ pub(crate) const HEADER_END: &str = "2 a number that is always 0";
 
 pub(crate) const HEADER_END_2: &str = "2 the length of a secondary record, 0 to 9,999,";
 
+pub(crate) const HEADER_END_3: &str = "2 the length of a secondary record, 0 to 9,999,
+2 the page length, 3 to 112,
+2 the overflow line, 1 to the page length,
+2 the file that ends the job, 0 to 2, and 0 without a secondary file,";
+
 pub(crate) const FIELD: &str = "1 the kind, 1 or 2,
 1 the class, 0 to 4,
 2 the length
@@ -33,7 +38,7 @@ pub(crate) const TYPE: &str = "1 the indicator, 0 to 129,
 2 the count of control fields, at most 100,
 2 the count of input fields, at most 500,";
 
-/// The head of a record type in version 2.
+/// The head of a record type in versions 2 and 3.
 pub(crate) const TYPE_2: &str = "1 the indicator, 0 to 129,
 1 the file, 0 or 1,
 2 the count of record codes, at most 100,

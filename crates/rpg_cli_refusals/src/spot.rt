@@ -1,8 +1,8 @@
 //! What an object program has at an offset. The counts before it aren't checked.
 
 use crate::parts::{
-    ALTERNATIVE, CONDITION, CONTROL_FIELD, FIELD, HEADER, HEADER_END, HEADER_END_2, INPUT_FIELD,
-    INSTRUCTION, LINE, LINE_FIELD, MATCH_FIELD, RECORD_CODE, SUBROUTINE, TYPE, TYPE_2,
+    ALTERNATIVE, CONDITION, CONTROL_FIELD, FIELD, HEADER, HEADER_END, HEADER_END_2, HEADER_END_3,
+    INPUT_FIELD, INSTRUCTION, LINE, LINE_FIELD, MATCH_FIELD, RECORD_CODE, SUBROUTINE, TYPE, TYPE_2,
 };
 use rpg_program::rows::Version;
 
@@ -57,6 +57,7 @@ impl Walk<'_> {
     fn version(&self) -> Version {
         match self.number(6) {
             2 => Version::Two,
+            3 => Version::Three,
             _ => Version::One,
         }
     }
@@ -109,6 +110,7 @@ impl Walk<'_> {
         let end = match self.version() {
             Version::One => HEADER_END,
             Version::Two => HEADER_END_2,
+            Version::Three => HEADER_END_3,
         };
         self.pass_parts(end, header);
     }
@@ -121,9 +123,9 @@ impl Walk<'_> {
         }
     }
 
-    /// Passes the first values of all fields, whose rows follow the header.
-    fn pass_values(&mut self) {
-        let mut row: usize = 32;
+    /// Passes the first values of all fields, given where the rows of the fields begin.
+    fn pass_values(&mut self, fields: usize) {
+        let mut row = fields;
         for field in 1..=self.number(18) {
             let length = self.number_in(row, 2);
             let entries = self.number_in(row, 6);
@@ -137,9 +139,10 @@ impl Walk<'_> {
         for number in 0..self.number(20) {
             let row = row_of("record type", number);
             let begin = self.at;
-            let (parts, matches) = match self.version() {
-                Version::One => (TYPE, 0),
-                Version::Two => (TYPE_2, self.number_in(begin, 8)),
+            let (parts, matches) = if self.version().has_secondary() {
+                (TYPE_2, self.number_in(begin, 8))
+            } else {
+                (TYPE, 0)
             };
             self.pass_parts(parts, row);
             self.pass_all(self.number_in(begin, 2), RECORD_CODE, row);
@@ -192,8 +195,9 @@ pub(crate) fn spot_at(bytes: &[u8], offset: usize) -> Option<Spot> {
         found: None,
     };
     walk.pass_header();
+    let fields = walk.at;
     let _ = walk.pass_rows("field", 1, walk.number(18), FIELD);
-    walk.pass_values();
+    walk.pass_values(fields);
     walk.pass_types();
     walk.pass_lines();
     walk.pass_calculations();

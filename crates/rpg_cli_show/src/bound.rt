@@ -3,7 +3,7 @@
 use rpg_cli_text::TextWriter;
 use rpg_program::line::Time;
 use rpg_program::operation::Instruction;
-use rpg_program::rows::{Rows, Version};
+use rpg_program::rows::Rows;
 
 /// Returns the weight of all record types: their codes, control fields, input fields and match fields.
 fn types_weight(rows: &Rows) -> u64 {
@@ -40,14 +40,17 @@ const BOUND: &str = "  accepted, bound {}: a cycle takes at most so many steps, 
 /// Writes the bound and its parts.
 pub(crate) fn write_bound(out: &mut TextWriter, rows: &Rows, bound: u64, costs: &[u64]) {
     let lines = lines_weight(rows);
-    let overflow = if rows.overflow.is_some() { lines } else { 0 };
+    let overflow = if rows.overflow.indicator.is_some() {
+        lines
+    } else {
+        0
+    };
     let detail = first_cost(costs, 0, &rows.detail);
     let total = first_cost(costs, rows.detail.len(), &rows.total);
-    let types = match rows.version {
-        Version::One => "for codes, control fields and input fields of all record types",
-        Version::Two => {
-            "for codes, control fields, input fields and match fields of all record types"
-        }
+    let types = if rows.version.has_secondary() {
+        "for codes, control fields, input fields and match fields of all record types"
+    } else {
+        "for codes, control fields and input fields of all record types"
     };
     let records = types_weight(rows);
     out.fill_one(BOUND, bound);

@@ -3,13 +3,15 @@
 use crate::shown::{Shown, Table};
 use rpg_cli_show_fields::write_named;
 use rpg_cli_text::TextWriter;
-use rpg_program::rows::Rows;
+use rpg_paper::Page;
+use rpg_program::input::InputFile;
+use rpg_program::rows::{Overflow, Rows};
 
 const TABLES: &str = "  tables   fields {}, record types {}, lines {}, ";
 
 const CODE: &str = "subroutines {},\n           instructions {} at detail time, {} at total time\n";
 
-const ALLOWANCE: &str = "  spends   a cycle may take {} branches back and calls\n";
+const ALLOWANCE: &str = "  limit    {} backward branches and calls a cycle\n";
 
 /// Writes a sentence with the record or line length of a file, or that there is no such file.
 pub(crate) fn write_length(out: &mut TextWriter, sentence: &str, length: u16, none: &str) {
@@ -26,6 +28,31 @@ pub(crate) fn write_version(out: &mut TextWriter, rows: &Rows, bytes: usize) {
     out.fill_two("object program, version {}, {} bytes\n", version, bytes);
 }
 
+fn is_standard(page: Page) -> bool {
+    let standard = Page::standard();
+    page.lines == standard.lines && page.overflow_line == standard.overflow_line
+}
+
+/// Writes the page with the overflow indicator, and the file that ends the job alone. The standard page has a sentence of its own.
+pub(crate) fn write_form(out: &mut TextWriter, rows: &Rows, standard: &str) {
+    let Overflow { indicator, page } = rows.overflow;
+    if is_standard(page) {
+        write_named(out, standard, indicator);
+    } else {
+        out.fill_one("  page     {} lines", page.lines);
+        write_named(out, ", {}", indicator);
+        if indicator.is_some() {
+            out.fill_one(" from line {}", page.overflow_line);
+        }
+        out.write_char('\n');
+    }
+    out.write_str(match rows.ends {
+        None => "",
+        Some(InputFile::Primary) => "  ends     with PRIMARY\n",
+        Some(InputFile::Secondary) => "  ends     with SECONDARY\n",
+    });
+}
+
 pub(crate) fn write_header(out: &mut TextWriter, shown: Shown<'_>) {
     let rows = shown.rows;
     let input = "  input    records of {} columns";
@@ -37,8 +64,9 @@ pub(crate) fn write_header(out: &mut TextWriter, shown: Shown<'_>) {
     write_length(out, ", of the secondary file {}", rows.secondary_length, "");
     out.write_char('\n');
     write_length(out, printer, rows.printer_length, "  printer  none");
-    write_named(out, ", overflow indicator {}", rows.overflow);
+    write_named(out, ", overflow indicator {}", rows.overflow.indicator);
     out.write_char('\n');
+    write_form(out, rows, "");
     shown.write_broken(out, Table::Header, 0);
     write_length(out, disk, rows.disk_length, "  disk     none\n");
     out.fill_three(TABLES, fields, types, lines);

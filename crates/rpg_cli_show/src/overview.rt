@@ -1,8 +1,8 @@
 //! What an object program reads, writes and needs, in words.
 
-use crate::header::{write_length, write_version};
+use crate::header::{write_form, write_length, write_version};
 use crate::shown::{Judged, write_refusal};
-use rpg_cli_show_fields::{uses_date, write_named};
+use rpg_cli_show_fields::uses_date;
 use rpg_cli_text::TextWriter;
 use rpg_object::encode;
 use rpg_program::Program;
@@ -48,7 +48,7 @@ fn write_levels(out: &mut TextWriter, rows: &Rows) {
     out.write_str(end);
 }
 
-/// Writes the files, the date, control levels and the overflow indicator.
+/// Writes the files, the date, control levels, the form and the file that ends the job alone.
 fn write_rows(out: &mut TextWriter, rows: &Rows, uses_date: bool) {
     let secondary = "           records of {} columns from --secondary FILE\n";
     let disk = "  writes   records of {} columns to --disk FILE\n";
@@ -64,7 +64,7 @@ fn write_rows(out: &mut TextWriter, rows: &Rows, uses_date: bool) {
         "  date     not used\n"
     });
     write_levels(out, rows);
-    write_named(out, "  page     a full page turns on {}\n", rows.overflow);
+    write_form(out, rows, "  page     a full page turns on {}\n");
 }
 
 /// Writes the most steps and bytes of a cycle, and the arguments of `run` that a program requires.

@@ -14,11 +14,9 @@ use rpg_object::encode;
 use rpg_program::Program;
 use std::alloc::{AllocError, Global};
 
-/// The bytes of a program before its fields.
-const HEADER: usize = 32;
-
 fn write_tables(out: &mut TextWriter, shown: Shown<'_>, uses: &Uses) {
-    let mut at = HEADER;
+    let has_page = shown.rows.version.has_page();
+    let mut at = if has_page { 38 } else { 32 };
     write_fields(out, &mut at, shown, uses);
     write_first_values(out, &mut at, shown);
     write_types(out, &mut at, shown);

@@ -4,7 +4,7 @@ use crate::shown::{Shown, Table, write_offset};
 use rpg_cli_show_fields::{write_card, write_named, write_quoted, write_shows};
 use rpg_cli_text::TextWriter;
 use rpg_program::input::{ControlField, InputField, InputFile, RecordCode};
-use rpg_program::rows::{RecordType, Version};
+use rpg_program::rows::RecordType;
 
 /// Writes which records are of the type, and which indicator it turns on.
 fn write_head(out: &mut TextWriter, number: usize, record_type: &RecordType) {
@@ -65,9 +65,10 @@ pub(crate) fn write_types(out: &mut TextWriter, at: &mut usize, shown: Shown<'_>
     let control = "    columns {}-{} are a control field of L{}";
     let matched = "    columns {}-{} are a match field of M{}";
     out.write_str("\n    at  RECORD TYPES\n");
-    let head = match shown.rows.version {
-        Version::One => 8,
-        Version::Two => 10,
+    let head = if shown.rows.version.has_secondary() {
+        10
+    } else {
+        8
     };
     for (number, record_type) in shown.rows.types.iter().enumerate() {
         write_offset(out, at, head);

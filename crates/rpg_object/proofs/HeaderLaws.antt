@@ -1,34 +1,40 @@
 -- The laws of the format of the header, and what its numbers keep.
-use Rattle.std.proofs.Common.{◌≡◌, ℕ, ◌-◌, ◌^◌, ◌<◌, ◌≤◌, cond, List, [], ◌∷◌, Option, Some, None, Ok, Err, refl, sym, ap, ◌∙◌, arith, inl, inr, leb, eqb, eqb-true, ne_eqb}
+use Rattle.std.proofs.Common.{◌≡◌, ℕ, ◌-◌, ◌^◌, ◌<◌, ◌≤◌, cond, zero, suc, false, List, [], ◌∷◌, Option, Some, None, Ok, Err, refl, sym, ap, subst, ◌∙◌, ◌++◌, arith, inl, inr, leb, eqb, eqb-true, ne_eqb}
 use Rattle.std.proofs.lemmas.Bool.{leb-true, le-leb, and_parts, and_from}
 use Rattle.std.specs.Option.{ForSome}
 use Rattle.rpg_object_format.specs.declared.fault.Code.TheVariants as faults
 use Rattle.rpg_object_format.specs.Format.{keep, two_bytes, pair, row, spelled_along}
-use Rattle.rpg_object_format.specs.Numbers.{two}
+use Rattle.rpg_object_format.specs.Numbers.{choice, number_where, two}
 use Rattle.rpg_object_format.proofs.Laws.{IsFormat, IsRule, two_law, pair_law, row_law}
-use Rattle.rpg_object_format.proofs.Rules.{chosen, stands_for, value_is, guarded, number_law, count_law}
+use Rattle.rpg_object_format.proofs.Rules.{choice_rule, chosen, stands_for, value_is, guarded, number_law, count_law}
 use Rattle.rpg_program.specs.Kept.{IsOverflowIndicator}
 use Rattle.rpg_program.specs.declared.rows.Version.{Version}
 use Rattle.rpg_program.specs.declared.rows.Version.TheVariants as versions
-use Rattle.rpg_object_format.specs.Shapes.{row_where, unused_number}
-use Rattle.rpg_object_rows.specs.Types.{is_two}
-use Rattle.rpg_object_format.proofs.ShapeLaws.{unused_number_law, where_used_law}
+use Rattle.rpg_object_format.specs.Shapes.{no_number, row_where, unused_number}
+use Rattle.rpg_object_format.proofs.ShapeLaws.{either_holds, either_keeps, no_number_law, unused_is, unused_number_law, where_used_law}
+use Rattle.rpg_paper.specs.Paper.{IsPage, standard_page}
+use Rattle.rpg_paper.specs.declared.form.Page.{Page}
 use Rattle.rpg_text.specs.Texts.{is_between}
 use Rattle.rpg_object.specs.declared.header.Counts.{Counts}
 use Rattle.rpg_object.specs.declared.header.Header.{Header}
 use Rattle.rpg_object.specs.declared.header.Settings.{Settings}
-use Rattle.rpg_program.specs.Object.{version_number}
+use Rattle.rpg_program.specs.Object.{has_page, has_secondary, version_number}
+use Rattle.rpg_program.specs.declared.input.InputFile.{InputFile}
+use Rattle.rpg_program.specs.declared.input.InputFile.TheVariants.{Primary, Secondary}
 use Rattle.rpg_object_format.specs.Indicators.{indicator_number}
-use Rattle.rpg_object.specs.Header.{overflow_of, settings, most_instructions, counts, header_format, secondary_length, version_of}
+use Rattle.rpg_object.specs.Header.{counts, ending_number, endings, ends_format, header_format, most_instructions, overflow_of, page_format, page_numbers, page_text, secondary_length, settings, version_of}
 use Rattle.rpg_object_format.proofs.Choices.{within, counted, between, few}
 
 version_rule : IsRule version_of version_number
 version_rule n x e =
-    elim (chosen (eqb n 1) (stands_for versions.One) (cond (eqb n 2) (stands_for versions.Two) (Err faults.Version)) (stands_for x) e) [
+    elim (chosen (eqb n 1) (stands_for versions.One) (cond (eqb n 2) (stands_for versions.Two) (cond (eqb n 3) (stands_for versions.Three) (Err faults.Version))) (stands_for x) e) [
       | inl w ↦ ap version_number (sym (value_is versions.One x w.1)) ∙ sym (eqb-true _ _ w.0)
-      | inr w ↦ elim (chosen (eqb n 2) (stands_for versions.Two) (Err faults.Version) (stands_for x) w.1) [
+      | inr w ↦ elim (chosen (eqb n 2) (stands_for versions.Two) (cond (eqb n 3) (stands_for versions.Three) (Err faults.Version)) (stands_for x) w.1) [
         | inl u ↦ ap version_number (sym (value_is versions.Two x u.1)) ∙ sym (eqb-true _ _ u.0)
-        | inr u ↦ absurd (let k = u.1 in cc)
+        | inr u ↦ elim (chosen (eqb n 3) (stands_for versions.Three) (Err faults.Version) (stands_for x) u.1) [
+          | inl t ↦ ap version_number (sym (value_is versions.Three x t.1)) ∙ sym (eqb-true _ _ t.0)
+          | inr t ↦ absurd (let k = t.1 in cc)
+        ]
       ]
     ]
 
@@ -57,13 +63,24 @@ counts_law =
     pair_law _ _ (count_law most_instructions) (λ d. pair_law _ _ (count_law (most_instructions - d)) (λ n. count_law 100))))))
 
 secondary_length_law : (v : Version) → IsFormat (secondary_length v)
-secondary_length_law v = where_used_law (is_two v) _ 0 unused_number (number_law (is_between 0 9999)) unused_number_law
+secondary_length_law v = where_used_law (has_secondary v) _ 0 unused_number (number_law (is_between 0 9999)) unused_number_law
+
+page_law : IsFormat page_numbers
+unfolding page_numbers
+page_law = row_law _ _ _ (λ a h. refl) (λ x. refl) (pair_law _ _ (number_law (is_between 3 112)) (λ lines. number_law (is_between 1 lines)))
+
+page_format_law : (v : Version) → IsFormat (page_format v)
+page_format_law v = where_used_law (has_page v) page_numbers standard_page no_number page_law no_number_law
+
+ends_law : (v : Version) (n : ℕ) → IsFormat (ends_format v n)
+ends_law v n = where_used_law (has_page v) _ None no_number (two_law (choice (endings n) ending_number) ending_number (choice_rule (endings n) ending_number)) no_number_law
 
 pub header_law : IsFormat header_format
 unfolding header_format
 header_law =
     row_law _ _ _ (λ a h. refl) (λ x. refl)
-    (pair_law _ _ (two_law version_of version_number version_rule) (λ v. pair_law _ _ settings_law (λ s. pair_law _ _ counts_law (λ c. secondary_length_law v))))
+    (pair_law _ _ (two_law version_of version_number version_rule) (λ v. pair_law _ _ settings_law (λ s. pair_law _ _ counts_law (λ c.
+    pair_law _ _ (secondary_length_law v) (λ n. pair_law _ _ (page_format_law v) (λ page. ends_law v n))))))
 
 -- ---- what the header keeps
 
@@ -126,25 +143,48 @@ pub record IsHeader (h : Header) : Type 0 where
   pub settings : AreSettings h.settings
   pub counts : AreCounts h.counts
   pub longest_secondary : h.secondary_length ≤ 9999
-  pub plain : h.version ≡ versions.One → h.secondary_length ≡ 0
+  pub plain : has_secondary h.version ≡ false → h.secondary_length ≡ 0
+  pub page : IsPage h.page
+  pub ends : h.secondary_length ≡ 0 → h.ends ≡ None
+  pub standard : has_page h.version ≡ false → (h.page ≡ standard_page) × (h.ends ≡ None)
 
 secondary_kept : (v : Version) (n : ℕ) → (secondary_length v).Holds n → n ≤ 9999
-unfolding row_where two_bytes
-secondary_kept versions.One n h = omega (arith, h.0)
-secondary_kept versions.Two n h = (within 0 9999 n h.0).1
+unfolding two_bytes
+secondary_kept v = either_keeps (λ n. n ≤ 9999) (has_secondary v) (number_where (is_between 0 9999)) 0 unused_number (λ n h. (within 0 9999 n h.0).1) (omega arith)
 
-no_secondary : (v : Version) (n : ℕ) → (secondary_length v).Holds n → v ≡ versions.One → n ≡ 0
-unfolding row_where
-no_secondary versions.One n h one = h.0
-no_secondary versions.Two n h one = absurd cc
+page_kept : (v : Version) (page : Page) → (page_format v).Holds page → IsPage page
+unfolding page_numbers row pair two_bytes
+page_kept v = either_keeps IsPage (has_page v) page_numbers standard_page no_number each (record { shortest = omega arith; longest = omega arith; first = omega arith; within = omega arith })
+  where
+    each : (page : Page) → page_numbers.Holds page → IsPage page
+    each page h =
+        let lines = within 3 112 page.lines h.0.0 in
+        let line = within 1 page.lines page.overflow_line h.1.0 in
+        record { shortest = lines.0; longest = lines.1; first = line.0; within = line.1 }
+
+-- without a secondary file no file ends the job alone
+ends_kept : (v : Version) (n : ℕ) (ends : Option InputFile) → (ends_format v n).Holds ends → n ≡ 0 → ends ≡ None
+unfolding two_bytes
+ends_kept v n ends h none = either_keeps (λ x. x ≡ None) (has_page v) _ None no_number each refl ends (subst (λ (k : ℕ). (ends_format v k).Holds ends) none h)
+  where
+    each : (ends : Option InputFile) → (two_bytes (choice (endings 0) ending_number) ending_number).Holds ends → ends ≡ None
+    each None h = refl
+    each (Some Primary) h = absurd (let e = h.0 in cc)
+    each (Some Secondary) h = absurd (let e = h.0 in cc)
 
 pub header_kept : (h : Header) → header_format.Holds h → IsHeader h
 unfolding header_format row pair two_bytes
 header_kept h holds = record {
   settings = settings_kept h.settings holds.1.0;
   counts = counts_kept h.counts holds.1.1.0;
-  longest_secondary = secondary_kept h.version h.secondary_length holds.1.1.1;
-  plain = no_secondary h.version h.secondary_length holds.1.1.1;
+  longest_secondary = secondary_kept h.version h.secondary_length holds.1.1.1.0;
+  plain = unused_is (has_secondary h.version) (number_where (is_between 0 9999)) 0 unused_number h.secondary_length holds.1.1.1.0;
+  page = page_kept h.version h.page holds.1.1.1.1.0;
+  ends = ends_kept h.version h.secondary_length h.ends holds.1.1.1.1.1;
+  standard = λ old. (
+    unused_is (has_page h.version) page_numbers standard_page no_number h.page holds.1.1.1.1.0 old,
+    unused_is (has_page h.version) _ None no_number h.ends holds.1.1.1.1.1 old,
+  );
 }
 
 -- ---- what keeps that is a header
@@ -183,16 +223,47 @@ counts_from c h =
 version_from : (v : Version) → (version_of (version_number v) ≡ Ok v) × (version_number v < 2 ^ 16)
 version_from versions.One = (refl, omega arith)
 version_from versions.Two = (refl, omega arith)
+version_from versions.Three = (refl, omega arith)
 
-secondary_from : (v : Version) (n : ℕ) → n ≤ 9999 → (v ≡ versions.One → n ≡ 0) → (secondary_length v).Holds n
-unfolding row_where two_bytes
-secondary_from versions.One n le plain = (plain refl, (refl, omega arith))
-secondary_from versions.Two n le plain = (between 0 9999 n (omega arith) le, omega arith)
+secondary_from : (v : Version) (n : ℕ) → n ≤ 9999 → (has_secondary v ≡ false → n ≡ 0) → (secondary_length v).Holds n
+unfolding two_bytes
+secondary_from v n le plain = either_holds (has_secondary v) (number_where (is_between 0 9999)) 0 unused_number n (between 0 9999 n (omega arith) le, omega arith) (refl, omega arith) plain
+
+page_from : (v : Version) (page : Page) → IsPage page → (has_page v ≡ false → page ≡ standard_page) → (page_format v).Holds page
+unfolding page_numbers no_number row pair two_bytes
+page_from v page h standard =
+    let most = h.longest in let last = h.within in
+    either_holds (has_page v) page_numbers standard_page no_number page
+    ((between 3 112 page.lines h.shortest most, omega arith), (between 1 page.lines page.overflow_line h.first last, omega arith)) tt standard
+
+ends_from : (v : Version) (n : ℕ) (ends : Option InputFile) → (n ≡ 0 → ends ≡ None) → (has_page v ≡ false → ends ≡ None) → (ends_format v n).Holds ends
+unfolding no_number two_bytes
+ends_from v n ends alone old = either_holds (has_page v) (two_bytes (choice (endings n) ending_number) ending_number) None no_number ends (each n ends alone) tt old
+  where
+    any : (ends : Option InputFile) → (choice (None ∷ Some Primary ∷ Some Secondary ∷ []) ending_number (ending_number ends) ≡ Ok ends) × (ending_number ends < 2 ^ 16)
+    any None = (refl, omega arith)
+    any (Some Primary) = (refl, omega arith)
+    any (Some Secondary) = (refl, omega arith)
+
+    each : (n : ℕ) (ends : Option InputFile) → (n ≡ 0 → ends ≡ None) → (two_bytes (choice (endings n) ending_number) ending_number).Holds ends
+    each zero ends alone = rw (alone refl) (refl, omega arith)
+    each (suc n) ends alone = rw (ne_eqb (suc n) 0 (omega arith)) (any ends)
 
 pub header_from : (h : Header) → IsHeader h → header_format.Holds h
 unfolding header_format row pair two_bytes
-header_from h k =
-    (version_from h.version, (settings_from h.settings k.settings, (counts_from h.counts k.counts, secondary_from h.version h.secondary_length k.longest_secondary k.plain)))
+header_from h k = (
+  version_from h.version,
+  (
+    settings_from h.settings k.settings,
+    (
+      counts_from h.counts k.counts,
+      (
+        secondary_from h.version h.secondary_length k.longest_secondary k.plain,
+        (page_from h.version h.page k.page (λ old. (k.standard old).0), ends_from h.version h.secondary_length h.ends k.ends (λ old. (k.standard old).1)),
+      ),
+    ),
+  ),
+)
 
 -- ---- the bytes of a header
 
@@ -202,13 +273,14 @@ header_numbers version overflow h =
     version ∷ h.settings.allowance ∷ h.settings.record_length ∷ h.settings.printer_length ∷ h.settings.disk_length ∷ overflow
     ∷ h.counts.fields ∷ h.counts.types ∷ h.counts.lines ∷ h.counts.detail ∷ h.counts.total ∷ h.counts.subroutines ∷ h.secondary_length ∷ []
 
-secondary_text : (v : Version) (n : ℕ) → (v ≡ versions.One → n ≡ 0) → (secondary_length v).spelling n ≡ two n
+secondary_text : (v : Version) (n : ℕ) → (has_secondary v ≡ false → n ≡ 0) → (secondary_length v).spelling n ≡ two n
 unfolding row_where two_bytes
 secondary_text versions.One n plain = rw (plain refl) refl
 secondary_text versions.Two n plain = refl
+secondary_text versions.Three n plain = refl
 
--- these numbers, two bytes each
-pub header_text : (h : Header) → (h.version ≡ versions.One → h.secondary_length ≡ 0) → (version overflow : ℕ) → version ≡ version_number h.version → overflow ≡ indicator_number h.settings.overflow
-    → header_format.spelling h ≡ spelled_along (λ s n. two n) keep tt (header_numbers version overflow h)
+-- these numbers, two bytes each, and what follows them in version 3
+pub header_text : (h : Header) → (has_secondary h.version ≡ false → h.secondary_length ≡ 0) → (version overflow : ℕ) → version ≡ version_number h.version → overflow ≡ indicator_number h.settings.overflow
+    → header_format.spelling h ≡ spelled_along (λ s n. two n) keep tt (header_numbers version overflow h) ++ page_text h
 unfolding header_format settings counts row pair two_bytes
 header_text h plain version overflow v o = rw (secondary_text h.version h.secondary_length plain, v, o) refl

@@ -1,7 +1,7 @@
 -- The laws of whole object programs.
 use Rattle.std.proofs.Common.{◌≡◌, ℕ, zero, suc, ◌+◌, ◌-◌, ◌≤◌, Bool, true, false, ◌&&◌, List, [], ◌∷◌, ◌++◌, length, drop, Some, Result, Ok, Err, refl, sym, ap, subst, ◌∙◌, append-nil, arith, inl, inr, eqb, eqb-true, length-append, length-drop}
 use Rattle.std.proofs.lemmas.List.{drop-append-le}
-use Rattle.std.specs.Prelude.{◌⊎◌}
+use Rattle.std.specs.Prelude.{◌⊎◌, ◌==◌}
 use Rattle.rpg_object_format.specs.declared.fault.Code.{Code}
 use Rattle.rpg_object_format.specs.declared.fault.Code.TheVariants.{NoObject, CutShort, LeftOver}
 use Rattle.rpg_object_format.specs.declared.fault.Fault.{Fault}
@@ -40,7 +40,7 @@ tables_law v c =
 
 -- a header with these counts
 abbrev with_counts : Header → ℕ → ℕ → ℕ → ℕ → ℕ → ℕ → Header
-with_counts h f t l d n s = record { version = h.version; settings = h.settings; secondary_length = h.secondary_length; counts = record { fields = f; types = t; lines = l; detail = d; total = n; subroutines = s } }
+with_counts h f t l d n s = record h { counts = record { fields = f; types = t; lines = l; detail = d; total = n; subroutines = s } }
 
 counts_are : (h : Header) {f f' t t' l l' d d' n n' s s' : ℕ} → f ≡ f' → t ≡ t' → l ≡ l' → d ≡ d' → n ≡ n' → s ≡ s' → with_counts h f t l d n s ≡ with_counts h f' t' l' d' n' s'
 counts_are h {f} {f'} {t} {t'} {l} {l'} {d} {d'} {n} {n'} {s} {s'} ef et el ed en es =
@@ -89,6 +89,14 @@ ended_ok p (b ∷ rest) q e = absurd cc
 ended_err : (p : Object) (rest : List ℕ) (d : Fault) → wholly_read (p, rest) ≡ Err d → d.left ≤ length rest
 ended_err p [] d e = absurd cc
 ended_err p (b ∷ rest) d e = let k : fault_at (b ∷ rest) LeftOver ≡ d = cc in let l : suc (length rest) ≡ d.left = ap (λ (f : Fault). f.left) k in omega arith
+
+pub ends_whole : (p : Object) (rest : List ℕ) → (length rest == 0) ≡ true → wholly_read (p, rest) ≡ Ok p
+ends_whole p [] e = refl
+ends_whole p (b ∷ rest) e = absurd (omega (arith, eqb-true (length (b ∷ rest)) 0 e))
+
+pub ends_over : (p : Object) (rest : List ℕ) → (length rest == 0) ≡ false → wholly_read (p, rest) ≡ Err (fault_at rest LeftOver)
+ends_over p [] e = absurd cc
+ends_over p (b ∷ rest) e = refl
 
 IsBytes-drop : (n : ℕ) (bytes : List ℕ) → IsBytes bytes → IsBytes (drop n bytes)
 IsBytes-drop zero bytes h = h

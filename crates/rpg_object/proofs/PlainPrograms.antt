@@ -1,9 +1,8 @@
 -- What the format of programs holds is a program in plain words, and back.
-use Rattle.std.proofs.Common.{◌≡◌, ◌-◌, length, arith}
+use Rattle.std.proofs.Common.{◌≡◌, ◌-◌, false, length, arith}
 use Rattle.rpg_object_format.specs.Format.{pair, row, table}
 use Rattle.rpg_program.specs.Kept.{IsInstructionRow, IsLineRow, IsPlain, IsPlainType, IsProgram, IsTypeRow}
-use Rattle.rpg_program.specs.Object.{Object}
-use Rattle.rpg_program.specs.declared.rows.Version.TheVariants as versions
+use Rattle.rpg_program.specs.Object.{Object, has_secondary}
 use Rattle.rpg_object_format.specs.Instructions.{instruction}
 use Rattle.rpg_object_rows.specs.Lines.{line}
 use Rattle.rpg_object_rows.specs.Types.{record_type_format}
@@ -18,7 +17,7 @@ use Rattle.rpg_object_format.proofs.Choices.{all_from_table, table_from_all}
 use Rattle.rpg_object.proofs.ValueLaws.{values_kept, values_from}
 
 -- in version 1 there is neither a secondary file nor a match field
-plain_program : (p : Object) → body.Holds p → p.version ≡ versions.One → IsPlain p
+plain_program : (p : Object) → body.Holds p → has_secondary p.version ≡ false → IsPlain p
 unfolding body tables row pair
 plain_program p h one = record {
   secondary = (header_kept (header_of p) h.0).plain one;
@@ -43,6 +42,8 @@ program_kept p h =
       widest_line = s.widest_line;
       longest_disk_record = s.longest_disk_record;
       overflow = s.overflow;
+      page = head.page;
+      ends = head.ends;
       few_fields = c.few_fields;
       fields = fields_kept (length p.fields) p.fields h.1.0;
       storage = storage_kept (length p.fields) p.fields h.1.0;
@@ -57,6 +58,7 @@ program_kept p h =
       subroutines = subroutines_kept (length p.subroutines) (8192 - length p.detail - length p.total) p.subroutines h.1.1.1.1.1.1.1;
       few_instructions = omega arith;
       plain = plain_program p h;
+      standard = λ old. record { page = (head.standard old).0; ends = (head.standard old).1 };
     }
 
 settings_plain : (p : Object) → IsProgram p → AreSettings (settings_of p)
@@ -88,11 +90,14 @@ header_plain p h = record {
   counts = counts_plain p h;
   longest_secondary = h.longest_secondary;
   plain = λ one. (h.plain one).secondary;
+  page = h.page;
+  ends = h.ends;
+  standard = λ old. ((h.standard old).page, (h.standard old).ends);
 }
 
 types_from : (p : Object) → IsProgram p → (table (length p.types) (record_type_format p.version)).Holds p.types
 types_from p h =
-    table_from_all (record_type_format p.version) (λ t. IsTypeRow t × (p.version ≡ versions.One → IsPlainType t)) (λ t k. type_from p.version t k.0 k.1) p.types
+    table_from_all (record_type_format p.version) (λ t. IsTypeRow t × (has_secondary p.version ≡ false → IsPlainType t)) (λ t k. type_from p.version t k.0 k.1) p.types
     (λ k d lt. (h.types k d lt, λ one. (h.plain one).types k d lt))
 
 pub program_from : (p : Object) → IsProgram p → body.Holds p

@@ -45,7 +45,8 @@ object_of p = record {
   secondary_length = p.0.secondary_length;
   printer_length = p.0.settings.printer_length;
   disk_length = p.0.settings.disk_length;
-  overflow = p.0.settings.overflow;
+  overflow = record { indicator = p.0.settings.overflow; page = p.0.page };
+  ends = p.0.ends;
   fields = p.1.0;
   values = p.1.1.0;
   types = p.1.1.1.0;
@@ -57,7 +58,7 @@ object_of p = record {
 
 -- what the header says about files, allowance and overflow
 abbrev pub settings_of : Object → Settings
-settings_of p = record { allowance = p.allowance; record_length = p.record_length; printer_length = p.printer_length; disk_length = p.disk_length; overflow = p.overflow }
+settings_of p = record { allowance = p.allowance; record_length = p.record_length; printer_length = p.printer_length; disk_length = p.disk_length; overflow = p.overflow.indicator }
 
 -- how many rows each table has
 abbrev pub counts_of : Object → Counts
@@ -65,7 +66,7 @@ counts_of p = record { fields = length p.fields; types = length p.types; lines =
 
 -- the header of an object
 abbrev pub header_of : Object → Header
-header_of p = record { version = p.version; settings = settings_of p; counts = counts_of p; secondary_length = p.secondary_length }
+header_of p = record { version = p.version; settings = settings_of p; counts = counts_of p; secondary_length = p.secondary_length; page = p.overflow.page; ends = p.ends }
 
 -- the tables of an object, in order
 abbrev pub tables_of : Object → Tables

@@ -16,7 +16,7 @@ use rpg_object_format::fault::{Code, ReadFault};
 use rpg_object_format::number::fault_at;
 use rpg_object_rows::{instructions_at, lines_at, record_types_at};
 use rpg_program::Program;
-use rpg_program::rows::Rows;
+use rpg_program::rows::{Overflow, Rows};
 use std::alloc::Global;
 use std::error::Error;
 use std::fmt;
@@ -69,7 +69,11 @@ fn body_at(alloc: Global, bytes: &[u8]) -> Result<(Rows, &[u8]), ReadFault>
             secondary_length: header.secondary_length,
             printer_length: settings.printer_length,
             disk_length: settings.disk_length,
-            overflow: settings.overflow,
+            overflow: Overflow {
+                indicator: settings.overflow,
+                page: header.page,
+            },
+            ends: header.ends,
             fields,
             values,
             types,

@@ -23,7 +23,7 @@ fn settings_of(rows: &Rows) -> Settings
         record_length: rows.record_length,
         printer_length: rows.printer_length,
         disk_length: rows.disk_length,
-        overflow: rows.overflow,
+        overflow: rows.overflow.indicator,
     }
 }
 
@@ -51,6 +51,8 @@ fn put_body(out: &mut Vec<u8>, rows: &Rows) -> Result<(), AllocError>
         settings: settings_of(rows),
         counts: counts_of(rows),
         secondary_length: rows.secondary_length,
+        page: rows.overflow.page,
+        ends: rows.ends,
     };
     put_header(out, header)?;
     put_fields(out, &rows.fields)?;

@@ -1,10 +1,13 @@
 //! The header: the numbers of a program before its tables.
 
-ghost use Rattle.std.specs.Prelude.{◌≡◌, ◌++◌, Result, OnOk};
+ghost use Rattle.std.specs.Prelude.{◌≡◌, ◌++◌, None, OnOk, Result, false};
 ghost use Rattle.rpg_object_format.specs.declared.fault.Code.{Code};
 ghost use Rattle.rpg_object_format.specs.Format.{read_two};
+ghost use Rattle.rpg_object_format.specs.Numbers.{allowed, choice};
 ghost use Rattle.rpg_object_format.specs.Reading.{ReadsAs};
-ghost use Rattle.rpg_program.specs.declared.rows.Version.TheVariants as versions;
+ghost use Rattle.rpg_paper.specs.Paper.{standard_page};
+ghost use Rattle.rpg_program.specs.Object.{has_page, has_secondary};
+ghost use Rattle.rpg_text.specs.Texts.{is_between};
 ghost use Rattle.rpg_object.specs.Header as spec;
 ghost use Rattle.rpg_object.specs.Header.{overflow_of, version_of};
 
@@ -13,13 +16,15 @@ use rpg_object_format::indicator::indicator_number;
 use rpg_object_format::number::{
     count_at, number_at, number_between_at, only_number_at, put_numbers,
 };
+use rpg_paper::Page;
+use rpg_program::input::InputFile;
 use rpg_program::rows::Version;
 use std::alloc::AllocError;
 
 /// The most instructions of a program, in all its sections together.
 pub const INSTRUCTIONS: u16 = 8_192;
 
-/// The settings of a program of either version: its allowance, the lengths of its files, and its overflow indicator.
+/// The settings of a program of each version: its allowance, the lengths of its files, and its overflow indicator.
 #[derive(Clone, Copy)]
 pub struct Settings {
     pub allowance: u16,
@@ -40,7 +45,7 @@ pub struct Counts {
     pub subroutines: u16,
 }
 
-/// The header of an object program, 32 bytes including the name.
+/// The header of an object program, 32 bytes including the name, and 38 in version 3.
 #[derive(Clone, Copy)]
 pub struct Header {
     pub version: Version,
@@ -48,6 +53,9 @@ pub struct Header {
     pub counts: Counts,
     /// 0 if there is no secondary file.
     pub secondary_length: u16,
+    pub page: Page,
+    /// The file that ends the job alone.
+    pub ends: Option<InputFile>,
 }
 
 fn version_of(n: u16) -> Result<Version, Code>
@@ -56,6 +64,7 @@ fn version_of(n: u16) -> Result<Version, Code>
     match n {
         1 => Ok(Version::One),
         2 => Ok(Version::Two),
+        3 => Ok(Version::Three),
         _ => Err(Code::Version),
     }
 }
@@ -71,14 +80,104 @@ fn version_at(bytes: &[u8]) -> Result<(Version, &[u8]), ReadFault>
 fn secondary_length_at(version: Version, bytes: &[u8]) -> Result<(u16, &[u8]), ReadFault>
     ensures { ReadsAs (λ x. (x.0, x.1.now)) result ((spec.secondary_length version).reading bytes.now) }
 {
-    match version {
-        Version::One => {
-            let (_, rest) = only_number_at(bytes, 0, Code::Unused)?;
-            Ok((0, rest))
-        }
-        Version::Two => number_between_at(bytes, 0, 9_999),
+    if version.has_secondary() {
+        return number_between_at(bytes, 0, 9_999);
+    }
+    let (_, rest) = only_number_at(bytes, 0, Code::Unused)?;
+    Ok((0, rest))
+}
+
+// ---- the form and the ending file
+
+fn line_between(first: u8, last: u8, n: u16) -> Result<u8, Code>
+    ensures { result ≡ allowed (is_between first last) n }
+{
+    if u16::from(first) <= n && n <= u16::from(last) {
+        Ok(n as u8)
+    } else {
+        Err(Code::NotAllowed)
     }
 }
+
+/// Reads the number of a line between two.
+#[tactic(auto, unfolding(rpg_object_format::specs::Format::read_two))]
+fn line_at(bytes: &[u8], first: u8, last: u8) -> Result<(u8, &[u8]), ReadFault>
+    ensures { ReadsAs (λ x. (x.0, x.1.now)) result (read_two (allowed (is_between first last)) bytes.now) }
+{
+    number_at(bytes, |n| line_between(first, last, n))
+}
+
+#[tactic(auto, unfolding(rpg_object_format::specs::Format::two_bytes, rpg_object_format::specs::Format::pair, rpg_object_format::specs::Format::row, rpg_object_format::specs::Shapes::row_where, rpg_object_format::specs::Shapes::no_number, crate::specs::Header::page_numbers))]
+fn page_at(version: Version, bytes: &[u8]) -> Result<(Page, &[u8]), ReadFault>
+    ensures { ReadsAs (λ x. (x.0, x.1.now)) result ((spec.page_format version).reading bytes.now) }
+{
+    if !version.has_page() {
+        return Ok((Page::standard(), bytes));
+    }
+    let (lines, rest) = line_at(bytes, 3, 112)?;
+    let (overflow_line, rest) = line_at(rest, 1, lines)?;
+    Ok((
+        Page {
+            lines,
+            overflow_line,
+        },
+        rest,
+    ))
+}
+
+fn ending_of(secondary_length: u16, n: u16) -> Result<Option<InputFile>, Code>
+    ensures { result ≡ choice (spec.endings secondary_length) spec.ending_number n }
+{
+    match n {
+        0 => Ok(None),
+        1 if secondary_length != 0 => Ok(Some(InputFile::Primary)),
+        2 if secondary_length != 0 => Ok(Some(InputFile::Secondary)),
+        _ => Err(Code::NotAllowed),
+    }
+}
+
+fn ending_number(ends: Option<InputFile>) -> u16
+    ensures { result ≡ spec.ending_number ends }
+{
+    match ends {
+        None => 0,
+        Some(InputFile::Primary) => 1,
+        Some(InputFile::Secondary) => 2,
+    }
+}
+
+#[tactic(auto, unfolding(rpg_object_format::specs::Format::read_two, rpg_object_format::specs::Format::two_bytes, rpg_object_format::specs::Shapes::row_where, rpg_object_format::specs::Shapes::no_number))]
+fn ends_at(
+    version: Version,
+    secondary_length: u16,
+    bytes: &[u8],
+) -> Result<(Option<InputFile>, &[u8]), ReadFault>
+    ensures { ReadsAs (λ x. (x.0, x.1.now)) result ((spec.ends_format version secondary_length).reading bytes.now) }
+{
+    if version.has_page() {
+        number_at(bytes, |n| ending_of(secondary_length, n))
+    } else {
+        Ok((None, bytes))
+    }
+}
+
+/// Writes the page and the ending file, in a version that has them.
+#[tactic(auto, unfolding(rpg_object_format::specs::Format::two_bytes, rpg_object_format::specs::Format::pair, rpg_object_format::specs::Format::row, rpg_object_format::specs::Shapes::row_where, rpg_object_format::specs::Shapes::no_number, crate::specs::Header::page_numbers))]
+fn put_page(out: &mut Vec<u8>, header: Header) -> Result<(), AllocError>
+    ensures { OnOk result (out.new.items ≡ out.old.items ++ spec.page_text header) }
+{
+    if !header.version.has_page() {
+        return Ok(());
+    }
+    let numbers = [
+        u16::from(header.page.lines),
+        u16::from(header.page.overflow_line),
+        ending_number(header.ends),
+    ];
+    put_numbers(out, &numbers)
+}
+
+// ---- settings and counts
 
 fn overflow_of(n: u16) -> Result<Option<u8>, Code>
     ensures { result ≡ overflow_of n }
@@ -150,12 +249,16 @@ pub fn header_at(bytes: &[u8]) -> Result<(Header, &[u8]), ReadFault>
     let (settings, rest) = settings_at(rest)?;
     let (counts, rest) = counts_at(rest)?;
     let (secondary_length, rest) = secondary_length_at(version, rest)?;
+    let (page, rest) = page_at(version, rest)?;
+    let (ends, rest) = ends_at(version, secondary_length, rest)?;
     Ok((
         Header {
             version,
             settings,
             counts,
             secondary_length,
+            page,
+            ends,
         },
         rest,
     ))
@@ -163,7 +266,7 @@ pub fn header_at(bytes: &[u8]) -> Result<(Header, &[u8]), ReadFault>
 
 /// Writes the header after the name.
 pub fn put_header(out: &mut Vec<u8>, header: Header) -> Result<(), AllocError>
-    requires { header.version ≡ versions.One → header.secondary_length ≡ 0 }
+    requires { has_secondary header.version ≡ false → header.secondary_length ≡ 0 }
     ensures { OnOk result (out.new.items ≡ out.old.items ++ spec.header_format.spelling header) }
 {
     let settings = header.settings;
@@ -183,5 +286,7 @@ pub fn put_header(out: &mut Vec<u8>, header: Header) -> Result<(), AllocError>
         counts.subroutines,
         header.secondary_length,
     ];
-    put_numbers(out, &numbers)
+    put_numbers(out, &numbers)?;
+    put_page(out, header)?;
+    Ok(())
 }

@@ -99,6 +99,23 @@ unfolding row_where
 cleared true f nothing zeros x h = refl
 cleared false f nothing zeros x h = sym h.0
 
+-- what isn't used is the value for it
+pub unused_is : {X : Type 0} (is_used : Bool) (f : Format X) (nothing : X) (zeros : Format (Unit {0})) (x : X) → (where_used is_used f nothing zeros).Holds x → is_used ≡ false → x ≡ nothing
+unfolding row_where
+unused_is true f nothing zeros x h e = absurd cc
+unused_is false f nothing zeros x h e = h.0
+
+-- what holds of each value that the format holds and of the value for an unused one
+pub either_keeps : {X : Type 0} (P : X → Type 0) (is_used : Bool) (f : Format X) (nothing : X) (zeros : Format (Unit {0})) → ((x : X) → f.Holds x → P x) → P nothing → (x : X) → (where_used is_used f nothing zeros).Holds x → P x
+unfolding row_where
+either_keeps P true f nothing zeros each none x h = each x h
+either_keeps P false f nothing zeros each none x h = subst P (sym h.0) none
+
+pub either_holds : {X : Type 0} (is_used : Bool) (f : Format X) (nothing : X) (zeros : Format (Unit {0})) (x : X) → f.Holds x → zeros.Holds tt → (is_used ≡ false → x ≡ nothing) → (where_used is_used f nothing zeros).Holds x
+unfolding row_where
+either_holds true f nothing zeros x used unused plain = used
+either_holds false f nothing zeros x used unused plain = (plain refl, unused)
+
 counted_there : {X : Type 0} (limit : ℕ) (f : Format X) (a : ℕ × List X) → (pair (count limit) (λ n. table n f)).Holds a → (length a.1, a.1) ≡ a
 unfolding pair times_with
 counted_there {X} limit f a h = ap (λ (k : ℕ). with_count k a.1) h.1.0

@@ -1,10 +1,10 @@
 -- The bytes of record types and lines: their numbers, then their tables.
-use Rattle.std.proofs.Common.{◌≡◌, ℕ, List, ◌++◌, map, refl, sym, ap, ◌∙◌, append_assoc}
+use Rattle.std.proofs.Common.{◌≡◌, ℕ, false, List, ◌++◌, map, refl, sym, ap, ◌∙◌, append_assoc}
 use Rattle.std.proofs.lemmas.List.{map-id}
 use Rattle.rpg_program.specs.Input.{TypeRow}
 use Rattle.rpg_object_format.specs.Format.{byte, keep, pair, row, spelled_along, times_with, two_bytes}
 use Rattle.rpg_program.specs.Kept.{IsPlainType}
-use Rattle.rpg_program.specs.Object.{LineRow}
+use Rattle.rpg_program.specs.Object.{LineRow, has_secondary}
 use Rattle.rpg_program.specs.declared.rows.Version.{Version}
 use Rattle.rpg_program.specs.declared.rows.Version.TheVariants as versions
 use Rattle.rpg_object_format.specs.Indicators.{alternative}
@@ -24,12 +24,13 @@ as_they_are spell xs old new e = e ∙ ap (λ (ys : List _). old ++ texts spell 
 abbrev tables_text : TypeRow ℕ → List ℕ
 tables_text t = texts record_code_format.spelling t.codes ++ (texts control_field_format.spelling t.levels ++ (texts input_field_format.spelling t.inputs ++ texts control_field_format.spelling t.matches))
 
-type_text : (v : Version) (t : TypeRow ℕ) → (v ≡ versions.One → IsPlainType t) → (record_type_format v).spelling t ≡ type_head v t ++ tables_text t
+type_text : (v : Version) (t : TypeRow ℕ) → (has_secondary v ≡ false → IsPlainType t) → (record_type_format v).spelling t ≡ type_head v t ++ tables_text t
 unfolding record_type_format type_parts byte two_bytes pair row row_where no_number times_with
 type_text versions.One t plain = rw (plain refl).file refl
 type_text versions.Two t plain = refl
+type_text versions.Three t plain = refl
 
-pub type_written : (v : Version) (t : TypeRow ℕ) → (v ≡ versions.One → IsPlainType t) → (old o1 o2 o3 o4 new : List ℕ) → o1 ≡ old ++ type_head v t → o2 ≡ o1 ++ texts record_code_format.spelling t.codes
+pub type_written : (v : Version) (t : TypeRow ℕ) → (has_secondary v ≡ false → IsPlainType t) → (old o1 o2 o3 o4 new : List ℕ) → o1 ≡ old ++ type_head v t → o2 ≡ o1 ++ texts record_code_format.spelling t.codes
     → o3 ≡ o2 ++ texts control_field_format.spelling t.levels → o4 ≡ o3 ++ texts input_field_format.spelling t.inputs → new ≡ o4 ++ texts control_field_format.spelling t.matches → new ≡ old ++ (record_type_format v).spelling t
 type_written v t plain old o1 o2 o3 o4 new a b c d e =
     e ∙ ap (λ (x : List ℕ). x ++ texts control_field_format.spelling t.matches) (d ∙ ap (λ (x : List ℕ). x ++ texts input_field_format.spelling t.inputs) (c ∙ ap (λ (x : List ℕ). x ++ texts control_field_format.spelling t.levels) (b ∙ ap (λ (x : List ℕ). x ++ texts record_code_format.spelling t.codes) a)))

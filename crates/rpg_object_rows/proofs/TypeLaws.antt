@@ -1,5 +1,5 @@
 -- The law of record types, and what they keep in plain words, and back.
-use Rattle.std.proofs.Common.{◌≡◌, ℕ, ◌<◌, ◌≤◌, ◌^◌, List, [], ◌∷◌, length, Ok, refl, ap, ◌∙◌, arith}
+use Rattle.std.proofs.Common.{◌≡◌, ℕ, ◌<◌, ◌≤◌, ◌^◌, false, List, [], ◌∷◌, length, Ok, refl, ap, ◌∙◌, arith}
 use Rattle.rpg_program.specs.Input.{TypeRow}
 use Rattle.rpg_program.specs.declared.input.ControlField.{ControlField}
 use Rattle.rpg_program.specs.declared.input.InputField.{InputField}
@@ -7,18 +7,19 @@ use Rattle.rpg_program.specs.declared.input.InputFile.{InputFile}
 use Rattle.rpg_program.specs.declared.input.InputFile.TheVariants.{Primary, Secondary}
 use Rattle.rpg_program.specs.declared.input.RecordCode.{RecordCode}
 use Rattle.rpg_object_format.specs.Format.{byte, pair, row, times_with, two_bytes}
+use Rattle.rpg_object_format.specs.Numbers.{count}
 use Rattle.rpg_object_format.proofs.Laws.{IsFormat, pair_law, row_law, table_law}
 use Rattle.rpg_object_format.proofs.Rules.{any_number_law, byte_where_law, count_law, one_of_law, yes_or_no_law}
 use Rattle.rpg_program.specs.Kept.{IsCodeRow, IsControlRow, IsInputRow, IsPlainType, IsTypeRow}
+use Rattle.rpg_program.specs.Object.{has_secondary}
 use Rattle.rpg_program.specs.declared.rows.Version.{Version}
-use Rattle.rpg_program.specs.declared.rows.Version.TheVariants as versions
 use Rattle.rpg_text.specs.Texts.{is_between}
-use Rattle.rpg_object_rows.specs.Types.{TypeParts, control_field_format, input_field_format, input_file_format, input_file_by_number, input_file_number, is_two, match_count, record_code_format, record_type_format, type_parts}
+use Rattle.rpg_object_rows.specs.Types.{TypeParts, control_field_format, input_field_format, input_file_format, input_file_by_number, input_file_number, match_count, record_code_format, record_type_format, type_parts}
 use Rattle.rpg_object_format.proofs.Choices.{all_from_table, between, counted, few, flag_from, table_from_all, within}
 use Rattle.rpg_object_format.proofs.IndicatorLaws.{indicator_law, shows_law}
 use Rattle.rpg_object_format.proofs.IndicatorsKept.{indicator_from, indicator_kept, shows_from, shows_kept}
-use Rattle.rpg_object_format.specs.Shapes.{no_number, row_where, unused_byte}
-use Rattle.rpg_object_format.proofs.ShapeLaws.{no_number_law, unused_byte_law, where_used_law}
+use Rattle.rpg_object_format.specs.Shapes.{no_number, unused_byte}
+use Rattle.rpg_object_format.proofs.ShapeLaws.{either_holds, either_keeps, no_number_law, unused_byte_law, unused_is, where_used_law}
 
 record_code_law : IsFormat record_code_format
 unfolding record_code_format
@@ -37,10 +38,10 @@ input_field_law =
     (pair_law _ _ any_number_law (λ from. pair_law _ _ any_number_law (λ to. pair_law _ _ any_number_law (λ field. pair_law _ _ shows_law (λ s. unused_byte_law)))))
 
 input_file_law : (v : Version) → IsFormat (input_file_format v)
-input_file_law v = where_used_law (is_two v) _ Primary unused_byte (one_of_law (Primary ∷ Secondary ∷ []) input_file_number) unused_byte_law
+input_file_law v = where_used_law (has_secondary v) _ Primary unused_byte (one_of_law (Primary ∷ Secondary ∷ []) input_file_number) unused_byte_law
 
 match_count_law : (v : Version) → IsFormat (match_count v)
-match_count_law v = where_used_law (is_two v) _ 0 no_number (count_law 9) no_number_law
+match_count_law v = where_used_law (has_secondary v) _ 0 no_number (count_law 9) no_number_law
 
 type_parts_law : (v : Version) → IsFormat (type_parts v)
 unfolding type_parts
@@ -96,38 +97,19 @@ input_from : (f : InputField ℕ) → IsInputRow f → input_field_format.Holds 
 unfolding input_field_format pair row byte two_bytes
 input_from f h = ((refl, h.from), ((refl, h.to), ((refl, h.field), (shows_from f.shows h.shows, (refl, omega arith)))))
 
--- ---- what version 1 doesn't have
+-- ---- what a version without a secondary file doesn't have
 
 file_from : (f : InputFile) → (input_file_by_number (input_file_number f) ≡ Ok f) × (input_file_number f < 2 ^ 8)
 file_from Primary = (refl, omega arith)
 file_from Secondary = (refl, omega arith)
 
--- in version 1 the file is the primary
-primary_kept : (v : Version) (f : InputFile) → (input_file_format v).Holds f → v ≡ versions.One → f ≡ Primary
-unfolding row_where
-primary_kept versions.One f h one = h.0
-primary_kept versions.Two f h one = absurd cc
-
-input_file_from : (v : Version) (f : InputFile) → (v ≡ versions.One → f ≡ Primary) → (input_file_format v).Holds f
-unfolding row_where byte
-input_file_from versions.One f plain = (plain refl, (refl, omega arith))
-input_file_from versions.Two f plain = file_from f
-
 few_matches : (v : Version) (n : ℕ) → (match_count v).Holds n → n ≤ 9
-unfolding row_where two_bytes
-few_matches versions.One n h = omega (arith, h.0)
-few_matches versions.Two n h = counted 9 n h.0
+unfolding two_bytes
+few_matches v = either_keeps (λ n. n ≤ 9) (has_secondary v) (count 9) 0 no_number (λ n h. counted 9 n h.0) (omega arith)
 
--- in version 1 there are no match fields
-no_matches : (v : Version) (n : ℕ) → (match_count v).Holds n → v ≡ versions.One → n ≡ 0
-unfolding row_where
-no_matches versions.One n h one = h.0
-no_matches versions.Two n h one = absurd cc
-
-match_count_from : (v : Version) (n : ℕ) → n ≤ 9 → (v ≡ versions.One → n ≡ 0) → (match_count v).Holds n
-unfolding row_where no_number two_bytes
-match_count_from versions.One n le plain = (plain refl, tt)
-match_count_from versions.Two n le plain = (few 9 n le, omega arith)
+match_count_from : (v : Version) (n : ℕ) → n ≤ 9 → (has_secondary v ≡ false → n ≡ 0) → (match_count v).Holds n
+unfolding no_number two_bytes
+match_count_from v n le plain = either_holds (has_secondary v) (count 9) 0 no_number n (few 9 n le, omega arith) tt plain
 
 none_left : {X : Type 0} (xs : List X) → length xs ≡ 0 → xs ≡ []
 none_left [] e = refl
@@ -149,14 +131,14 @@ type_kept v t h = record {
   matches = all_from_table control_field_format IsControlRow control_kept (length t.matches) t.matches h.1.1.1.1.1.1.1.1.1;
 }
 
-pub plain_kept : (v : Version) (t : TypeRow ℕ) → (record_type_format v).Holds t → v ≡ versions.One → IsPlainType t
+pub plain_kept : (v : Version) (t : TypeRow ℕ) → (record_type_format v).Holds t → has_secondary v ≡ false → IsPlainType t
 unfolding record_type_format type_parts pair row
-plain_kept v t h one = record {
-  file = primary_kept v t.file h.1.0 one;
-  matches = none_left t.matches (no_matches v (length t.matches) h.1.1.1.1.1.0 one);
+plain_kept v t h first = record {
+  file = unused_is (has_secondary v) (byte input_file_by_number input_file_number) Primary unused_byte t.file h.1.0 first;
+  matches = none_left t.matches (unused_is (has_secondary v) (count 9) 0 no_number (length t.matches) h.1.1.1.1.1.0 first);
 }
 
-pub type_from : (v : Version) (t : TypeRow ℕ) → IsTypeRow t → (v ≡ versions.One → IsPlainType t) → (record_type_format v).Holds t
+pub type_from : (v : Version) (t : TypeRow ℕ) → IsTypeRow t → (has_secondary v ≡ false → IsPlainType t) → (record_type_format v).Holds t
 unfolding record_type_format type_parts pair row byte two_bytes
 type_from v t h plain =
     let codes = h.few_codes in
@@ -164,7 +146,7 @@ type_from v t h plain =
     let inputs = h.few_inputs in (
       indicator_from t.indicator h.indicator,
       (
-        input_file_from v t.file (λ one. (plain one).file),
+        either_holds (has_secondary v) (byte input_file_by_number input_file_number) Primary unused_byte t.file (file_from t.file) (refl, omega arith) (λ first. (plain first).file),
         (
           (few 100 (length t.codes) codes, omega arith),
           (
@@ -172,7 +154,7 @@ type_from v t h plain =
             (
               (few 500 (length t.inputs) inputs, omega arith),
               (
-                match_count_from v (length t.matches) h.few_matches (λ one. ap length (plain one).matches),
+                match_count_from v (length t.matches) h.few_matches (λ first. ap length (plain first).matches),
                 (
                   table_from_all record_code_format IsCodeRow code_from t.codes h.codes,
                   (

@@ -1,5 +1,5 @@
 -- Record types.
-use Rattle.std.specs.Prelude.{ℕ, ◌/◌, ◌%◌, List, [], ◌∷◌, ◌++◌, length, Bool, true, false, Option, Result}
+use Rattle.std.specs.Prelude.{ℕ, ◌/◌, ◌%◌, List, [], ◌∷◌, ◌++◌, length, Option, Result}
 use Rattle.rpg_program.specs.Input.{TypeRow}
 use Rattle.rpg_program.specs.declared.input.ControlField.{ControlField}
 use Rattle.rpg_program.specs.declared.input.InputField.{InputField}
@@ -9,18 +9,13 @@ use Rattle.rpg_program.specs.declared.input.RecordCode.{RecordCode}
 use Rattle.rpg_object_format.specs.declared.fault.Code.{Code}
 use Rattle.rpg_object_format.specs.Format.{Format, byte, pair, row, table}
 use Rattle.rpg_object_format.specs.Numbers.{any_number, byte_where, choice, yes_or_no, count}
+use Rattle.rpg_program.specs.Object.{has_secondary}
 use Rattle.rpg_program.specs.declared.rows.Version.{Version}
-use Rattle.rpg_program.specs.declared.rows.Version.TheVariants as versions
 use Rattle.rpg_text.specs.Texts.{is_between}
 use Rattle.rpg_object_format.specs.Indicators.{indicator_format, indicator_number, shows_format}
 use Rattle.rpg_object_format.specs.Shapes.{no_number, unused_byte, where_used}
 
--- ---- additions of version 2
-
--- version 2
-abbrev pub is_two : Version → Bool
-is_two versions.One = false
-is_two versions.Two = true
+-- ---- additions of version 2, which version 3 has too
 
 -- the number of an input file
 abbrev pub input_file_number : InputFile → ℕ
@@ -33,11 +28,11 @@ input_file_by_number = choice (Primary ∷ Secondary ∷ []) input_file_number
 
 -- the file of a type; in version 1 the primary, written as 0
 abbrev pub input_file_format : Version → Format InputFile
-input_file_format v = where_used (is_two v) (byte input_file_by_number input_file_number) Primary unused_byte
+input_file_format v = where_used (has_secondary v) (byte input_file_by_number input_file_number) Primary unused_byte
 
 -- in version 1 there are none, and no byte is written
 abbrev pub match_count : Version → Format ℕ
-match_count v = where_used (is_two v) (count 9) 0 no_number
+match_count v = where_used (has_secondary v) (count 9) 0 no_number
 
 -- ---- rows
 

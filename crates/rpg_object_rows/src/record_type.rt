@@ -1,14 +1,13 @@
 //! Record types, with their codes, control fields and input fields.
 
-ghost use Rattle.std.specs.Prelude.{◌≡◌, ℕ, ◌++◌, All, length, map, OnOk};
+ghost use Rattle.std.specs.Prelude.{◌≡◌, ℕ, ◌++◌, All, false, length, map, OnOk};
 ghost use Rattle.rpg_program.specs.declared.input.ControlField as control;
 ghost use Rattle.rpg_program.specs.declared.input.InputField as input;
 ghost use Rattle.rpg_program.specs.declared.input.RecordCode as code;
 ghost use Rattle.rpg_object_format.specs.Format.{table};
 ghost use Rattle.rpg_object_format.specs.Reading.{ReadsAs};
 ghost use Rattle.rpg_program.specs.Kept.{IsCodeRow, IsControlRow, IsInputRow, IsPlainType, IsTypeRow};
-ghost use Rattle.rpg_program.specs.Object.{type_row};
-ghost use Rattle.rpg_program.specs.declared.rows.Version.TheVariants as versions;
+ghost use Rattle.rpg_program.specs.Object.{has_secondary, type_row};
 ghost use Rattle.rpg_object_rows.specs.Types as rows;
 ghost use Rattle.rpg_object_rows.specs.Types.{control_field_format, input_field_format, record_code_format};
 
@@ -194,22 +193,21 @@ fn input_file_number(file: InputFile) -> u8
 fn input_file_at(version: Version, bytes: &[u8]) -> Result<(InputFile, &[u8]), ReadFault>
     ensures { ReadsAs (λ x. (x.0, x.1.now)) result ((rows.input_file_format version).reading bytes.now) }
 {
-    match version {
-        Version::One => {
-            let (_, rest) = only_byte_at(bytes, 0, Code::Unused)?;
-            Ok((InputFile::Primary, rest))
-        }
-        Version::Two => byte_at(bytes, input_file_of),
+    if version.has_secondary() {
+        return byte_at(bytes, input_file_of);
     }
+    let (_, rest) = only_byte_at(bytes, 0, Code::Unused)?;
+    Ok((InputFile::Primary, rest))
 }
 
 #[tactic(auto, unfolding(rpg_object_format::specs::Format::two_bytes, rpg_object_format::specs::Shapes::row_where, rpg_object_format::specs::Shapes::no_number))]
 fn match_count_at(version: Version, bytes: &[u8]) -> Result<(u16, &[u8]), ReadFault>
     ensures { ReadsAs (λ x. (x.0, x.1.now)) result ((rows.match_count version).reading bytes.now) }
 {
-    match version {
-        Version::One => Ok((0, bytes)),
-        Version::Two => count_at(bytes, 9),
+    if version.has_secondary() {
+        count_at(bytes, 9)
+    } else {
+        Ok((0, bytes))
     }
 }
 
@@ -217,9 +215,10 @@ fn match_count_at(version: Version, bytes: &[u8]) -> Result<(u16, &[u8]), ReadFa
 fn put_match_count(out: &mut Vec<u8>, version: Version, count: u16) -> Result<(), AllocError>
     ensures { OnOk result (out.new.items ≡ out.old.items ++ (rows.match_count version).spelling count) }
 {
-    match version {
-        Version::One => Ok(()),
-        Version::Two => put_numbers(out, &[count]),
+    if version.has_secondary() {
+        put_numbers(out, &[count])
+    } else {
+        Ok(())
     }
 }
 
@@ -288,7 +287,7 @@ pub fn put_record_type(
     record_type: &RecordType,
 ) -> Result<(), AllocError>
     requires row { IsTypeRow (type_row record_type.now) }
-    requires plain { version ≡ versions.One → IsPlainType (type_row record_type.now) }
+    requires plain { has_secondary version ≡ false → IsPlainType (type_row record_type.now) }
     ensures { OnOk result (out.new.items ≡ out.old.items ++ (rows.record_type_format version).spelling (type_row record_type.now)) }
 {
     put_type_head(out, version, record_type)?;
@@ -325,7 +324,7 @@ pub fn put_record_types(
     types: &[RecordType],
 ) -> Result<(), AllocError>
     requires rows { All IsTypeRow (map type_row types.now) }
-    requires plain { version ≡ versions.One → All IsPlainType (map type_row types.now) }
+    requires plain { has_secondary version ≡ false → All IsPlainType (map type_row types.now) }
     ensures { OnOk result (out.new.items ≡ out.old.items ++ (table (length types.now) (rows.record_type_format version)).spelling (map type_row types.now)) }
 {
     for record_type in types {

@@ -25,7 +25,7 @@ use Rattle.rpg_verify_rules.specs.declared.rule.Rule.TheVariants as rules
 
 overflow_has : (p : Object) (row : ℕ) → unwrap_or (slice_get (lacks_printer p ∷ []) row) false ≡ true → is_some (cause_in p rules.Overflow row) ≡ true
 unfolding cause_in
-overflow_has p zero h = some_mapped causes.Overflow p.overflow (and_parts _ _ h).0
+overflow_has p zero h = some_mapped causes.Overflow p.overflow.indicator (and_parts _ _ h).0
 overflow_has p (suc k) h = absurd (false≢true h)
 
 -- what is found in a row that breaks a rule

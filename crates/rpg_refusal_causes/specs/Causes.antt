@@ -22,7 +22,7 @@ row_breaks p r row = unwrap_or (slice_get (broken p r) row) false
 
 -- what in a row that breaks a rule breaks it
 unfoldable pub cause_in : Object → Rule → ℕ → Option RefusalCause
-cause_in p rules.Overflow row = option_map causes.Overflow p.overflow
+cause_in p rules.Overflow row = option_map causes.Overflow p.overflow.indicator
 cause_in p (rules.Type r) row = cause_of_row (type_cause r p) (slice_get p.types row)
 cause_in p (rules.Line r) row = cause_of_row (line_cause r p) (slice_get p.lines row)
 cause_in p (rules.Place r) row = cause_of_row (place_cause r p) (placed_instruction p row)

@@ -23,7 +23,7 @@ fn cause_in(rows: &Rows, broken: BrokenRule) -> Option<RefusalCause>
 {
     match broken.rule {
         Rule::Overflow => Some(RefusalCause::Overflow {
-            indicator: rows.overflow?,
+            indicator: rows.overflow.indicator?,
         }),
         Rule::Type(rule) => type_cause(rule, rows, broken.row),
         Rule::Line(rule) => line_cause(rule, rows, broken.row),

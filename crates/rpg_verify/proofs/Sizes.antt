@@ -175,7 +175,7 @@ most_few p h =
 -- ---- all
 
 pub output_few : (p : Object) → IsProgram p → all_outputs_weight p ≤ 402000
-output_few p h = by_test (is_some p.overflow) (others_few p h)
+output_few p h = by_test (is_some p.overflow.indicator) (others_few p h)
   where
     by_test : (b : Bool) → overflow_weight (lines_of p) ≤ 201000 → cond b (overflow_weight (lines_of p) + overflow_weight (lines_of p)) (overflow_weight (lines_of p)) ≤ 402000
     by_test true l = omega (arith, l)

@@ -82,7 +82,7 @@ fn first_row(rule: Rule, rows: &Rows) -> Option<usize>
 fn first_overflow(rows: &Rows) -> Option<usize>
     ensures { result ≡ first_true 0 (rules.broken (seen rows.now) Rule.Overflow) }
 {
-    if rows.overflow.is_some() && rows.printer_length == 0 {
+    if rows.overflow.indicator.is_some() && rows.printer_length == 0 {
         Some(0)
     } else {
         None

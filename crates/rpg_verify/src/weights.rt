@@ -106,7 +106,7 @@ pub(crate) fn output_weight(rows: &Rows, lines: LineWeights) -> u64
     requires few { lines.others ≤ 201000 }
     ensures { result ≡ weighing.all_outputs_weight (seen rows.now) }
 {
-    match rows.overflow {
+    match rows.overflow.indicator {
         None => lines.others,
         Some(_) => lines.others + lines.others,
     }

@@ -145,21 +145,21 @@ ends_by p h n None e l = absurd (missing p.subroutines n e l)
 zero_low : (n m : ℕ) → (n == 0) ≡ true → nat_le n m ≡ true
 zero_low n m h = let e = eqb-true n 0 h in le-leb n m (omega (arith, e))
 
-unspaced_low : (s : Spacing) → is_unspaced s ≡ true → is_spacing s ≡ true
-unspaced_low s h =
+unspaced_low : (lines : ℕ) (s : Spacing) → is_unspaced s ≡ true → is_spacing lines s ≡ true
+unspaced_low lines s h =
     let halves = and_parts _ _ h in
     let spaces = and_parts (s.space_before == 0) _ halves.0 in
     let skips = and_parts (s.skip_before == 0) _ halves.1 in
     and_from _ _ (and_from _ _ (zero_low s.space_before 3 spaces.0) (zero_low s.space_after 3 spaces.1))
-    (and_from _ _ (zero_low s.skip_before 66 skips.0) (zero_low s.skip_after 66 skips.1))
+    (and_from _ _ (zero_low s.skip_before lines skips.0) (zero_low s.skip_after lines skips.1))
 
-spaced_low : (f : File) (s : Spacing) → is_spaced_on f s ≡ true → is_spacing s ≡ true
-spaced_low Printer s h = h
-spaced_low Disk s h = unspaced_low s h
+spaced_low : (lines : ℕ) (f : File) (s : Spacing) → is_spaced_on lines f s ≡ true → is_spacing lines s ≡ true
+spaced_low lines Printer s h = h
+spaced_low lines Disk s h = unspaced_low lines s h
 
-no_line_fault : (len : ℕ) (s : Spacing) → (len == 0) ≡ false → is_spacing s ≡ true → line_fault len s ≡ None
+no_line_fault : (lines len : ℕ) (s : Spacing) → (len == 0) ≡ false → is_spacing lines s ≡ true → line_fault lines len s ≡ None
 unfolding line_fault
-no_line_fault len s h g = by_test _ (and_from (nat_le 1 len) (is_spacing s) (le-leb 1 len (there len h)) g)
+no_line_fault lines len s h g = by_test _ (and_from (nat_le 1 len) (is_spacing lines s) (le-leb 1 len (there len h)) g)
   where
     there : (n : ℕ) → (n == 0) ≡ false → 1 ≤ n
     there zero e = cc
@@ -203,8 +203,9 @@ line_sound : (p : Object) (l : LineRow) → ((r : LineRule) → line_breaks r p 
 unfolding line_breaks
 line_sound p l g =
     let spaced = not-false _ (g V8) in
+    let lines = p.overflow.page.lines in
     record {
-      line = no_line_fault (file_length p l.file) l.spacing (g V2) (spaced_low l.file l.spacing spaced);
+      line = no_line_fault lines (file_length p l.file) l.spacing (g V2) (spaced_low lines l.file l.spacing spaced);
       spacing = spaced;
       fields = all_by (λ f. field_fault (form_at p.fields) (word_at p) (file_length p l.file) f ≡ None) l.fields (λ k f e. field_sound p (file_length p l.file) f
           (all_at (is_field_there p) l.fields (not-false _ (g V10)) k f e)

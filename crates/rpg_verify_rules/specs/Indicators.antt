@@ -1,10 +1,10 @@
 -- Which indicators are allowed where: 1 to 99, L0 (100), L1 to LR (101 to 110), 1P (111), overflow (112 to 119), H1 to H9 (120 to 128), MR (129).
-use Rattle.std.specs.Prelude.{ℕ, Bool, true, ◌&&◌, ◌||◌, nat_le, Option, None, Some, is_some}
+use Rattle.std.specs.Prelude.{ℕ, Bool, true, ◌&&◌, ◌||◌, nat_le, Option, None, Some, is_some, if◌then◌else◌}
 use Rattle.rpg_program.specs.declared.condition.Condition.{Condition}
 use Rattle.rpg_program.specs.declared.condition.Conditions.{Conditions}
 use Rattle.rpg_program.specs.declared.operation.Shows.{Shows}
+use Rattle.rpg_program.specs.Object.{has_secondary}
 use Rattle.rpg_program.specs.declared.rows.Version.{Version}
-use Rattle.rpg_program.specs.declared.rows.Version.TheVariants.{One, Two}
 use Rattle.rpg_text.specs.Texts.{is_between}
 
 -- all but L0, 1P and MR
@@ -28,10 +28,9 @@ are_settable s = if_any is_settable s.plus && (if_any is_settable s.minus && if_
 abbrev pub has_shows : Shows → Bool
 has_shows s = is_some s.plus || (is_some s.minus || is_some s.zero)
 
--- conditions may name MR only in version 2
+-- conditions may name MR only where there can be a secondary file
 abbrev pub highest_testable : Version → ℕ
-highest_testable One = 128
-highest_testable Two = 129
+highest_testable v = if has_secondary v then 129 else 128
 
 -- the condition is on an indicator that the version has
 abbrev pub is_testable : Version → Condition → Bool

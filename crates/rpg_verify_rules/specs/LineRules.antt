@@ -29,10 +29,10 @@ output_form_of p f = form_at p.fields f.operand.field
 abbrev pub is_unspaced : Spacing → Bool
 is_unspaced s = (s.space_before == 0 && s.space_after == 0) && (s.skip_before == 0 && s.skip_after == 0)
 
--- the printer's form moves; a disk record allows no movement
-abbrev pub is_spaced_on : File → Spacing → Bool
-is_spaced_on Printer s = is_spacing s
-is_spaced_on Disk s = is_unspaced s
+-- the printer's form moves on pages of that many lines; a disk record allows no movement
+abbrev pub is_spaced_on : ℕ → File → Spacing → Bool
+is_spaced_on lines Printer s = is_spacing lines s
+is_spaced_on lines Disk s = is_unspaced s
 
 -- a single entry that exists; PAGE is a plain number of 4 digits without decimals
 abbrev pub is_field_there : Object → LineField ℕ → Bool
@@ -118,7 +118,7 @@ field_breaks V15 p len f = has_untestable_condition p len f
 -- the line breaks the rule
 unfoldable pub line_breaks : LineRule → Object → LineRow → Bool
 line_breaks V2 p l = file_length p l.file == 0
-line_breaks V8 p l = not (is_spaced_on l.file l.spacing)
+line_breaks V8 p l = not (is_spaced_on p.overflow.page.lines l.file l.spacing)
 line_breaks V9 p l = not (list_all (list_all (is_testable p.version)) l.alternatives)
 line_breaks V10 p l = not (list_all (is_field_there p) l.fields)
 line_breaks V11 p l = list_any (lacks_editing p) l.fields

@@ -16,7 +16,7 @@ use Rattle.rpg_verify_rules.specs.declared.rule.TypeRule.TheVariants.{V3, V4, V5
 
 -- an overflow indicator without a printer
 abbrev pub lacks_printer : Object → Bool
-lacks_printer p = is_some p.overflow && p.printer_length == 0
+lacks_printer p = is_some p.overflow.indicator && p.printer_length == 0
 
 -- which subroutines break the rule
 abbrev pub subroutines_broken : SubroutineRule → Object → List Bool

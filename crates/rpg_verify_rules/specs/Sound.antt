@@ -41,8 +41,8 @@ pub record IsSoundInstruction (p : Object) (s : Section) (i : Instruction ℕ) :
 
 -- a line: its file exists, its movements are in range, with none on the disk file, and nothing is wrong with its fields
 pub record IsSoundLine (p : Object) (l : LineRow) : Type 0 where
-  pub line : line_fault (file_length p l.file) l.spacing ≡ None
-  pub spacing : is_spaced_on l.file l.spacing ≡ true
+  pub line : line_fault p.overflow.page.lines (file_length p l.file) l.spacing ≡ None
+  pub spacing : is_spaced_on p.overflow.page.lines l.file l.spacing ≡ true
   pub fields : AreRight (form_at p.fields) (word_at p) (file_length p l.file) l.fields
 
 -- a record type: its file exists, its columns are those of the file's records, its levels have the same length in each type that has them,

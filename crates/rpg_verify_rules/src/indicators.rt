@@ -46,14 +46,11 @@ pub(crate) fn has_shows(shows: Shows) -> bool
     shows.plus.is_some() || (shows.minus.is_some() || shows.zero.is_some())
 }
 
-/// Conditions may name MR only in version 2.
-const fn highest_testable(version: Version) -> u8
+/// Conditions may name MR only where there can be a secondary file.
+fn highest_testable(version: Version) -> u8
     ensures { result ≡ marks.highest_testable version }
 {
-    match version {
-        Version::One => 128,
-        Version::Two => 129,
-    }
+    if version.has_secondary() { 129 } else { 128 }
 }
 
 pub(crate) fn is_testable(version: Version, condition: &Condition) -> bool

@@ -35,7 +35,7 @@ pub fn breaks(rule: LineRule, rows: &Rows, line: &Line) -> bool
 {
     match rule {
         LineRule::V2 => rows.file_length(line.file) == 0,
-        LineRule::V8 => !is_spaced_on(line.file, line.spacing),
+        LineRule::V8 => !is_spaced_on(rows.overflow.page.lines, line.file, line.spacing),
         LineRule::V9 => !are_alternatives_testable(rows.version, &line.alternatives),
         LineRule::V10
         | LineRule::V11
@@ -46,13 +46,13 @@ pub fn breaks(rule: LineRule, rows: &Rows, line: &Line) -> bool
     }
 }
 
-fn is_spaced_on(file: File, s: Spacing) -> bool
-    ensures { result ≡ words.is_spaced_on file s }
+fn is_spaced_on(lines: u8, file: File, s: Spacing) -> bool
+    ensures { result ≡ words.is_spaced_on lines file s }
 {
     match file {
         File::Printer => {
             (s.space_before <= 3 && s.space_after <= 3)
-                && (s.skip_before <= 66 && s.skip_after <= 66)
+                && (s.skip_before <= lines && s.skip_after <= lines)
         }
         File::Disk => {
             (s.space_before == 0 && s.space_after == 0) && (s.skip_before == 0 && s.skip_after == 0)

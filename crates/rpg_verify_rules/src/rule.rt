@@ -29,9 +29,9 @@ pub enum TypeRule {
 pub enum LineRule {
     /// The program has the line's file.
     V2,
-    /// Spaces of 0 to 3 and skips to 66 at most, only on the printer.
+    /// Spaces of 0 to 3 and skips to a line of the page, only on the printer.
     V8,
-    /// Alternatives aren't conditioned by MR in version 1; version 2 allows it.
+    /// Alternatives aren't conditioned by MR in version 1; versions 2 and 3 allow it.
     V9,
     /// Output fields exist.
     V10,
@@ -43,7 +43,7 @@ pub enum LineRule {
     V13,
     /// What is blanked after output may be written.
     V14,
-    /// Fields aren't conditioned by MR in version 1; version 2 allows it.
+    /// Fields aren't conditioned by MR in version 1; versions 2 and 3 allow it.
     V15,
 }
 
