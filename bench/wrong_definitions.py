@@ -27,8 +27,8 @@ KIT = Path(os.path.realpath(shutil.which("rt") or sys.exit("there is no rt"))).p
 CRATE = "wrong_definitions"
 # the definitions that may be wrong, or that stand above such a one
 DEFINITIONS = (
-    "rpg_program", "rpg_cards", "rpg_symbols", "rpg_faults_flow", "rpg_faults_operands", "rpg_faults_limits", "rpg_faults_data", "rpg_faults",
-    "rpg_compile_program", "rpg_meaning", "rpg_operation_laws",
+    "rpg_paper", "rpg_program", "rpg_cycle_records", "rpg_cards", "rpg_symbols", "rpg_faults_flow", "rpg_faults_operands", "rpg_faults_limits",
+    "rpg_faults_data", "rpg_faults", "rpg_compile_program", "rpg_meaning", "rpg_operation_laws",
 )
 # the proofs of the laws, and all proofs, which are also those of the equations
 LAWS = {
@@ -36,6 +36,7 @@ LAWS = {
     "rpg_operation_laws": ("Found", "Labels", "Lines", "Results"),
 }
 EQUATIONS = LAWS | {
+    "rpg_cycle_records": ("Choosing", "Matches"),
     "rpg_meaning": (
         "Calculations.MeantLists", "Calculations.MeantFiles", "Calculations.MeantConstants", "Calculations.MeantSections", "Calculations.MeantForms",
         "Calculations.MeantLines", "Calculations.MeantCalculations", "Jobs.MeantTypes", "Jobs.MeantFirst", "Operations.Done",

@@ -103,7 +103,7 @@ by_overflow : (p : Object) (s t : Test) (c : UnderWay) → Agree s t c → (e : 
     (overflow_lines p before show_match s before after_match p) c e d out → (overflow_lines p before show_match t before after_match p) c e d out
 by_overflow p s t c h =
     following (overflow_lines p) (show_match s before after_match p) (show_match t before after_match p) c
-    (λ m d put out e first rest. by_match p s t m (still_agree s t c m (at_overflow p (has_no_overflow p.overflow c.config) c m put first) h) e d out rest)
+    (λ m d put out e first rest. by_match p s t m (still_agree s t c m (at_overflow p (has_no_overflow p.overflow.indicator c.config) c m put first) h) e d out rest)
 
 by_last : (p : Object) (s t : Test) (c : UnderWay) → Agree s t c → (e : PhaseEnd) (d : UnderWay) (out : Output) →
     (end_where_last before overflow_lines p before show_match s before after_match p) c e d out →
@@ -172,7 +172,7 @@ after_4 p left t c d out g =
     let nine = both_on (fill_fields p) (detail_calculations p) eight.mid d eight.more eight.two in
     let k5 = at_totals p (is_bypassed p left.any left.control c.config) c five.mid five.put five.one in
     let k6 = same five.mid six.mid six.one.1 in
-    let k7 = at_overflow p (has_no_overflow p.overflow six.mid.config) six.mid seven.mid seven.put seven.one in
+    let k7 = at_overflow p (has_no_overflow p.overflow.indicator six.mid.config) six.mid seven.mid seven.put seven.one in
     let k8 : Stays seven.mid eight.mid = record { inputs = ap (λ (u : UnderWay). u.inputs) eight.one.1; selected = ap (λ (u : UnderWay). u.selected) eight.one.1 } in
     let k9 = at_fields p eight.mid.selected eight.mid nine.mid nine.put nine.one in
     let k10 = by_act (RunsTo p sections.Detail) nine.mid d Continues nine.more nine.two in

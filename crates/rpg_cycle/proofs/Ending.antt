@@ -20,7 +20,7 @@ use Rattle.rpg_cycle_records.specs.Merging.{AreMergedInOrder}
 use Rattle.rpg_cycle.specs.Phases.{Cycle, Done, UnderWay, begun, broken_level, detail_lines, without_output, done, either, end_where_last, halt_if_indicated, overflow_lines, type_indicator, is_bypassed, needs_record, read_record, select_one, select_from, select_record, select_waiting, set_off, show_match, take_in, total_time, with_config, with_inputs, ◌before◌}
 use Rattle.rpg_cycle.specs.Staging.{after_selection}
 use Rattle.rpg_cycle.specs.Runs.{Course, Records, RunsIn, ends_or, left_following, next_of, rest_where_needed}
-use Rattle.rpg_cycle_records.specs.Waiting.{InputState, Inputs, chosen, first_of, has_match, with_file_over, takes_in, waiting_in, with_waiting}
+use Rattle.rpg_cycle_records.specs.Waiting.{InputState, Inputs, chosen, first_of, has_match, is_after_end, with_file_over, takes_in, waiting_in, with_waiting}
 
 -- ---- taking in
 
@@ -81,11 +81,19 @@ chosen_one : (p : Object) (left : Left) (c d : UnderWay) (s t : Selected) (f : I
 chosen_one p left c d s t Primary v w goes leads = λ k. from_file p left Primary s c d v goes leads
 chosen_one p left c d s t Secondary v w goes leads = λ k. from_file p left Secondary t c d w goes leads
 
+no_one : (p : Object) (left : Left) (c d : UnderWay) → c.selected ≡ None → d ≡ (select_from p left None c).leads → Less c d
+no_one p left c d none leads = λ k. absurd (let e : is_none d.selected ≡ true = ap is_none (ap (λ (u : UnderWay). u.selected) leads ∙ none) in let x : true ≡ false = sym e ∙ k in cc)
+
+alone : (p : Object) (left : Left) (f : InputFile) (s : Selected) (c d : UnderWay) (b : Bool) → c.selected ≡ None → waiting_in c.inputs f ≡ Some s →
+    Continues ≡ (select_from p left (cond b None (Some f)) c).end → d ≡ (select_from p left (cond b None (Some f)) c).leads → Less c d
+alone p left f s c d true none w goes leads = no_one p left c d none leads
+alone p left f s c d false none w goes leads = λ k. from_file p left f s c d w goes leads
+
 selected : (p : Object) (left : Left) (c d : UnderWay) (v w : Option Selected) → c.selected ≡ None → waiting_in c.inputs Primary ≡ v → waiting_in c.inputs Secondary ≡ w →
-    Continues ≡ (select_from p left (chosen p v w) c).end → d ≡ (select_from p left (chosen p v w) c).leads → Less c d
-selected p left c d None None none a b goes leads = λ k. absurd (let e : is_none d.selected ≡ true = ap is_none (ap (λ (u : UnderWay). u.selected) leads ∙ none) in let x : true ≡ false = sym e ∙ k in cc)
-selected p left c d (Some s) None none a b goes leads = λ k. from_file p left Primary s c d a goes leads
-selected p left c d None (Some t) none a b goes leads = λ k. from_file p left Secondary t c d b goes leads
+    Continues ≡ (select_from p left (chosen p left v w) c).end → d ≡ (select_from p left (chosen p left v w) c).leads → Less c d
+selected p left c d None None none a b goes leads = no_one p left c d none leads
+selected p left c d (Some s) None none a b goes leads = alone p left Primary s c d (is_after_end p.ends Secondary left.secondary (match_value p s)) none a goes leads
+selected p left c d None (Some t) none a b goes leads = alone p left Secondary t c d (is_after_end p.ends Primary left.primary (match_value p t)) none b goes leads
 selected p left c d (Some s) (Some t) none a b goes leads = chosen_one p left c d s t (first_of (match_value p s) (match_value p t)) a b goes leads
 
 -- ---- phase 4

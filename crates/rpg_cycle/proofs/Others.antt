@@ -3,7 +3,7 @@ use Rattle.std.proofs.Common.{◌≡◌, ℕ, Bool, true, false, cond, eqb, not,
 use Rattle.std.specs.Cmp.{nat_cmp_total, unsigned_tied}
 use Rattle.std.specs.FinSet as set
 use Rattle.std.specs.Ordering.{nat_cmp}
-use Rattle.rpg_paper.specs.Paper.{Position, skipped, spaced, turns_overflow_on}
+use Rattle.rpg_paper.specs.Paper.{Position, skip_turns_on, skipped, space_turns_on, spaced}
 use Rattle.rpg_program.specs.Effect.{Effect, Leaves, go_on, then_go, unless_wrong}
 use Rattle.rpg_program.specs.Ends.{End, Fault, Continues, Halt, Wrong}
 use Rattle.rpg_program.specs.LineFaults.{line_fault}
@@ -16,6 +16,7 @@ use Rattle.rpg_program.specs.declared.line.File.TheVariants.{Printer, Disk}
 use Rattle.rpg_program.specs.declared.line.Pass.{Pass}
 use Rattle.rpg_program.specs.declared.line.Pass.TheVariants as passes
 use Rattle.rpg_program.specs.declared.line.Spacing.{Spacing}
+use Rattle.rpg_program.specs.declared.rows.Overflow.{Overflow}
 
 -- ---- one indicator is turned
 
@@ -62,34 +63,32 @@ turned_or_not : (n : ℕ) (b : Bool) (o : Option ℕ) (s : set.FinSet nat_cmp) �
 turned_or_not n true o s h = turned_off_other o n s h
 turned_or_not n false o s h = refl
 
-settled_keeps : (n : ℕ) (o : Option ℕ) (w : World nat_cmp) → IsOther o n → Keeps n w (settled o w)
-settled_keeps n o w h = record { same = turned_or_not n (w.paper.was_overflow && not w.paper.has_turned_on) o w.data.on h }
+settled_keeps : (n : ℕ) (o : Overflow) (w : World nat_cmp) → IsOther o.indicator n → Keeps n w (settled o w)
+settled_keeps n o w h = record { same = turned_or_not n (w.paper.was_overflow && not w.paper.has_turned_on) o.indicator w.data.on h }
 
-moved : (n : ℕ) (b : Bool) (o : Option ℕ) (to : Position) (w : World nat_cmp) → IsOther o n →
-    Keeps n w (cond b (record { «data» = record w.data { on = turned_on o w.data.on }; paper = record w.paper { here = to; has_turned_on = true } }) (record w { paper = record w.paper { here = to } }))
-moved n true o to w h = record { same = turned_on_other o n w.data.on h }
-moved n false o to w h = record { same = refl }
-
-movement_keeps : (n : ℕ) (o : Option ℕ) (to : Position) (w : World nat_cmp) → IsOther o n → Keeps n w (after_movement o to w)
+moved : (n : ℕ) (o : Option ℕ) (is_overflow : Bool) (to : Position) (w : World nat_cmp) → IsOther o n → Keeps n w (after_movement o is_overflow to w)
 unfolding after_movement
-movement_keeps n o to w h = moved n (turns_overflow_on w.paper.here to) o to w h
+moved n o true to w h = record { same = turned_on_other o n w.data.on h }
+moved n o false to w h = record { same = refl }
 
-skip_or_not : (n : ℕ) (b : Bool) (o : Option ℕ) (to : Position) (w : World nat_cmp) → IsOther o n → Keeps n w (cond b w (after_movement o to w))
-skip_or_not n true o to w h = nothing n w
-skip_or_not n false o to w h = movement_keeps n o to w h
+skip_or_not : (n : ℕ) (b : Bool) (o : Option ℕ) (is_overflow : Bool) (to : Position) (w : World nat_cmp) → IsOther o n → Keeps n w (cond b w (after_movement o is_overflow to w))
+skip_or_not n true o is_overflow to w h = nothing n w
+skip_or_not n false o is_overflow to w h = moved n o is_overflow to w h
 
-moves_keep : (n : ℕ) (o : Option ℕ) (skip space : ℕ) (w : World nat_cmp) → IsOther o n → Keeps n w (after_space o space (after_skip o skip w))
+moves_keep : (n : ℕ) (o : Overflow) (skip space : ℕ) (w : World nat_cmp) → IsOther o.indicator n → Keeps n w (after_space o space (after_skip o skip w))
 moves_keep n o skip space w h =
-    then_keeps n w (after_skip o skip w) (after_space o space (after_skip o skip w)) (skip_or_not n (eqb skip 0) o (skipped skip w.paper.here) w h) (movement_keeps n o (spaced space (after_skip o skip w).paper.here) (after_skip o skip w) h)
+    let v = after_skip o skip w in
+    then_keeps n w v (after_space o space v) (skip_or_not n (eqb skip 0) o.indicator (skip_turns_on o.page skip w.paper.here) (skipped skip w.paper.here) w h)
+    (moved n o.indicator (space_turns_on o.page space v.paper.here) (spaced o.page space v.paper.here) v h)
 
-put_on_keeps : (n : ℕ) (o : Option ℕ) (file : File) (s : Spacing) (text : List ℕ) (w : World nat_cmp) → IsOther o n → Keeps n w (put_on o file s text w).world
+put_on_keeps : (n : ℕ) (o : Overflow) (file : File) (s : Spacing) (text : List ℕ) (w : World nat_cmp) → IsOther o.indicator n → Keeps n w (put_on o file s text w).world
 unfolding put_on
 put_on_keeps n o Printer s text w h =
     then_keeps n w (spaced_before o s w) (spaced_after o s (spaced_before o s w)) (moves_keep n o s.skip_before s.space_before w h) (moves_keep n o s.skip_after s.space_after (spaced_before o s w) h)
 put_on_keeps n o Disk s text w h = nothing n w
 
 module _ (forms : ℕ → Option FieldForm) (words : ℕ → List ℕ) where
-  output_keeps : (n : ℕ) (o : Option ℕ) (l : Line ℕ) (w : World nat_cmp) (e : End) (d : Draft nat_cmp) → IsOther o n → Keeps n w (write_line_out forms words o l w e d).world
+  output_keeps : (n : ℕ) (o : Overflow) (l : Line ℕ) (w : World nat_cmp) (e : End) (d : Draft nat_cmp) → IsOther o.indicator n → Keeps n w (write_line_out forms words o l w e d).world
   output_keeps n o l w Continues d h =
       let drawn = with_fields d.fields w in
       let put = put_on_keeps n o l.file l.spacing d.text drawn h in
@@ -101,25 +100,25 @@ module _ (forms : ℕ → Option FieldForm) (words : ℕ → List ℕ) where
   unless_keeps n None w e h = h
   unless_keeps n (Some f) w e h = nothing n w
 
-  line_keeps : (n : ℕ) (o : Option ℕ) (l : Line ℕ) (w : World nat_cmp) → IsOther o n → Keeps n w (line_out forms words o l w).world
+  line_keeps : (n : ℕ) (o : Overflow) (l : Line ℕ) (w : World nat_cmp) → IsOther o.indicator n → Keeps n w (line_out forms words o l w).world
   unfolding line_out
   line_keeps n o l w h =
       let drawn = assembled forms words w.data.on l.len l.fields (blank_line l.len w) in
-      unless_keeps n (line_fault l.len l.spacing) w (write_line_out forms words o l w drawn.ending drawn.draft) (output_keeps n o l w drawn.ending drawn.draft h)
+      unless_keeps n (line_fault o.page.lines l.len l.spacing) w (write_line_out forms words o l w drawn.ending drawn.draft) (output_keeps n o l w drawn.ending drawn.draft h)
 
   asked_keeps : (n : ℕ) (b : Bool) (e : Effect nat_cmp) (w : World nat_cmp) → Keeps n w e.world → Keeps n w (where_due forms words b e w).world
   asked_keeps n true e w h = h
   asked_keeps n false e w h = nothing n w
 
-  one_keeps : (n : ℕ) (o : Option ℕ) (pass : Pass) (l : Line ℕ) (w : World nat_cmp) → IsOther o n → Keeps n w (one_out forms words o pass l w).world
+  one_keeps : (n : ℕ) (o : Overflow) (pass : Pass) (l : Line ℕ) (w : World nat_cmp) → IsOther o.indicator n → Keeps n w (one_out forms words o pass l w).world
   unfolding one_out
-  one_keeps n o pass l w h = asked_keeps n (is_due o pass w.data.on l.time l.alternatives) (line_out forms words o l w) w (line_keeps n o l w h)
+  one_keeps n o pass l w h = asked_keeps n (is_due o.indicator pass w.data.on l.time l.alternatives) (line_out forms words o l w) w (line_keeps n o l w h)
 
-  lines_keep : (n : ℕ) (o : Option ℕ) (pass : Pass) (ls : List (Line ℕ)) (w : World nat_cmp) → IsOther o n → Keeps n w (lines_out forms words o pass ls w).world
+  lines_keep : (n : ℕ) (o : Overflow) (pass : Pass) (ls : List (Line ℕ)) (w : World nat_cmp) → IsOther o.indicator n → Keeps n w (lines_out forms words o pass ls w).world
   unfolding lines_out
   lines_keep n o pass [] w h = nothing n w
   lines_keep n o pass (l ∷ ls) w h =
       both n w (one_out forms words o pass l w) (lines_out forms words o pass ls) (one_keeps n o pass l w h) (λ v. lines_keep n o pass ls v h)
 
-  pub details_keep : (n : ℕ) (o : Option ℕ) (ls : List (Line ℕ)) (w : World nat_cmp) → IsOther o n → Keeps n w (detail_output forms words o ls w).world
+  pub details_keep : (n : ℕ) (o : Overflow) (ls : List (Line ℕ)) (w : World nat_cmp) → IsOther o.indicator n → Keeps n w (detail_output forms words o ls w).world
   details_keep n o ls w h = both n w (lines_out forms words o passes.Detail ls w) (λ v. Leaves (settled o v)) (lines_keep n o passes.Detail ls w h) (λ v. settled_keeps n o v h)

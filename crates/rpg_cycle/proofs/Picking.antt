@@ -15,7 +15,7 @@ use Rattle.rpg_cycle_records.specs.Levels.{is_in_record}
 use Rattle.rpg_cycle_records.specs.Matching.{is_greater}
 use Rattle.rpg_cycle_records.specs.Merging.{IsFileOrderly, IsFromFile, IsMerged, AreMergedInOrder, IsTopIfAny, IsTopOf, IsUpTo, front, is_spent}
 use Rattle.rpg_cycle.specs.Phases.{Done, UnderWay, broken_level, done, type_indicator, select_one, select_from, select_waiting, with_config, with_inputs}
-use Rattle.rpg_cycle_records.specs.Waiting.{InputState, Inputs, chosen, first_of, input_at, other_file, takes_in, waiting_value, waiting_in, with_waiting}
+use Rattle.rpg_cycle_records.specs.Waiting.{InputState, Inputs, chosen, first_of, input_at, is_after_end, other_file, takes_in, waiting_value, waiting_in, with_waiting}
 
 -- the one value doesn't have to wait for the other
 abbrev GoesBefore : Option (List ℕ) → Option (List ℕ) → Type 0
@@ -153,24 +153,34 @@ of_two p earlier s t c d (Some x) (Some y) own theirs h v w goes leads = go (is_
         }))
         (goes ∙ ap (λ (o : Option Selected). (select_waiting p (left_by p earlier) Primary o c).end) v) (leads ∙ ap (λ (o : Option Selected). (select_waiting p (left_by p earlier) Primary o c).leads) v)
 
-unselected : (p : Object) (earlier : List Selected) (d : UnderWay) → d.selected ≡ None → AreMergedInOrder p earlier d.inputs → Picked p earlier d
-unselected p earlier d e h = record {
-  orderly = subst (λ (o : Option Selected). AreMergedInOrder p (with_record o earlier) d.inputs) (sym e) h;
-  top = λ s k. absurd (let x : None ≡ Some s = sym e ∙ k in cc);
+no_one : (p : Object) (earlier : List Selected) (c d : UnderWay) → AreMergedInOrder p earlier c.inputs → c.selected ≡ None → d ≡ (select_from p (left_by p earlier) None c).leads → Picked p earlier d
+no_one p earlier c d h none leads = record {
+  orderly = subst (λ (o : Option Selected). AreMergedInOrder p (with_record o earlier) d.inputs) (sym left) (subst (λ (u : UnderWay). AreMergedInOrder p earlier u.inputs) (sym leads) h);
+  top = λ s k. absurd (let x : None ≡ Some s = sym left ∙ k in cc);
 }
+  where
+    left : d.selected ≡ None
+    left = ap (λ (u : UnderWay). u.selected) leads ∙ none
+
+-- the only record that waits is selected, or comes after the end
+alone : (p : Object) (earlier : List Selected) (f : InputFile) (s : Selected) (c d : UnderWay) (b : Bool) → AreMergedInOrder p earlier c.inputs → c.selected ≡ None → waiting_in c.inputs f ≡ Some s →
+    is_spent p (other_file f) (input_at c.inputs (other_file f)) ≡ true → Continues ≡ (select_from p (left_by p earlier) (cond b None (Some f)) c).end →
+    d ≡ (select_from p (left_by p earlier) (cond b None (Some f)) c).leads → Picked p earlier d
+alone p earlier f s c d true h none w spent goes leads = no_one p earlier c d h none leads
+alone p earlier f s c d false h none w spent goes leads =
+    from_file p earlier f s c d h w (inl spent) (goes ∙ ap (λ (o : Option Selected). (select_waiting p (left_by p earlier) f o c).end) w)
+    (leads ∙ ap (λ (o : Option Selected). (select_waiting p (left_by p earlier) f o c).leads) w)
 
 pub selects : (p : Object) (earlier : List Selected) (c d : UnderWay) (out : Output) → AreMergedInOrder p earlier c.inputs → c.selected ≡ None → takes_in p c.inputs Primary ≡ false →
     takes_in p c.inputs Secondary ≡ false → select_one p (left_by p earlier) c Continues d out → Picked p earlier d
 selects p earlier c d out h none first second g = go (waiting_in c.inputs Primary) (waiting_in c.inputs Secondary) refl refl
     (g.0) (g.1)
   where
-    go : (v w : Option Selected) → waiting_in c.inputs Primary ≡ v → waiting_in c.inputs Secondary ≡ w → Continues ≡ (select_from p (left_by p earlier) (chosen p v w) c).end →
-        d ≡ (select_from p (left_by p earlier) (chosen p v w) c).leads → Picked p earlier d
-    go None None a b goes leads = unselected p earlier d (ap (λ (u : UnderWay). u.selected) leads ∙ none) (subst (λ (u : UnderWay). AreMergedInOrder p earlier u.inputs) (sym leads) h)
+    go : (v w : Option Selected) → waiting_in c.inputs Primary ≡ v → waiting_in c.inputs Secondary ≡ w → Continues ≡ (select_from p (left_by p earlier) (chosen p (left_by p earlier) v w) c).end →
+        d ≡ (select_from p (left_by p earlier) (chosen p (left_by p earlier) v w) c).leads → Picked p earlier d
+    go None None a b goes leads = no_one p earlier c d h none leads
     go (Some s) None a b goes leads =
-        from_file p earlier Primary s c d h a (inl (settled_spent p c.inputs Secondary second b))
-        (goes ∙ ap (λ (o : Option Selected). (select_waiting p (left_by p earlier) Primary o c).end) a) (leads ∙ ap (λ (o : Option Selected). (select_waiting p (left_by p earlier) Primary o c).leads) a)
+        alone p earlier Primary s c d (is_after_end p.ends Secondary (left_by p earlier).secondary (match_value p s)) h none a (settled_spent p c.inputs Secondary second b) goes leads
     go None (Some t) a b goes leads =
-        from_file p earlier Secondary t c d h b (inl (settled_spent p c.inputs Primary first a))
-        (goes ∙ ap (λ (o : Option Selected). (select_waiting p (left_by p earlier) Secondary o c).end) b) (leads ∙ ap (λ (o : Option Selected). (select_waiting p (left_by p earlier) Secondary o c).leads) b)
+        alone p earlier Secondary t c d (is_after_end p.ends Primary (left_by p earlier).primary (match_value p t)) h none b (settled_spent p c.inputs Primary first a) goes leads
     go (Some s) (Some t) a b goes leads = of_two p earlier s t c d (match_value p s) (match_value p t) refl refl h a b goes leads

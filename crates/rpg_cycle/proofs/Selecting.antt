@@ -296,10 +296,10 @@ compared_spends p n fs text bytes now a b h =
 
 -- ---- one of the records that wait
 
-pub picks : (p : Object) (left : Left) (f : InputFile) (i j : Inputs) (t : Option ℕ) (text : List ℕ) (a b : Running) → chosen p (waiting_in i Primary) (waiting_in i Secondary) ≡ Some f →
+pub picks : (p : Object) (left : Left) (f : InputFile) (i j : Inputs) (t : Option ℕ) (text : List ℕ) (a b : Running) → chosen p left (waiting_in i Primary) (waiting_in i Secondary) ≡ Some f →
     HasSelected p left f i a t text b j → Does (select_one p left) a (unselected i) Continues b (holding j t text)
 picks p left f i j t text a b is h =
-    quietly (λ c. select_from p left (chosen p (waiting_in c.inputs Primary) (waiting_in c.inputs Secondary)) c) a b (unselected i) (holding j t text) Continues h.config
+    quietly (λ c. select_from p left (chosen p left (waiting_in c.inputs Primary) (waiting_in c.inputs Secondary)) c) a b (unselected i) (holding j t text) Continues h.config
     (λ previous. ap (λ (o : Option InputFile). select_from p left o (under_way (config_on previous a.config) (unselected i))) is ∙ h.leads previous) h.machine
 
 -- the text that is kept of the record
@@ -308,7 +308,7 @@ text_of_file p k f None h = refl
 text_of_file p k f (Some n) h = ap (λ (g : InputFile). selected_as (Some n) (last_record_in k g)) (h n refl)
 
 -- the file's record was selected
-picks_from : (p : Object) (f : InputFile) (old now : Kept) (t : Option ℕ) (a b : Running) → chosen p (waiting_in (inputs_of old) Primary) (waiting_in (inputs_of old) Secondary) ≡ Some f →
+picks_from : (p : Object) (f : InputFile) (old now : Kept) (t : Option ℕ) (a b : Running) → chosen p (left_of old) (waiting_in (inputs_of old) Primary) (waiting_in (inputs_of old) Secondary) ≡ Some f →
     HasSelected p (left_of old) f (inputs_of old) a t (last_record_in now f) b (inputs_of now) → t ≡ (kept_at old f).waiting → IsFileKept p f (kept_at old f) →
     Does (select_one p (left_of old)) a (unselected (inputs_of old)) Continues b (holding (inputs_of now) t (text_in p now t))
 picks_from p f old now t a b is h same kept =
@@ -354,7 +354,7 @@ left_renewed k levels values is =
 
 -- the record that waited in the file that goes first was selected
 pub picked_from : (p : Object) (f : InputFile) (old now : Kept) (levels : List LastBytes) (values : LastValues) (t : Option ℕ) (a b : Running) →
-    chosen p (waiting_in (inputs_of old) Primary) (waiting_in (inputs_of old) Secondary) ≡ Some f → AreFilesKept p old →
+    chosen p (left_of old) (waiting_in (inputs_of old) Primary) (waiting_in (inputs_of old) Secondary) ≡ Some f → AreFilesKept p old →
     left_of now ≡ with_seen levels values (left_of old) → inputs_of now ≡ with_input f (input_state_of (kept_at now f)) (inputs_of old) → kept_at now (other_file f) ≡ kept_at old (other_file f) →
     IsTakenUp p old.levels.items old.values (kept_at old f) a t levels values (kept_at now f) b → IsPicked p old a t now b
 picked_from p f old now levels values t a b is kept left inputs other up = record {
@@ -374,11 +374,11 @@ picked_from p f old now levels values t a b is kept left inputs other up = recor
     mine : IsFileKept p f (kept_at old f)
     mine = kept_of p old f kept
 
--- no record waits
-pub none_picked : (p : Object) (k : Kept) (a b : Running) → chosen p (waiting_in (inputs_of k) Primary) (waiting_in (inputs_of k) Secondary) ≡ None →
+-- none was selected
+pub none_picked : (p : Object) (k : Kept) (a b : Running) → chosen p (left_of k) (waiting_in (inputs_of k) Primary) (waiting_in (inputs_of k) Secondary) ≡ None →
     b ≡ record a { config = with_all level_indicators true (with_one last_record true a.config) } → (IsReady a → IsReady b) → AreFilesKept p k → IsPicked p k a None k b
 none_picked p k a b none is ready kept = record {
-  goes = quietly (λ c. select_from p (left_of k) (chosen p (waiting_in c.inputs Primary) (waiting_in c.inputs Secondary)) c) a b (unselected i) (unselected i) Continues all
+  goes = quietly (λ c. select_from p (left_of k) (chosen p (left_of k) (waiting_in c.inputs Primary) (waiting_in c.inputs Secondary)) c) a b (unselected i) (unselected i) Continues all
       (λ previous.
       ap (λ (o : Option InputFile). select_from p (left_of k) o (under_way (config_on previous a.config) (unselected i))) none
       ∙ ap (λ (c : Config). done Continues (under_way c (unselected i))) (sym (all_on previous level_indicators true (with_one last_record true a.config)))) is;

@@ -60,8 +60,8 @@ turns_free p n on a b is = reach_of p 0 a b (ap (λ (r : Running). r.config.step
     zero-right n = omega arith
 
 -- a full page is output only where there is an overflow indicator
-pub page_spends : (p : Object) (c : Config) {a b : Running} → has_no_overflow p.overflow c ≡ false → Spends p (output_weight p outputs.Overflow) a b → Spends p (full_page_weight p) a b
-page_spends p c {a} {b} off s = subst (λ (n : ℕ). Spends p n a b) (weight p.overflow c (output_weight p outputs.Overflow) off) s
+pub page_spends : (p : Object) (c : Config) {a b : Running} → has_no_overflow p.overflow.indicator c ≡ false → Spends p (output_weight p outputs.Overflow) a b → Spends p (full_page_weight p) a b
+page_spends p c {a} {b} off s = subst (λ (n : ℕ). Spends p n a b) (weight p.overflow.indicator c (output_weight p outputs.Overflow) off) s
   where
     weight : (o : Option ℕ) (c : Config) (w : ℕ) → has_no_overflow o c ≡ false → w ≡ cond (is_some o) w 0
     weight None c w h = cc
@@ -213,7 +213,7 @@ output_twice false w = omega arith
 pub within_bound : (p : Object) → cycle_weight p ≤ bound p
 unfolding bound
 within_bound p =
-    omega (arith, detail_cost p, total_cost p, lines_split (lines_of p), output_twice (is_some p.overflow) (lines_weight is_in_cycle (lines_of p)))
+    omega (arith, detail_cost p, total_cost p, lines_split (lines_of p), output_twice (is_some p.overflow.indicator) (lines_weight is_in_cycle (lines_of p)))
 
 -- ---- from the first phase on
 

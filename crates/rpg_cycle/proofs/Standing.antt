@@ -181,7 +181,7 @@ module _ (p : Object) where
         (either_stands (is_on c.config last_record) _ _ (does_stands _ (λ c. all_stay level_indicators true c.config))
         (before_stands _ _ (does_stands _ (λ c. taking_stays (takes_in p c.inputs Primary) left Primary a c))
         (before_stands _ _ (does_stands _ (λ c. taking_stays (takes_in p c.inputs Secondary) left Secondary b c))
-        (does_stands _ (λ c. from_stays left (chosen p (waiting_in c.inputs Primary) (waiting_in c.inputs Secondary)) c))))).right c e d out h none;
+        (does_stands _ (λ c. from_stays left (chosen p left (waiting_in c.inputs Primary) (waiting_in c.inputs Secondary)) c))))).right c e d out h none;
   }
 
   -- ---- a cycle

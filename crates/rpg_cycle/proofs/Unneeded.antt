@@ -165,7 +165,7 @@ needed_not false false takes h g k = h
 
 stays : (p : Object) (c : Config) (i : Inputs) (m : UnderWay) (put : Output) → IsProgram p → detail_lines p (begun p c i) Continues m put → (n : ℕ) → ((k : ℕ) → 112 ≤ k → k ≤ 119 → n ≡ k → ⊥) → is_on m.config n ≡ is_on c n
 stays p c i m put kept g n far =
-    ap (λ (x : Config). is_on x n) g.1.leads ∙ (details_keep (form_at p.fields) (word_at p) n p.overflow (lines_of p) c.world (others p.overflow n kept.overflow far)).same
+    ap (λ (x : Config). is_on x n) g.1.leads ∙ (details_keep (form_at p.fields) (word_at p) n p.overflow (lines_of p) c.world (others p.overflow.indicator n kept.overflow far)).same
 
 halts_stay : (p : Object) (c : Config) (i : Inputs) (m : UnderWay) (put : Output) → IsProgram p → detail_lines p (begun p c i) Continues m put → any_on m.config halt_indicators ≡ any_on c halt_indicators
 halts_stay p c i m put kept g =

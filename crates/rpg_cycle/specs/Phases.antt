@@ -165,14 +165,14 @@ select_waiting p left f None c = done Continues c
 select_waiting p left f (Some s) c =
     compare_levels p left s (with_config (with_type (type_indicator (slice_get p.types s.type))) (with_inputs (with_waiting f None) c))
 
--- if no record waits, LR and all levels turn on
+-- if none is selected, LR and all levels turn on
 abbrev pub select_from : Object → Left → Option InputFile → UnderWay → Done
 select_from p left None c = done Continues (with_config (λ x. with_all level_indicators true (with_one last_record true x)) c)
 select_from p left (Some f) c = select_waiting p left f (waiting_in c.inputs f) c
 
 -- the record that the cycle is for
 abbrev pub select_one : Object → Left → Phase
-select_one p left = without_output (λ c. select_from p left (chosen p (waiting_in c.inputs Primary) (waiting_in c.inputs Secondary)) c)
+select_one p left = without_output (λ c. select_from p left (chosen p left (waiting_in c.inputs Primary) (waiting_in c.inputs Secondary)) c)
 
 -- if LR is on no record is read, and L1 to L9 turn on
 abbrev pub select_record : Object → Left → Option (List ℕ) → Option (List ℕ) → Phase
@@ -218,7 +218,7 @@ has_no_overflow (Some n) c = not (is_on c n)
 
 -- the lines for overflow, if its indicator is on
 abbrev pub overflow_lines : Object → Phase
-overflow_lines p = unless (has_no_overflow p.overflow) (output p times.Overflow)
+overflow_lines p = unless (has_no_overflow p.overflow.indicator) (output p times.Overflow)
 
 -- ---- 8 MR shows whether the selected record has a match, and its columns become values of fields
 

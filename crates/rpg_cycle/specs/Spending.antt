@@ -55,7 +55,7 @@ pub record SpendsTakingIn (p : Object) (f : InputFile) (old new : Running) : Typ
 
 -- the lines of a full page
 abbrev pub full_page_weight : Object → ℕ
-full_page_weight p = if is_some p.overflow then output_weight p times.Overflow else 0
+full_page_weight p = if is_some p.overflow.indicator then output_weight p times.Overflow else 0
 
 -- total calculations and total lines
 abbrev pub totals_weight : Object → ℕ

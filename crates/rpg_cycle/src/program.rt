@@ -22,10 +22,10 @@ pub(crate) fn indicator_of(program: &Verified, row: usize) -> Option<u8>
 
 /// The overflow indicator.
 pub(crate) fn overflow_of(program: &Verified) -> Option<u8>
-    ensures value { result ≡ program.now.overflow }
+    ensures value { result ≡ program.now.overflow.indicator }
     ensures right { ForSome result IsIndicator }
 {
-    rows_of(program).overflow
+    rows_of(program).overflow.indicator
 }
 
 /// Whether a place is the end of detail or total calculations.

@@ -19,8 +19,8 @@ use crate::indicators::{LAST_RECORD, LEVELS, turn_all, turn_type_on};
 use crate::program::indicator_of;
 use crate::seen::Seen;
 use rpg_cycle_records::{
-    Kept, KeptFile, LastBytes, LastValues, MatchValue, chosen, compare, control_fields, fill,
-    identify, input_length, is_valid, match_fields,
+    Kept, KeptFile, LastBytes, LastValues, MatchValue, compare, control_fields, fill, identify,
+    input_length, is_valid, match_fields,
 };
 use rpg_machine::Machine;
 use rpg_program::halt::Halt;
@@ -175,7 +175,7 @@ fn select_waiting<S: Store + Drop>(
     Ok(Some(row))
 }
 
-/// Selects one of the waiting records; if none waits, turns on LR and L1 to L9.
+/// Selects one of the waiting records; if none is selected, turns on LR and L1 to L9.
 #[inline(always)]
 fn select_one<S: Store + Drop>(
     program: &Verified,
@@ -187,7 +187,7 @@ fn select_one<S: Store + Drop>(
     ensures picked { IfOk result (λ t. IsPicked program.now kept.old machine.old t kept.new machine.new) }
     ensures output { machine.new.output ≡ machine.old.output }
 {
-    match chosen(program, &kept.primary, &kept.secondary) {
+    match kept.chosen(program) {
         None => {
             machine.set_indicator(LAST_RECORD, true);
             turn_all(machine, &LEVELS, true);

@@ -1,11 +1,11 @@
 -- Match values were read in order. So the last value of each file is enough to find a match.
-use Rattle.std.specs.Prelude.{◌≡◌, ℕ, Bool, false, not, ◌&&◌, ◌||◌, List, [], ◌∷◌, Option, None, Some, is_none}
+use Rattle.std.specs.Prelude.{◌≡◌, ℕ, Bool, true, false, not, ◌&&◌, ◌||◌, List, [], ◌∷◌, Option, None, Some, is_none, is_some, if◌then◌else◌}
 use Rattle.rpg_program.specs.declared.input.InputFile.{InputFile}
 use Rattle.rpg_program.specs.declared.input.InputFile.TheVariants.{Primary, Secondary}
 use Rattle.rpg_program.specs.Object.{Object, has_file}
 use Rattle.rpg_cycle_records.specs.Earlier.{Selected, file_at, last_value, left_by, match_value, or_before}
 use Rattle.rpg_cycle_records.specs.Matching.{exceeds}
-use Rattle.rpg_cycle_records.specs.Waiting.{InputState, Inputs, finds_match, has_match, waiting_value}
+use Rattle.rpg_cycle_records.specs.Waiting.{InputState, Inputs, chosen, finds_match, has_match, other_file, waiting_in, waiting_value}
 
 -- A value, if there is one, is no greater than this one; if this one is missing, so is the value.
 abbrev pub IsUpTo : Option (List ℕ) → Option (List ℕ) → Type 0
@@ -56,3 +56,17 @@ abbrev pub LastValuesTellMatches : Type 0
 LastValuesTellMatches =
     (p : Object) (earlier : List Selected) (i : Inputs) (s : Selected)
     → IsMerged p earlier → IsTopIfAny p (match_value p s) earlier → has_match p earlier i s ≡ finds_match p (left_by p earlier) i s
+
+-- whether a record comes after the cut, by the greatest match value of the file that ends the job alone. If it has none: after the
+-- primary file no secondary record is left; before the end of the secondary file stand the primary records up to the first with a value
+abbrev pub is_cut_off : InputFile → Option (List ℕ) → Option (List ℕ) → Bool
+is_cut_off Primary None v = true
+is_cut_off Secondary None v = is_some v
+is_cut_off f (Some w) v = exceeds v (Some w)
+
+-- The law: once a file that ends the job alone has ended, the other file is cut before its first record whose match value is greater than
+-- the ending file's greatest, which is its last one.
+abbrev pub TheEndIsACut : Type 0
+TheEndIsACut =
+    (p : Object) (earlier : List Selected) (i : Inputs) (f : InputFile) (s : Selected) → AreMergedInOrder p earlier i → p.ends ≡ Some f → waiting_in i f ≡ None → waiting_in i (other_file f) ≡ Some s
+    → chosen p (left_by p earlier) (waiting_in i Primary) (waiting_in i Secondary) ≡ (if is_cut_off f (last_value p f earlier) (match_value p s) then None else Some (other_file f))

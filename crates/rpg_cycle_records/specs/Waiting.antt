@@ -1,9 +1,10 @@
 -- Records that wait in their files, and which of them is selected.
-use Rattle.std.specs.Prelude.{ℕ, Bool, true, false, not, ◌&&◌, ◌||◌, List, Option, None, Some, is_none, if◌then◌else◌}
+use Rattle.std.specs.Prelude.{ℕ, Bool, true, false, not, ◌&&◌, ◌||◌, List, Option, None, Some, is_none, is_some, if◌then◌else◌}
 use Rattle.rpg_program.specs.declared.input.InputFile.{InputFile}
 use Rattle.rpg_program.specs.declared.input.InputFile.TheVariants.{Primary, Secondary}
 use Rattle.rpg_program.specs.Object.{Object, has_file}
 use Rattle.rpg_cycle_records.specs.Earlier.{Left, Selected, any_agrees, file_at, last_of_file, match_value, value_from, with_record}
+use Rattle.rpg_cycle_records.specs.Identifying.{same_file}
 use Rattle.rpg_cycle_records.specs.Matching.{agrees, is_greater}
 
 -- a file: the record that waits in it, if one does, and whether its end was read
@@ -55,12 +56,23 @@ first_of None w = Primary
 first_of (Some v) None = Secondary
 first_of (Some v) (Some w) = if is_greater v w then Secondary else Primary
 
--- the file whose record is selected, if any waits
-abbrev pub chosen : Object → Option Selected → Option Selected → Option InputFile
-chosen p None None = None
-chosen p (Some s) None = Some Primary
-chosen p None (Some t) = Some Secondary
-chosen p (Some s) (Some t) = Some (first_of (match_value p s) (match_value p t))
+-- by the last match value of a file that has ended, whether a record of the other file follows: its match value is the same; or it has
+-- none, and the file that ended is the secondary or has had one
+abbrev pub follows : InputFile → Option (List ℕ) → Option (List ℕ) → Bool
+follows f last None = same_file f Secondary || is_some last
+follows f last (Some v) = agrees (Some v) last
+
+-- the file that has ended ends the job alone, and the record of the other file doesn't follow
+abbrev pub is_after_end : Option InputFile → InputFile → Option (List ℕ) → Option (List ℕ) → Bool
+is_after_end None f last v = false
+is_after_end (Some ending) f last v = same_file ending f && not (follows f last v)
+
+-- the file whose record is selected, if one waits and doesn't come after the end
+abbrev pub chosen : Object → Left → Option Selected → Option Selected → Option InputFile
+chosen p left None None = None
+chosen p left (Some s) None = if is_after_end p.ends Secondary left.secondary (match_value p s) then None else Some Primary
+chosen p left None (Some t) = if is_after_end p.ends Primary left.primary (match_value p t) then None else Some Secondary
+chosen p left (Some s) (Some t) = Some (first_of (match_value p s) (match_value p t))
 
 -- ---- matching records
 

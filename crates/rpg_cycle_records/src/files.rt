@@ -1,15 +1,14 @@
-//! Files: the waiting record of each, and which of them is selected.
+//! Files: the waiting record of each, which of two goes first, and which comes after the end.
 ghost use Rattle.std.specs.Prelude.{◌≡◌, ◌<◌, ◌||◌, Some, true, false, not, length};
 ghost use Rattle.rpg_cycle_records.specs.Earlier.{match_value};
 ghost use Rattle.rpg_cycle_records.specs.Fitting.{IsFilledAs};
-ghost use Rattle.rpg_cycle_records.specs.Holding.{IsFileKept, input_state_of, record_as, takes_from};
+ghost use Rattle.rpg_cycle_records.specs.Holding.{input_state_of, record_as, takes_from};
 ghost use Rattle.rpg_cycle_records.specs.Keeping.{seen_value};
 ghost use Rattle.rpg_cycle_records.specs.Matching as values;
 ghost use Rattle.rpg_cycle_records.specs.Waiting as spec;
-ghost use Rattle.rpg_program.specs.declared.input.InputFile.TheVariants as files;
 
 use crate::matching::{LONGEST_VALUE, MatchValue};
-use crate::program::{input_length, match_fields};
+use crate::program::{input_length, match_fields, rows_of};
 use rpg_program::input::InputFile;
 use rpg_verify::Verified;
 use std::alloc::{AllocError, Global};
@@ -77,7 +76,7 @@ impl KeptFile {
 }
 
 /// Returns the file whose record goes first, by the match values of two waiting records.
-fn first_of(primary: &MatchValue, secondary: &MatchValue) -> InputFile
+pub(crate) fn first_of(primary: &MatchValue, secondary: &MatchValue) -> InputFile
     ensures { result ≡ spec.first_of (seen_value primary.now) (seen_value secondary.now) }
 {
     if primary.is_there && (!secondary.is_there || primary.exceeds(secondary)) {
@@ -87,18 +86,29 @@ fn first_of(primary: &MatchValue, secondary: &MatchValue) -> InputFile
     }
 }
 
-/// Returns the file whose record is selected, if any waits.
-#[tactic(auto, using(crate::proofs::Choosing::both_wait))]
-pub fn chosen(program: &Verified, primary: &KeptFile, secondary: &KeptFile) -> Option<InputFile>
-    requires primary { IsFileKept program.now files.Primary primary.now }
-    requires secondary { IsFileKept program.now files.Secondary secondary.now }
-    ensures { result ≡ spec.chosen program.now (input_state_of primary.now).waiting (input_state_of secondary.now).waiting }
+/// Whether a record with this match value follows, by the last one of the other file, which has ended.
+fn follows(ended: InputFile, last: &MatchValue, value: &MatchValue) -> bool
+    ensures { result ≡ spec.follows ended (seen_value last.now) (seen_value value.now) }
 {
-    let _program = program;
-    match (primary.waiting, secondary.waiting) {
-        (None, None) => None,
-        (Some(_), None) => Some(InputFile::Primary),
-        (None, Some(_)) => Some(InputFile::Secondary),
-        (Some(_), Some(_)) => Some(first_of(&primary.value, &secondary.value)),
+    if value.is_there {
+        value.agrees(last)
+    } else {
+        ended == InputFile::Secondary || last.is_there
+    }
+}
+
+/// Whether a record with this match value comes after the end of the job: the other file, which has ended, ends the job alone, and the
+/// record doesn't follow.
+pub(crate) fn is_after_end(
+    program: &Verified,
+    ended: InputFile,
+    last: &MatchValue,
+    value: &MatchValue,
+) -> bool
+    ensures { result ≡ spec.is_after_end program.now.ends ended (seen_value last.now) (seen_value value.now) }
+{
+    match rows_of(program).ends {
+        None => false,
+        Some(ending) => ending == ended && !follows(ended, last, value),
     }
 }

@@ -6,8 +6,9 @@ ghost use Rattle.rpg_cycle_records.specs.Holding.{AreFilesKept, HoldsRecord, inp
 ghost use Rattle.rpg_cycle_records.specs.Keeping.{left_of, noted, nothing_left, seen_levels};
 ghost use Rattle.rpg_cycle_records.specs.Waiting as spec;
 ghost use Rattle.rpg_cycle_records.specs.Waiting.{unread};
+ghost use Rattle.rpg_program.specs.declared.input.InputFile.TheVariants.{Primary, Secondary};
 
-use crate::files::KeptFile;
+use crate::files::{KeptFile, first_of, is_after_end};
 use crate::levels::LastBytes;
 use crate::matching::{LastValues, MatchValue};
 use crate::program::{control_fields, file_of};
@@ -58,6 +59,30 @@ impl Kept {
         match file_of(program, row) {
             InputFile::Primary => &self.primary.record,
             InputFile::Secondary => &self.secondary.record,
+        }
+    }
+
+    /// Returns the file whose record is selected, if one waits and doesn't come after the end.
+    #[tactic(auto, using(crate::proofs::Choosing::both_wait, crate::proofs::Choosing::one_waits))]
+    pub fn chosen(&self, program: &Verified) -> Option<InputFile>
+        requires { AreFilesKept program.now self.now }
+        ensures { result ≡ spec.chosen program.now (left_of self.now) (spec.waiting_in (inputs_of self.now) Primary) (spec.waiting_in (inputs_of self.now) Secondary) }
+    {
+        let (primary, secondary) = (&self.primary, &self.secondary);
+        let last = &self.values;
+        match (primary.waiting, secondary.waiting) {
+            (None, None) => None,
+            (Some(_), None) => {
+                let ended = InputFile::Secondary;
+                let is_left_out = is_after_end(program, ended, &last.secondary, &primary.value);
+                (!is_left_out).then_some(InputFile::Primary)
+            }
+            (None, Some(_)) => {
+                let ended = InputFile::Primary;
+                let is_left_out = is_after_end(program, ended, &last.primary, &secondary.value);
+                (!is_left_out).then_some(InputFile::Secondary)
+            }
+            (Some(_), Some(_)) => Some(first_of(&primary.value, &secondary.value)),
         }
     }
 

@@ -1,7 +1,7 @@
 //! Laws.
 ghost use Rattle.std.specs.Prelude.{◌≡◌, ℕ, List, length};
 ghost use Rattle.rpg_cycle_records.specs.Matching.{value_cmp};
-ghost use Rattle.rpg_cycle_records.specs.Merging.{LastValuesTellMatches};
+ghost use Rattle.rpg_cycle_records.specs.Merging.{LastValuesTellMatches, TheEndIsACut};
 ghost use Rattle.rpg_cycle_records.specs.Paying.{TypesArePaid};
 ghost use Rattle.rpg_decimal_words.specs.Order.{text_cmp};
 
@@ -10,6 +10,13 @@ ghost use Rattle.rpg_decimal_words.specs.Order.{text_cmp};
 #[tactic(auto, using(crate::proofs::Matches::found))]
 pub fn matches_are_found()
     ensures { LastValuesTellMatches }
+{}
+
+/// The end that one file alone brings is a cut: of the other file no record is selected from the first one on whose match value is
+/// greater than the ending file's greatest.
+#[tactic(auto, using(crate::proofs::Choosing::cut))]
+pub fn the_end_is_a_cut()
+    ensures { TheEndIsACut }
 {}
 
 /// Match values of one length are ordered as texts are.

@@ -10,7 +10,7 @@ mod matching;
 mod program;
 mod record;
 
-pub use files::{KeptFile, chosen};
+pub use files::KeptFile;
 pub use identification::{Found, identify};
 pub use kept::Kept;
 pub use levels::{LastBytes, compare};

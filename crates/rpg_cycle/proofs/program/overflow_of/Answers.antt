@@ -10,5 +10,5 @@ overflow_right o h = λ n e. let i = h n e in record { lowest = omega (arith, i.
 
 pub returns-clause-right : goal.returns-clause-right
 returns-clause-right c =
-    subst (λ (o : Option ℕ). ForSome o IsIndicator) (ap (λ (p : Object). p.overflow) (sym c.rows_of.ensures.same))
-    (overflow_right c.args.program.now.overflow c.rows_of.ensures.kept.overflow)
+    subst (λ (o : Option ℕ). ForSome o IsIndicator) (ap (λ (p : Object). p.overflow.indicator) (sym c.rows_of.ensures.same))
+    (overflow_right c.args.program.now.overflow.indicator c.rows_of.ensures.kept.overflow)
