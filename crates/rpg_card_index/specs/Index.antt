@@ -6,7 +6,7 @@ use Rattle.std.specs.Map.{lookup}
 use Rattle.std.specs.Option.{option_and_then, option_map_or, option_or}
 use Rattle.rpg_cards.specs.Cards.{file_on}
 use Rattle.rpg_cards.specs.Constants.{constants_in, is_same}
-use Rattle.rpg_cards.specs.Files.{file_use, same_use}
+use Rattle.rpg_cards.specs.Files.{file_use, page_of, same_use}
 use Rattle.rpg_cards.specs.First.{first_at}
 use Rattle.rpg_cards.specs.Levels.{has_match_field}
 use Rattle.rpg_cards.specs.Names.{defined_as, definitions, is_of}
@@ -135,3 +135,4 @@ pub record IsIndexOf (index : CardIndex) (cards : List SpecCard) : Type 0 where
   pub constants : IsConstantIndex (constants_in cards) index.constants
   pub files : AreFirstFiles index.files cards
   pub matching : index.has_match_field ≡ has_match_field cards
+  pub page : index.page ≡ page_of cards

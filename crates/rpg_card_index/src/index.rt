@@ -16,8 +16,9 @@ use crate::constant_index::ConstantIndex;
 use crate::first_files::FirstFiles;
 use crate::name_index::{FirstDefinition, NameIndex};
 use rpg_cards::{
-    Constant, Defined, FileUse, SpecCard, factor_constant, given_form, has_match_field,
+    Constant, Defined, FileUse, SpecCard, factor_constant, given_form, has_match_field, page_of,
 };
+use rpg_paper::Page;
 use rpg_sheet_specs::{Factor, FileSpec, Word};
 use rpg_symbols::{Name, Totals};
 use std::alloc::{AllocError, Global};
@@ -33,6 +34,7 @@ pub struct CardIndex {
     constants: ConstantIndex,
     files: FirstFiles,
     has_match_field: bool,
+    page: Page,
 }
 
 impl CardIndex {
@@ -53,6 +55,7 @@ impl CardIndex {
             constants,
             files: FirstFiles::of(alloc, cards)?,
             has_match_field: has_match_field(cards),
+            page: page_of(cards),
         })
     }
 
@@ -307,6 +310,13 @@ impl<'a> IndexedCards<'a> {
         ensures { result ≡ levels.has_match_field self.now }
     {
         self.index.has_match_field
+    }
+
+    /// Returns the page of the printer's form.
+    pub fn page(&self) -> Page
+        ensures { result ≡ files.page_of self.now }
+    {
+        self.index.page
     }
 }
 

@@ -52,6 +52,7 @@ pub few_definitions_on : (s : Spec) → length (definitions_on s) ≤ 2
 few_definitions_on (spec.Header h) = omega arith
 few_definitions_on (spec.File f) = omega arith
 few_definitions_on (spec.Extension e) = one_or_two (definition_in e) e.table e.alternating
+few_definitions_on (spec.Form h) = omega arith
 few_definitions_on (spec.Input (input.Type t)) = omega arith
 few_definitions_on (spec.Input (input.And codes)) = omega arith
 few_definitions_on (spec.Input (input.Field f)) = omega arith
@@ -63,6 +64,7 @@ pub few_constants_on : (s : Spec) → length (constants_on s) ≤ 2
 few_constants_on (spec.Header h) = omega arith
 few_constants_on (spec.File f) = omega arith
 few_constants_on (spec.Extension e) = omega arith
+few_constants_on (spec.Form h) = omega arith
 few_constants_on (spec.Input i) = omega arith
 few_constants_on (spec.Calculation k) =
     let first = option_and_then factor_constant k.factor_1 in

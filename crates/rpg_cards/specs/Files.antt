@@ -1,17 +1,22 @@
 -- The files of a source, found by use or by name.
-use Rattle.std.specs.Prelude.{ℕ, List, Bool, true, false, not, nat_eq, Option, find}
+use Rattle.std.specs.Prelude.{ℕ, List, Bool, true, false, not, nat_eq, Option, None, Some, find}
 use Rattle.std.specs.Cmp.Lexicographic.{pointwise}
 use Rattle.std.specs.List.{filter_map}
-use Rattle.std.specs.Option.{option_and_then}
-use Rattle.rpg_cards.specs.Cards.{file_on}
+use Rattle.std.specs.Option.{option_and_then, option_map_or}
+use Rattle.rpg_cards.specs.Cards.{file_on, form_on}
 use Rattle.rpg_cards.specs.declared.files.FileUse.{FileUse}
 use Rattle.rpg_cards.specs.declared.files.FileUse.TheVariants.{Primary, Secondary, Printer, Disk}
 use Rattle.rpg_cards.specs.declared.spec_card.SpecCard.{SpecCard}
+use Rattle.rpg_paper.specs.Paper.{standard_page}
+use Rattle.rpg_paper.specs.declared.form.Page.{Page}
+use Rattle.rpg_program.specs.declared.input.InputFile.{InputFile}
+use Rattle.rpg_program.specs.declared.input.InputFile.TheVariants as inputs
 use Rattle.rpg_sheet_specs.specs.declared.file.Device.{Device}
 use Rattle.rpg_sheet_specs.specs.declared.file.Device.TheVariants as device
 use Rattle.rpg_sheet_specs.specs.declared.file.FileRole.{FileRole}
 use Rattle.rpg_sheet_specs.specs.declared.file.FileRole.TheVariants as role
 use Rattle.rpg_sheet_specs.specs.declared.file.FileSpec.{FileSpec}
+use Rattle.rpg_sheet_specs.specs.declared.form.FormSpec.{FormSpec}
 
 -- ---- the use of a file
 
@@ -62,3 +67,31 @@ file_named name cards = find (λ f. pointwise nat_eq name f.name) (files cards)
 -- the file with the name, if there is a name
 abbrev pub file_by : Option (List ℕ) → List SpecCard → Option FileSpec
 file_by name cards = option_and_then (λ n. file_named n cards) name
+
+-- the input file that ends the job alone, by whether the primary and the secondary one have E
+abbrev pub ends_alone : Bool → Bool → Option InputFile
+ends_alone true false = Some inputs.Primary
+ends_alone false true = Some inputs.Secondary
+ends_alone _ _ = None
+
+-- the one of two input files with E, if the other has none
+abbrev pub ending_file : List SpecCard → Option InputFile
+ending_file cards = option_and_then (λ p. option_and_then (λ s. ends_alone p.ends_job s.ends_job) (file_for Secondary cards)) (file_for Primary cards)
+
+-- ---- the form
+
+-- the first L card with that name
+abbrev pub form_named : List ℕ → List SpecCard → Option FormSpec
+form_named name cards = find (λ f. pointwise nat_eq name f.file) (filter_map (λ c. form_on c.spec) cards)
+
+-- that of the printer
+abbrev pub printer_form : List SpecCard → Option FormSpec
+printer_form cards = option_and_then (λ f. form_named f.name cards) (file_for Printer cards)
+
+-- the page of an L card
+abbrev pub page_on : FormSpec → Page
+page_on f = record { lines = f.lines; overflow_line = f.overflow_line }
+
+-- the page of the printer's L card, or the standard one
+abbrev pub page_of : List SpecCard → Page
+page_of cards = option_map_or page_on (printer_form cards) standard_page

@@ -16,7 +16,7 @@ mod times;
 
 pub use alternatives::{condition_of, conditions, depends, in_places, is_or, level, test};
 pub use constants::{Constant, ConstantText, constant_in, factor_constant, text_constant};
-pub use files::{FileUse, file_for, file_named, use_of};
+pub use files::{FileUse, ending_file, file_for, file_named, page_of, use_of};
 pub use groups::{continues, group_end, joins, last_card};
 pub use indicators::{number_of, shows_of};
 pub use labels::{

@@ -4,8 +4,8 @@ ghost use Rattle.std.specs.Prelude.{◌≡◌, option_copied};
 ghost use Rattle.rpg_cards.specs.Cards as cards_of;
 
 use rpg_sheet_specs::{
-    CalculationSpec, DataSpec, ExtensionSpec, FileSpec, InputFieldSpec, InputSpec, OutputField,
-    OutputRecord, OutputSpec, RecordType, Spec,
+    CalculationSpec, DataSpec, ExtensionSpec, FileSpec, FormSpec, InputFieldSpec, InputSpec,
+    OutputField, OutputRecord, OutputSpec, RecordType, Spec,
 };
 
 /// A card with its number in the source, counted from 1, and its meaning.
@@ -30,6 +30,15 @@ impl SpecCard {
     {
         match &self.spec {
             Spec::Extension(extension) => Some(extension),
+            _ => None,
+        }
+    }
+
+    pub fn form(&self) -> Option<&FormSpec>
+        ensures { option_copied result ≡ cards_of.form_on self.now.spec }
+    {
+        match &self.spec {
+            Spec::Form(form) => Some(form),
             _ => None,
         }
     }

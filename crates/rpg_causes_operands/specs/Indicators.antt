@@ -88,6 +88,7 @@ abbrev pub card_indicator_cause : List SpecCard → Spec → Option IndicatorFau
 card_indicator_cause cards (spec.Header h) = None
 card_indicator_cause cards (spec.File f) = None
 card_indicator_cause cards (spec.Extension e) = None
+card_indicator_cause cards (spec.Form h) = None
 card_indicator_cause cards (spec.Input i) = input_indicator_cause i
 card_indicator_cause cards (spec.Calculation k) = calculation_indicator_cause cards k
 card_indicator_cause cards (spec.Output o) = output_indicator_cause cards o

@@ -76,6 +76,7 @@ abbrev pub name_columns : Spec → Option ColumnRange
 name_columns (spec.Header h) = None
 name_columns (spec.File f) = None
 name_columns (spec.Extension e) = Some range.TableName
+name_columns (spec.Form h) = None
 name_columns (spec.Input i) = Some range.InputName
 name_columns (spec.Calculation k) = Some range.ResultName
 name_columns (spec.Output o) = None

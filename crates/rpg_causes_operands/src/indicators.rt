@@ -57,7 +57,7 @@ pub fn indicator_cause(source: &IndexedCards, card: &SpecCard) -> Option<Indicat
         Spec::Input(input) => on_input(input),
         Spec::Calculation(calculation) => on_calculation(source, calculation),
         Spec::Output(output) => on_output(source, output),
-        Spec::Header(_) | Spec::File(_) | Spec::Extension(_) | Spec::Data(_) => None,
+        _ => None,
     }
 }
 

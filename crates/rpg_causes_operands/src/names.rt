@@ -67,7 +67,7 @@ fn name_columns(card: &SpecCard) -> Option<ColumnRange>
         Spec::Extension(_) => Some(ColumnRange::TableName),
         Spec::Input(_) => Some(ColumnRange::InputName),
         Spec::Calculation(_) => Some(ColumnRange::ResultName),
-        Spec::Header(_) | Spec::File(_) | Spec::Output(_) | Spec::Data(_) => None,
+        _ => None,
     }
 }
 

@@ -60,6 +60,7 @@ not_data : (s : Spec) → option_map_or (λ (e : ExtensionSpec). is_some e.entri
 not_data (spec.Header x) wants = refl
 not_data (spec.File x) wants = refl
 not_data (spec.Extension x) wants = refl
+not_data (spec.Form x) wants = refl
 not_data (spec.Input x) wants = refl
 not_data (spec.Calculation x) wants = refl
 not_data (spec.Output x) wants = refl

@@ -5,14 +5,12 @@ use Rattle.std.specs.Option.{is_some, option_and_then, option_map, option_map_or
 use Rattle.std.specs.Prelude.{nat_eq}
 use Rattle.std.specs.Cmp.Lexicographic.{pointwise}
 use Rattle.rpg_cards.specs.Cards.{file_on}
-use Rattle.rpg_card_index.specs.Index.{first_file, has_such_file, is_file_named, place_of_card}
+use Rattle.rpg_card_index.specs.Index.{first_file, has_such_file, is_file_named, is_for, place_of_card}
 use Rattle.rpg_cards.specs.First.{first_at}
 use Rattle.rpg_cards.specs.Files.{file_by, file_named, file_use, files, same_use}
 use Rattle.rpg_cards.specs.declared.files.FileUse.{FileUse}
-use Rattle.rpg_cards.specs.declared.files.FileUse.TheVariants.{Disk}
 use Rattle.rpg_cards.specs.declared.spec_card.SpecCard.{SpecCard}
-use Rattle.rpg_faults_limits.specs.FileCauses.{file_of_name, file_with, first_file_with_card, is_disk, placed_file}
-use Rattle.rpg_faults_limits.specs.Files.{is_disk_file}
+use Rattle.rpg_faults_limits.specs.FileCauses.{file_of_name, file_with, first_file_with_card, placed_file, serves}
 use Rattle.rpg_faults_limits.specs.Sheets.{place_named}
 use Rattle.rpg_faults_limits.specs.declared.files.FileOnCard.{FileOnCard}
 use Rattle.rpg_sheet_specs.specs.declared.file.FileSpec.{FileSpec}
@@ -52,16 +50,16 @@ none_found test cards none = by (first_file_with_card test cards) (find test (fi
     by (Some f) None e h = absurd cc
     by (Some f) (Some g) e h = absurd cc
 
--- whether it is the disk file
-pub disk_found : (name : Option (List ℕ)) (cards : List SpecCard) → option_map_or is_disk (option_and_then (λ n. file_of_name n cards) name) false ≡ option_map_or is_disk_file (file_by name cards) false
-disk_found None cards = refl
-disk_found (Some name) cards = by (file_of_name name cards) (file_named name cards) (use_found (λ f. pointwise nat_eq name f.name) cards)
+-- whether it has a use
+pub serves_found : (u : FileUse) (name : Option (List ℕ)) (cards : List SpecCard) → option_map_or (serves u) (option_and_then (λ n. file_of_name n cards) name) false ≡ option_map_or (is_for u) (file_by name cards) false
+serves_found u None cards = refl
+serves_found u (Some name) cards = by (file_of_name name cards) (file_named name cards) (use_found (λ f. pointwise nat_eq name f.name) cards)
   where
-    by : (f : Option FileOnCard) (g : Option FileSpec) → option_map (λ (x : FileOnCard). x.serves_as) f ≡ option_map file_use g → option_map_or is_disk f false ≡ option_map_or is_disk_file g false
+    by : (f : Option FileOnCard) (g : Option FileSpec) → option_map (λ (x : FileOnCard). x.serves_as) f ≡ option_map file_use g → option_map_or (serves u) f false ≡ option_map_or (is_for u) g false
     by None None e = refl
     by None (Some g) e = absurd cc
     by (Some f) None e = absurd cc
-    by (Some f) (Some g) e = ap (λ (o : Option FileUse). option_map_or (same_use Disk) o false) e
+    by (Some f) (Some g) e = ap (λ (o : Option FileUse). option_map_or (same_use u) o false) e
 
 -- ---- the file on the F card at a place
 

@@ -1,24 +1,24 @@
 -- F7, and F9 of lines: which file a card is about, what is wrong with it, and which F card it is on.
-use Rattle.std.specs.Prelude.{ℕ, List, [], ◌∷◌, Bool, nat_eq, Option, None, Some, is_some, option_and_then, if◌then◌else◌}
+use Rattle.std.specs.Prelude.{ℕ, List, [], ◌∷◌, Bool, nat_eq, Option, None, Some, is_some, option_and_then, if◌then◌else◌, nat_lt}
 use Rattle.std.specs.Cmp.Lexicographic.{pointwise}
 use Rattle.std.specs.List.{slice_get}
 use Rattle.std.specs.Option.{option_map, option_map_or, option_or}
-use Rattle.rpg_cards.specs.Cards.{file_on, output_record_on, type_on}
+use Rattle.rpg_cards.specs.Cards.{file_on, form_on, output_record_on, type_on}
 use Rattle.rpg_cards.specs.Files.{file_use, is_input, is_output, same_use}
 use Rattle.rpg_cards.specs.Groups.{input_role, open_file, open_group, output_role}
 use Rattle.rpg_cards.specs.declared.files.FileUse.{FileUse}
 use Rattle.rpg_cards.specs.declared.files.FileUse.TheVariants.{Disk, Primary, Printer, Secondary}
 use Rattle.rpg_cards.specs.declared.spec_card.SpecCard.{SpecCard}
 use Rattle.rpg_faults_limits.specs.declared.files.FileCause.{FileCause}
-use Rattle.rpg_faults_limits.specs.declared.files.FileCause.TheVariants.{EndsApart, Length, Second, Twice, Unknown, Unnamed, WrongUse}
+use Rattle.rpg_faults_limits.specs.declared.files.FileCause.TheVariants.{Length, OverflowPast, Second, SecondForm, Twice, Unknown, Unnamed, WrongUse}
 use Rattle.rpg_faults_limits.specs.declared.files.FileOnCard.{FileOnCard}
 use Rattle.rpg_faults_limits.specs.declared.files.FileUser.{FileUser}
 use Rattle.rpg_faults_limits.specs.declared.files.FileUser.TheVariants as user
-use Rattle.rpg_faults_limits.specs.Files.{ends_apart, longest_in_file, moves}
+use Rattle.rpg_faults_limits.specs.Files.{first_form, longest_in_file, moves}
 use Rattle.rpg_sheet_specs.specs.declared.column_range.ColumnRange.{ColumnRange}
 use Rattle.rpg_sheet_specs.specs.declared.column_range.ColumnRange.TheVariants as range
 use Rattle.rpg_sheet_specs.specs.declared.file.FileSpec.{FileSpec}
-use Rattle.rpg_sheet_specs.specs.declared.input.RecordType.{RecordType}
+use Rattle.rpg_sheet_specs.specs.declared.form.FormSpec.{FormSpec}
 use Rattle.rpg_sheet_specs.specs.declared.output.Movement.{Movement}
 use Rattle.rpg_sheet_specs.specs.declared.output.OutputRecord.{OutputRecord}
 use Rattle.rpg_text.specs.Texts.{is_between}
@@ -56,40 +56,54 @@ file_of_use u cards = first_file_with_card (λ f. same_use u (file_use f)) cards
 abbrev pub of_length : FileUse → ℕ → Option FileCause
 of_length u n = if is_between 1 (longest_in_file u) n then None else Some (Length u n)
 
--- columns 17 of the two input files differ, or the length is over its limit
-abbrev pub of_rest : List SpecCard → FileSpec → Option FileCause
-of_rest before f = if ends_apart before f then Some EndsApart else of_length (file_use f) f.record_length
-
 -- for an F card: the file that has its name, the one of its use, or what is wrong with the card itself
 abbrev pub of_file : List SpecCard → FileSpec → Option FileCause
 of_file before f =
     option_or (option_map Twice (file_of_name f.name before))
     (option_or (option_map (Second f.name) (file_of_use (file_use f) before))
-    (of_rest before f))
+    (of_length (file_use f) f.record_length))
 
--- a file that a record type, or a line, may not have
-abbrev pub of_known : FileUser → (FileUse → Bool) → FileOnCard → Option FileCause
-of_known who fits f = if fits f.serves_as then None else Some (WrongUse who f)
+-- the use of the file that a card of this kind may name
+abbrev pub fits : FileUser → FileUse → Bool
+fits user.RecordType = is_input
+fits user.Line = is_output
+fits user.Form = same_use Printer
+
+-- a file that a record type, a line or an L card may not have
+abbrev pub of_known : FileUser → FileOnCard → Option FileCause
+of_known who f = if fits who f.serves_as then None else Some (WrongUse who f)
 
 -- no F card has the name
 abbrev pub unknown : FileUser → List ℕ → FileCause
 unknown who name = Unknown who name
 
 -- of the file that a card names
-abbrev pub of_named : List SpecCard → FileUser → (FileUse → Bool) → List ℕ → Option FileCause
-of_named cards who fits name = option_map_or (of_known who fits) (file_of_name name cards) (Some (unknown who name))
+abbrev pub of_named : List SpecCard → FileUser → List ℕ → Option FileCause
+of_named cards who name = option_map_or (of_known who) (file_of_name name cards) (Some (unknown who name))
 
 -- of a card that names a file, or leaves it out after another card of its kind
-abbrev pub of_user : List SpecCard → FileUser → (FileUse → Bool) → Bool → Option (List ℕ) → Option FileCause
-of_user cards who fits is_following None = if is_following then None else Some (Unnamed who)
-of_user cards who fits is_following (Some name) = of_named cards who fits name
+abbrev pub of_user : List SpecCard → FileUser → Bool → Option (List ℕ) → Option FileCause
+of_user cards who is_following None = if is_following then None else Some (Unnamed who)
+of_user cards who is_following (Some name) = of_named cards who name
+
+-- an overflow line behind the page
+abbrev pub of_page : ℕ → ℕ → Option FileCause
+of_page lines line = if nat_lt lines line then Some (OverflowPast line lines) else None
+
+-- for an L card: its file, the L card before it, or the overflow line
+abbrev pub of_form : List SpecCard → List SpecCard → FormSpec → Option FileCause
+of_form cards before f =
+    option_or (of_named cards user.Form f.file)
+    (option_or (option_map (λ c. SecondForm c.number) (first_form before))
+    (of_page f.lines f.overflow_line))
 
 -- F7 of a card
 abbrev pub file_cause : List SpecCard → List SpecCard → SpecCard → Option FileCause
 file_cause cards before c =
     option_or (option_and_then (of_file before) (file_on c.spec))
-    (option_or (option_and_then (λ t. of_user cards user.RecordType is_input (is_some (open_group input_role before)) t.file) (type_on c.spec))
-    (option_and_then (λ r. of_user cards user.Line is_output (is_some (open_group output_role before)) r.file) (output_record_on c.spec)))
+    (option_or (option_and_then (λ t. of_user cards user.RecordType (is_some (open_group input_role before)) t.file) (type_on c.spec))
+    (option_or (option_and_then (λ r. of_user cards user.Line (is_some (open_group output_role before)) r.file) (output_record_on c.spec))
+    (option_and_then (of_form cards before) (form_on c.spec))))
 
 -- ---- F9 of lines
 
@@ -97,13 +111,13 @@ file_cause cards before c =
 abbrev pub file_of_line : List SpecCard → List SpecCard → Option (List ℕ) → Option FileOnCard
 file_of_line cards before name = option_and_then (λ n. file_of_name n cards) (option_or name (open_file output_role before))
 
--- it is the disk file
-abbrev pub is_disk : FileOnCard → Bool
-is_disk f = same_use Disk f.serves_as
+-- it has that use
+abbrev pub serves : FileUse → FileOnCard → Bool
+serves u f = same_use u f.serves_as
 
 -- the disk file
 abbrev pub if_disk : FileOnCard → Option FileOnCard
-if_disk f = if is_disk f then Some f else None
+if_disk f = if serves Disk f then Some f else None
 
 -- the disk file, if a line of it has spaces or skips
 abbrev pub moved_disk : List SpecCard → List SpecCard → OutputRecord → Option FileOnCard
@@ -122,16 +136,18 @@ use_range Disk = range.Device
 abbrev pub user_range : FileUser → ColumnRange
 user_range user.RecordType = range.TypeFile
 user_range user.Line = range.LineFile
+user_range user.Form = range.FormFile
 
--- F7: the name of a file, its use, E, its record length, or the name on another card
+-- F7: the name of a file, its use, its record length, the name on another card, or the overflow line
 abbrev pub file_range : FileCause → ColumnRange
 file_range (Twice f) = range.FileName
 file_range (Second name first) = use_range first.serves_as
-file_range EndsApart = range.EndsJob
 file_range (Length serves_as length) = range.RecordLength
 file_range (Unnamed who) = user_range who
 file_range (Unknown who name) = user_range who
 file_range (WrongUse who f) = user_range who
+file_range (SecondForm card) = range.FormFile
+file_range (OverflowPast line lines) = range.OverflowLine
 
 -- the first space or skip that is there
 abbrev pub first_movement : Movement → ColumnRange

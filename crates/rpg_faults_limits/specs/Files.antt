@@ -1,14 +1,14 @@
 -- F7: files that are unknown, described twice or of the wrong use. F9 of lines: spaces and skips for the disk file.
-use Rattle.std.specs.Prelude.{ℕ, List, Bool, not, ◌&&◌, ◌||◌, Option, None, Some, is_none, is_some, false, true}
-use Rattle.std.specs.Option.{option_and_then, option_map_or, option_or}
-use mathlib.Core.Bool.{beq}
-use Rattle.rpg_cards.specs.Cards.{file_on, output_record_on, type_on}
+use Rattle.std.specs.Prelude.{ℕ, List, Bool, not, ◌&&◌, ◌||◌, Option, None, Some, is_none, is_some, false, true, find, nat_lt}
+use Rattle.std.specs.Option.{option_map_or, option_or}
+use Rattle.rpg_cards.specs.Cards.{file_on, form_on, output_record_on, type_on}
 use Rattle.rpg_cards.specs.Files.{file_by, file_for, file_named, file_use, is_input, is_output, same_use}
 use Rattle.rpg_cards.specs.Groups.{input_role, open_file, open_group, output_role}
 use Rattle.rpg_cards.specs.declared.files.FileUse.{FileUse}
 use Rattle.rpg_cards.specs.declared.files.FileUse.TheVariants.{Primary, Secondary, Printer, Disk}
 use Rattle.rpg_cards.specs.declared.spec_card.SpecCard.{SpecCard}
 use Rattle.rpg_sheet_specs.specs.declared.file.FileSpec.{FileSpec}
+use Rattle.rpg_sheet_specs.specs.declared.form.FormSpec.{FormSpec}
 use Rattle.rpg_sheet_specs.specs.declared.output.Movement.{Movement}
 use Rattle.rpg_sheet_specs.specs.declared.output.OutputRecord.{OutputRecord}
 use Rattle.rpg_text.specs.Texts.{is_between}
@@ -22,40 +22,37 @@ longest_in_file Secondary = 9999
 longest_in_file Printer = 132
 longest_in_file Disk = 9999
 
--- the primary file's other input file is the secondary one, and the other way around
-abbrev pub other_input : FileUse → Option FileUse
-other_input Primary = Some Secondary
-other_input Secondary = Some Primary
-other_input Printer = None
-other_input Disk = None
-
--- just one of the two files has E
-abbrev pub ends_unlike : FileSpec → FileSpec → Bool
-ends_unlike f g = not (beq f.ends_job g.ends_job)
-
--- one input file has E and the other hasn't
-abbrev pub ends_apart : List SpecCard → FileSpec → Bool
-ends_apart before f = option_map_or (ends_unlike f) (option_and_then (λ u. file_for u before) (other_input (file_use f))) false
-
 -- one file of each use; no two with the same name
 abbrev pub bad_file : List SpecCard → FileSpec → Bool
 bad_file before f =
     is_some (file_named f.name before)
     || is_some (file_for (file_use f) before)
-    || ends_apart before f
     || not (is_between 1 (longest_in_file (file_use f)) f.record_length)
+
+-- no file of this use has the name
+abbrev pub lacks_named : List SpecCard → (FileUse → Bool) → List ℕ → Bool
+lacks_named cards is_fit name = option_map_or (λ f. not (is_fit (file_use f))) (file_named name cards) true
 
 -- A card names a file of this use. Only after another card of its kind may it omit the name.
 abbrev pub lacks_file : List SpecCard → (FileUse → Bool) → Bool → Option (List ℕ) → Bool
 lacks_file cards is_fit is_following None = not is_following
-lacks_file cards is_fit is_following (Some name) = option_map_or (λ f. not (is_fit (file_use f))) (file_named name cards) true
+lacks_file cards is_fit is_following (Some name) = lacks_named cards is_fit name
 
--- F7 of a card: its file is wrong, or it names no file of its use
+-- the first L card
+abbrev pub first_form : List SpecCard → Option SpecCard
+first_form cards = find (λ c. is_some (form_on c.spec)) cards
+
+-- an L card names the printer, is the only one, and has its overflow line on the page
+abbrev pub bad_form : List SpecCard → List SpecCard → FormSpec → Bool
+bad_form cards before f = lacks_named cards (same_use Printer) f.file || (is_some (first_form before) || nat_lt f.lines f.overflow_line)
+
+-- F7 of a card: its file or its form is wrong, or it names no file of its use
 abbrev pub breaks_files : List SpecCard → List SpecCard → SpecCard → Bool
 breaks_files cards before c =
     option_map_or (bad_file before) (file_on c.spec) false
     || option_map_or (λ t. lacks_file cards is_input (is_some (open_group input_role before)) t.file) (type_on c.spec) false
     || option_map_or (λ r. lacks_file cards is_output (is_some (open_group output_role before)) r.file) (output_record_on c.spec) false
+    || option_map_or (bad_form cards before) (form_on c.spec) false
 
 -- the source as a whole
 abbrev pub lacks_input : List SpecCard → Bool

@@ -1,20 +1,21 @@
-//! F7: files that are unknown, described twice or of the wrong use. F9 of lines: spaces and skips for the disk file.
+//! F7: files that are unknown, described twice or of the wrong use, and their forms. F9 of lines: spaces and skips for the disk file.
 
-ghost use Rattle.std.specs.Prelude.{◌≡◌, ◌∷◌, ◌++◌, false, is_some, option_and_then};
+ghost use Rattle.std.specs.Prelude.{◌≡◌, ◌∷◌, ◌++◌, false, is_some, option_and_then, option_copied};
 ghost use Rattle.std.specs.Option.{option_map, option_map_or, option_or};
 ghost use Rattle.rpg_cards.specs.Cards.{output_record_on};
 ghost use Rattle.rpg_cards.specs.Files as known;
 ghost use Rattle.rpg_cards.specs.Groups.{open_file, output_role};
+ghost use Rattle.rpg_card_index.specs.Index.{is_for};
 ghost use Rattle.rpg_cards.specs.declared.files.FileUse.{FileUse};
+ghost use Rattle.rpg_cards.specs.declared.files.FileUse.TheVariants.{Disk, Printer};
 ghost use Rattle.rpg_faults_limits.specs.FileCauses as causes;
 ghost use Rattle.rpg_faults_limits.specs.Files as rules;
 ghost use Rattle.rpg_faults_limits.specs.Sheets.{AreSheets};
-ghost use Rattle.rpg_faults_limits.specs.declared.files.FileUser.TheVariants as user;
 
 use crate::sheets::{Sheets, file_or};
 use rpg_card_index::{FirstCards, IndexedCards};
 use rpg_cards::{FileUse, SpecCard, use_of};
-use rpg_sheet_specs::{ColumnRange, FileSpec, Movement, OutputRecord, Word};
+use rpg_sheet_specs::{ColumnRange, FileSpec, FormSpec, Movement, OutputRecord, Word};
 
 /// A file with the number of its F card.
 #[derive(Drop)]
@@ -30,6 +31,8 @@ pub struct FileOnCard {
 pub enum FileUser {
     RecordType,
     Line,
+    /// An L card.
+    Form,
 }
 
 /// What is wrong with a file.
@@ -39,32 +42,35 @@ pub enum FileCause {
     Twice(FileOnCard),
     /// The file with this name would be the second of its use.
     Second { name: Word<8>, first: FileOnCard },
-    /// Of two input files only one has E in column 17.
-    EndsApart,
     /// This record or line length isn't allowed.
     Length { serves_as: FileUse, length: u16 },
     /// The first of its kind doesn't name a file.
     Unnamed(FileUser),
     /// No F card has that name.
     Unknown { user: FileUser, name: Word<8> },
-    /// The file has the other use.
+    /// The file has another use.
     WrongUse { user: FileUser, file: FileOnCard },
+    /// There is an L card before.
+    SecondForm { card: u16 },
+    /// The overflow line of an L card is past the lines of its page.
+    OverflowPast { line: u8, lines: u8 },
 }
 
 impl FileCause {
-    /// Returns the columns that the cause is about: the name of a file, what makes it the second one of its use, whether it ends the job, or
-    /// the record length.
+    /// Returns the columns that the cause is about: the name of a file, what makes it the second one of its use, the record length, or the
+    /// overflow line.
     pub fn range(&self) -> ColumnRange
         ensures { result ≡ causes.file_range self.now }
     {
         match self {
             FileCause::Twice(_) => ColumnRange::FileName,
             FileCause::Second { first, .. } => use_range(first.serves_as),
-            FileCause::EndsApart => ColumnRange::EndsJob,
             FileCause::Length { .. } => ColumnRange::RecordLength,
             FileCause::Unnamed(user)
             | FileCause::Unknown { user, .. }
             | FileCause::WrongUse { user, .. } => user_range(*user),
+            FileCause::SecondForm { .. } => ColumnRange::FormFile,
+            FileCause::OverflowPast { .. } => ColumnRange::OverflowLine,
         }
     }
 }
@@ -84,6 +90,7 @@ fn user_range(user: FileUser) -> ColumnRange
     match user {
         FileUser::RecordType => ColumnRange::TypeFile,
         FileUser::Line => ColumnRange::LineFile,
+        FileUser::Form => ColumnRange::FormFile,
     }
 }
 
@@ -115,9 +122,19 @@ pub fn file_cause(
         );
     }
     if let Some(record_type) = card.record_type() {
-        return of_type(source, sheets.types.is_open, &record_type.file);
+        let is_following = sheets.types.is_open;
+        return of_user(
+            source,
+            FileUser::RecordType,
+            is_following,
+            &record_type.file,
+        );
     }
-    of_line(source, sheets.lines.is_open, &card.line()?.file)
+    if let Some(line) = card.line() {
+        let is_following = sheets.lines.is_open;
+        return of_user(source, FileUser::Line, is_following, &line.file);
+    }
+    of_form(source, before, card.form()?)
 }
 
 fn file_with(card: &SpecCard, file: &FileSpec) -> FileOnCard
@@ -208,33 +225,7 @@ fn of_file(first: &FirstCards, before: &[SpecCard], file: &FileSpec) -> Option<F
         let name = Word::new(file.name.as_slice());
         return Some(FileCause::Second { name, first });
     }
-    if ends_apart(first, file) {
-        return Some(FileCause::EndsApart);
-    }
     of_length(use_of(file), file.record_length)
-}
-
-/// Whether the other input file comes before, and just one of the two ends the job.
-fn ends_apart(before: &FirstCards, file: &FileSpec) -> bool
-    ensures { result ≡ rules.ends_apart before.now file.now }
-{
-    let Some(other) = other_input(use_of(file)) else {
-        return false;
-    };
-    match before.file_for(other) {
-        None => false,
-        Some(other) => file.ends_job != other.ends_job,
-    }
-}
-
-const fn other_input(serves_as: FileUse) -> Option<FileUse>
-    ensures { result ≡ rules.other_input serves_as }
-{
-    match serves_as {
-        FileUse::Primary => Some(FileUse::Secondary),
-        FileUse::Secondary => Some(FileUse::Primary),
-        FileUse::Printer | FileUse::Disk => None,
-    }
 }
 
 fn of_length(serves_as: FileUse, length: u16) -> Option<FileCause>
@@ -250,45 +241,71 @@ fn of_length(serves_as: FileUse, length: u16) -> Option<FileCause>
     Some(FileCause::Length { serves_as, length })
 }
 
-fn is_input(serves_as: FileUse) -> bool
-    ensures { result ≡ known.is_input serves_as }
+/// Whether a card of that kind may name a file of this use.
+fn fits(user: FileUser, serves_as: FileUse) -> bool
+    ensures { result ≡ causes.fits user serves_as }
 {
-    match serves_as {
-        FileUse::Primary | FileUse::Secondary => true,
-        FileUse::Printer | FileUse::Disk => false,
+    match user {
+        FileUser::RecordType => matches!(serves_as, FileUse::Primary | FileUse::Secondary),
+        FileUser::Line => matches!(serves_as, FileUse::Printer | FileUse::Disk),
+        FileUser::Form => matches!(serves_as, FileUse::Printer),
     }
 }
 
-fn of_type(source: &IndexedCards, is_following: bool, name: &Option<Word<8>>) -> Option<FileCause>
-    ensures cause { result ≡ causes.of_user source.now user.RecordType known.is_input is_following name.now }
-    ensures rule { is_some result ≡ rules.lacks_file source.now known.is_input is_following name.now }
+fn of_user(
+    source: &IndexedCards,
+    user: FileUser,
+    is_following: bool,
+    name: &Option<Word<8>>,
+) -> Option<FileCause>
+    ensures cause { result ≡ causes.of_user source.now user is_following name.now }
+    ensures rule { is_some result ≡ rules.lacks_file source.now (causes.fits user) is_following name.now }
 {
-    let user = FileUser::RecordType;
     match name {
         None if is_following => None,
         None => Some(FileCause::Unnamed(user)),
-        Some(name) => match file_named(source, name) {
-            None => Some(unknown(user, name)),
-            Some(file) if is_input(file.serves_as) => None,
-            Some(file) => Some(FileCause::WrongUse { user, file }),
-        },
+        Some(name) => of_named(source, user, name),
     }
 }
 
-fn of_line(source: &IndexedCards, is_following: bool, name: &Option<Word<8>>) -> Option<FileCause>
-    ensures cause { result ≡ causes.of_user source.now user.Line known.is_output is_following name.now }
-    ensures rule { is_some result ≡ rules.lacks_file source.now known.is_output is_following name.now }
+fn of_named(source: &IndexedCards, user: FileUser, name: &Word<8>) -> Option<FileCause>
+    ensures cause { result ≡ causes.of_named source.now user name.now }
+    ensures rule { is_some result ≡ rules.lacks_named source.now (causes.fits user) name.now }
 {
-    let user = FileUser::Line;
-    match name {
-        None if is_following => None,
-        None => Some(FileCause::Unnamed(user)),
-        Some(name) => match file_named(source, name) {
-            None => Some(unknown(user, name)),
-            Some(file) if is_input(file.serves_as) => Some(FileCause::WrongUse { user, file }),
-            Some(_) => None,
-        },
+    match file_named(source, name) {
+        None => Some(unknown(user, name)),
+        Some(file) if fits(user, file.serves_as) => None,
+        Some(file) => Some(FileCause::WrongUse { user, file }),
     }
+}
+
+fn of_form(source: &IndexedCards, before: &[SpecCard], form: &FormSpec) -> Option<FileCause>
+    ensures cause { result ≡ causes.of_form source.now before.now form.now }
+    ensures rule { is_some result ≡ rules.bad_form source.now before.now form.now }
+{
+    if let Some(cause) = of_named(source, FileUser::Form, &form.file) {
+        return Some(cause);
+    }
+    if let Some(first) = first_form(before) {
+        return Some(FileCause::SecondForm { card: first.number });
+    }
+    let (lines, line) = (form.lines.number(), form.overflow_line.number());
+    if line <= lines {
+        return None;
+    }
+    Some(FileCause::OverflowPast { line, lines })
+}
+
+/// Returns the first L card.
+fn first_form(cards: &[SpecCard]) -> Option<&SpecCard>
+    ensures { option_copied result ≡ rules.first_form cards.now }
+{
+    for card in cards {
+        if card.form().is_some() {
+            return Some(card);
+        }
+    }
+    None
 }
 
 fn unknown(user: FileUser, name: &Word<8>) -> FileCause
@@ -323,7 +340,7 @@ pub fn moved_disk(
 }
 
 /// Returns the file of a line: the one that it names, or that of the previous line.
-fn file_of_line(
+pub fn file_of_line(
     source: &IndexedCards,
     sheets: &Sheets,
     before: &[SpecCard],
@@ -331,7 +348,8 @@ fn file_of_line(
 ) -> Option<FileOnCard>
     requires { AreSheets source.now before.now sheets.now }
     ensures file { result ≡ causes.file_of_line source.now before.now line.now.file }
-    ensures disk { option_map_or causes.is_disk result false ≡ option_map_or rules.is_disk_file (known.file_by (option_or line.now.file (open_file output_role before.now)) source.now) false }
+    ensures disk { option_map_or (causes.serves Disk) result false ≡ option_map_or (is_for Disk) (known.file_by (option_or line.now.file (open_file output_role before.now)) source.now) false }
+    ensures printer { option_map_or (causes.serves Printer) result false ≡ option_map_or (is_for Printer) (known.file_by (option_or line.now.file (open_file output_role before.now)) source.now) false }
 {
     file_at(source, file_or(source, &line.file, sheets.lines.file))
 }

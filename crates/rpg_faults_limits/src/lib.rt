@@ -14,7 +14,8 @@ mod storage;
 mod types;
 
 pub use files::{
-    FileCause, FileOnCard, FileUser, file_at, file_cause, lacks_input, moved_disk, movement_range,
+    FileCause, FileOnCard, FileUser, file_at, file_cause, file_of_line, lacks_input, moved_disk,
+    movement_range,
 };
 pub use limits::limit_cause;
 pub use measures::{Limit, LimitCause};

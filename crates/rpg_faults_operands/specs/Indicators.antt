@@ -76,6 +76,7 @@ abbrev pub bad_on : List SpecCard → Spec → Bool
 bad_on cards (spec.Header h) = false
 bad_on cards (spec.File f) = false
 bad_on cards (spec.Extension e) = false
+bad_on cards (spec.Form h) = false
 bad_on cards (spec.Input i) = bad_on_input i
 bad_on cards (spec.Calculation k) = bad_on_calculation cards k
 bad_on cards (spec.Output o) = bad_on_output cards o

@@ -4,7 +4,7 @@ use Rattle.std.specs.Cmp.Lexicographic.{pointwise}
 use Rattle.std.specs.List.{last_or, list_any}
 use Rattle.std.specs.Option.{is_some, option_and_then, option_map, option_map_or, option_or}
 use Rattle.std.specs.Prelude.{nat_eq, nat_le, nat_lt, sum_by}
-use Rattle.rpg_cards.specs.Cards.{input_field_in, input_on, output_field_on, type_in}
+use Rattle.rpg_cards.specs.Cards.{input_field_in, input_on, output_field_on, output_record_on, type_in}
 use Rattle.rpg_cards.specs.Files.{file_by}
 use Rattle.rpg_cards.specs.Groups.{Group, followers, followers_with, groups, groups_from, input_card_role, input_role, open_file, opening, output_role, role_on}
 use Rattle.rpg_cards.specs.Levels.{is_at, match_level}
@@ -16,10 +16,11 @@ use Rattle.rpg_faults_places.specs.Outside.{is_outside}
 use Rattle.rpg_faults_places.specs.declared.joins.FirstLength.{FirstLength}
 use Rattle.rpg_faults_places.specs.declared.joins.FirstMatched.{FirstMatched}
 use Rattle.rpg_faults_places.specs.declared.joins.JoinCause.TheVariants.{LongLevel, LongMatches, MatchedTwice, OtherLength, OtherMatches}
-use Rattle.rpg_faults_places.specs.Places.{first_length, first_valid_matches, valid_matches, has_bad, has_other_lengths, has_other_matches, has_twice, input_columns, joined_length, joins_badly, level_length, lengths_differ, levels, matched_fields, match_lengths, matches_differ, misplaces, open_matches, open_specs, outside_line, outside_on_input, own_file, passes_length, refuses, repeats}
+use Rattle.rpg_faults_places.specs.Places.{first_length, first_valid_matches, valid_matches, has_bad, has_other_lengths, has_other_matches, has_twice, input_columns, joined_length, joins_badly, level_length, lengths_differ, levels, matched_fields, match_lengths, matches_differ, misplaces, open_matches, open_specs, outside_line, outside_on_input, outside_page, own_file, passes_length, refuses, repeats}
 use Rattle.rpg_sheet_specs.specs.declared.input.InputFieldSpec.{InputFieldSpec}
 use Rattle.rpg_sheet_specs.specs.declared.input.InputSpec.{InputSpec}
 use Rattle.rpg_sheet_specs.specs.declared.input.InputSpec.TheVariants as input
+use Rattle.rpg_sheet_specs.specs.declared.output.OutputRecord.{OutputRecord}
 use Rattle.rpg_sheet_specs.specs.declared.input.RecordType.{RecordType}
 
 mapped_some : {X C : Type 0} (f : X → C) (o : Option X) → is_some (option_map f o) ≡ is_some o
@@ -220,18 +221,22 @@ valid_lengths-is (f ∷ fs) = ap (λ b. cond (not b) (Some (match_lengths (f ∷
 
 -- ---- with the card's own columns
 
-apart_from : (a b q : Bool) → ((a || b) || q) ≡ ((a || q) || b)
-apart_from true b q = refl
-apart_from false true true = refl
-apart_from false true false = refl
-apart_from false false true = refl
-apart_from false false false = refl
+apart_from : (a b q r : Bool) → (((a || b) || q) || r) ≡ (((a || q) || r) || b)
+apart_from true b q r = refl
+apart_from false true true r = refl
+apart_from false true false true = refl
+apart_from false true false false = refl
+apart_from false false true r = refl
+apart_from false false false true = refl
+apart_from false false false false = refl
 
 pub misplaces_is : (cards before : List SpecCard) (c : SpecCard) (after : List SpecCard)
     → misplaces cards before c after ≡ (is_outside cards before c || option_map_or (joins_badly before after) (input_on c.spec) false)
-misplaces_is cards before c after = by (input_on c.spec) (option_map_or (outside_line cards (file_by (open_file output_role before) cards)) (output_field_on c.spec) false)
+misplaces_is cards before c after =
+    by (input_on c.spec) (option_map_or (outside_line cards (file_by (open_file output_role before) cards)) (output_field_on c.spec) false)
+    (option_map_or (λ (r : OutputRecord). outside_page cards (file_by (option_or r.file (open_file output_role before)) cards) r.movement) (output_record_on c.spec) false)
   where
-    by : (x : Option InputSpec) (q : Bool) → (option_map_or (λ i. outside_on_input (file_by (own_file before i) cards) i || joins_badly before after i) x false || q)
-        ≡ ((option_map_or (λ i. outside_on_input (file_by (own_file before i) cards) i) x false || q) || option_map_or (joins_badly before after) x false)
-    by None q = apart_from false false q
-    by (Some i) q = apart_from (outside_on_input (file_by (own_file before i) cards) i) (joins_badly before after i) q
+    by : (x : Option InputSpec) (q r : Bool) → ((option_map_or (λ i. outside_on_input (file_by (own_file before i) cards) i || joins_badly before after i) x false || q) || r)
+        ≡ (((option_map_or (λ i. outside_on_input (file_by (own_file before i) cards) i) x false || q) || r) || option_map_or (joins_badly before after) x false)
+    by None q r = apart_from false false q r
+    by (Some i) q r = apart_from (outside_on_input (file_by (own_file before i) cards) i) (joins_badly before after i) q r

@@ -1,12 +1,14 @@
--- F16: columns outside the record or the line, fields too wide for their end position, control fields and match fields that don't agree.
+-- F16: columns outside the record or the line, skips past the page, fields too wide for their end position, control fields and match fields that don't agree.
 use Rattle.std.specs.Prelude.{ℕ, ◌+◌, ◌-◌, List, [], ◌∷◌, map, Bool, false, not, ◌&&◌, ◌||◌, ◌==◌, nat_eq, nat_lt, nat_le, sum_by, Option, None, Some, if◌then◌else◌}
 use Rattle.std.specs.Cmp.Lexicographic.{pointwise}
 use Rattle.std.specs.List.{filter, list_any, range_with_len}
 use Rattle.std.specs.Option.{option_map_or, option_or}
-use Rattle.rpg_cards.specs.Cards.{input_on, output_field_on}
-use Rattle.rpg_cards.specs.Files.{file_by}
+use Rattle.rpg_card_index.specs.Index.{is_for}
+use Rattle.rpg_cards.specs.Cards.{input_on, output_field_on, output_record_on}
+use Rattle.rpg_cards.specs.Files.{file_by, page_of}
 use Rattle.rpg_cards.specs.Groups.{Group, followers, groups, input_role, open_file, open_group, output_role}
 use Rattle.rpg_cards.specs.Levels.{control_level, fields_at, fields_with, is_at, is_match_field, match_level}
+use Rattle.rpg_cards.specs.declared.files.FileUse.TheVariants.{Printer}
 use Rattle.rpg_cards.specs.declared.spec_card.SpecCard.{SpecCard}
 use Rattle.rpg_faults_operands.specs.Editing.{width}
 use Rattle.rpg_sheet_specs.specs.declared.file.FileSpec.{FileSpec}
@@ -16,6 +18,7 @@ use Rattle.rpg_sheet_specs.specs.declared.input.InputSpec.{InputSpec}
 use Rattle.rpg_sheet_specs.specs.declared.input.InputSpec.TheVariants as input
 use Rattle.rpg_sheet_specs.specs.declared.input.RecordCode.{RecordCode}
 use Rattle.rpg_sheet_specs.specs.declared.input.RecordType.{RecordType}
+use Rattle.rpg_sheet_specs.specs.declared.output.Movement.{Movement}
 use Rattle.rpg_sheet_specs.specs.declared.output.OutputField.{OutputField}
 
 -- ---- columns
@@ -49,6 +52,18 @@ is_wider cards f = option_map_or (λ w. nat_lt f.end w) (width cards f) false
 -- the end position is 0 or past the line, or leaves too little room
 abbrev pub outside_line : List SpecCard → Option FileSpec → OutputField → Bool
 outside_line cards file f = f.end == 0 || (is_past file f.end || is_wider cards f)
+
+-- a skip past the lines of a page
+abbrev pub is_skip_past : ℕ → Option ℕ → Bool
+is_skip_past lines skip = option_map_or (nat_lt lines) skip false
+
+-- before or after a line
+abbrev pub skips_past : ℕ → Movement → Bool
+skips_past lines m = is_skip_past lines m.skip_before || is_skip_past lines m.skip_after
+
+-- a line of the printer skips past its page
+abbrev pub outside_page : List SpecCard → Option FileSpec → Movement → Bool
+outside_page cards file m = option_map_or (is_for Printer) file false && skips_past (page_of cards).lines m
 
 -- ---- control fields: those of one level and one type are joined
 
@@ -185,3 +200,4 @@ abbrev pub misplaces : List SpecCard → List SpecCard → SpecCard → List Spe
 misplaces cards before c after =
     option_map_or (λ i. outside_on_input (file_by (own_file before i) cards) i || joins_badly before after i) (input_on c.spec) false
     || option_map_or (outside_line cards (file_by (open_file output_role before) cards)) (output_field_on c.spec) false
+    || option_map_or (λ r. outside_page cards (file_by (option_or r.file (open_file output_role before)) cards) r.movement) (output_record_on c.spec) false

@@ -1,8 +1,11 @@
-//! F16: columns outside the record, end positions outside the line, and fields that are too wide.
+//! F16: columns outside the record, end positions outside the line, skips past the page, and fields that are too wide.
 
 ghost use Rattle.std.specs.Prelude.{◌≡◌, List, Option, is_some, option_and_then};
-ghost use Rattle.std.specs.Option.{option_map};
+ghost use Rattle.std.specs.Option.{option_map, option_or};
+ghost use Rattle.rpg_cards.specs.Files.{file_by};
+ghost use Rattle.rpg_cards.specs.Groups.{open_file, output_role};
 ghost use Rattle.rpg_cards.specs.declared.spec_card.SpecCard.{SpecCard};
+ghost use Rattle.rpg_faults_limits.specs.FileCauses.{file_of_line};
 ghost use Rattle.rpg_faults_limits.specs.Sheets.{AreSheets};
 ghost use Rattle.rpg_faults_places.specs.CardFiles as files_of;
 ghost use Rattle.rpg_faults_places.specs.Outside as causes;
@@ -11,13 +14,16 @@ ghost use Rattle.rpg_faults_places.specs.Places as rules;
 ghost use Rattle.rpg_sheet_specs.specs.declared.file.FileSpec.{FileSpec};
 
 use rpg_card_index::IndexedCards;
-use rpg_cards::SpecCard;
-use rpg_faults_limits::{FileOnCard, Sheets, file_at, file_or};
+use rpg_cards::{FileUse, SpecCard};
+use rpg_faults_limits::{FileOnCard, Sheets, file_at, file_of_line, file_or};
 use rpg_faults_operands::width;
-use rpg_sheet_specs::{ColumnRange, InputFieldSpec, InputSpec, OutputField, RecordCode, Three};
+use rpg_sheet_specs::{
+    ColumnRange, InputFieldSpec, InputSpec, Movement, OutputField, OutputRecord, RecordCode, Three,
+    Within,
+};
 use std::marker::Model;
 
-/// What is outside a record or a line.
+/// What is outside a record, a line or a page.
 #[derive(Drop)]
 pub enum PlaceCause {
     /// A code's position 0.
@@ -53,6 +59,12 @@ pub enum PlaceCause {
         places: usize,
         end: u16,
     },
+    /// A skip past the lines of the page.
+    SkipPast {
+        at: ColumnRange,
+        line: u8,
+        lines: u8,
+    },
 }
 
 impl PlaceCause {
@@ -63,7 +75,8 @@ impl PlaceCause {
         match self {
             PlaceCause::NoPosition(at)
             | PlaceCause::PositionPast { at, .. }
-            | PlaceCause::NoColumn(at) => *at,
+            | PlaceCause::NoColumn(at)
+            | PlaceCause::SkipPast { at, .. } => *at,
             PlaceCause::TurnedRound { .. } | PlaceCause::PastRecord { .. } => {
                 ColumnRange::LastColumn
             }
@@ -74,7 +87,7 @@ impl PlaceCause {
     }
 }
 
-/// F16 of a card's own columns: what is outside the record or the line.
+/// F16 of a card's own columns: what is outside the record, the line or the page.
 #[tactic(auto, unfolding(crate::specs::Outside::outside))]
 pub fn outside_cause(
     source: &IndexedCards,
@@ -89,8 +102,10 @@ pub fn outside_cause(
     if let Some(input) = card.input() {
         return of_input(&CardFile::of(source, sheets, card), input);
     }
-    let field = card.output_field()?;
-    of_output(source, &CardFile::of(source, sheets, card), field)
+    if let Some(field) = card.output_field() {
+        return of_output(source, &CardFile::of(source, sheets, card), field);
+    }
+    of_line(source, sheets, before, card.line()?)
 }
 
 // ---- the file
@@ -233,4 +248,46 @@ fn of_output(source: &IndexedCards, file: &CardFile, field: &OutputField) -> Opt
         return Some(PlaceCause::Wider { places, end });
     }
     None
+}
+
+// ---- lines
+
+fn of_line(
+    source: &IndexedCards,
+    sheets: &Sheets,
+    before: &[SpecCard],
+    line: &OutputRecord,
+) -> Option<PlaceCause>
+    requires { AreSheets source.now before.now sheets.now }
+    ensures cause { result ≡ causes.of_line source.now (file_of_line source.now before.now line.now.file) line.now.movement }
+    ensures rule { is_some result ≡ rules.outside_page source.now (file_by (option_or line.now.file (open_file output_role before.now)) source.now) line.now.movement }
+{
+    let cause = of_movement(source.page().lines, &line.movement)?;
+    let file = file_of_line(source, sheets, before, line)?;
+    match file.serves_as {
+        FileUse::Printer => Some(cause),
+        FileUse::Primary | FileUse::Secondary | FileUse::Disk => None,
+    }
+}
+
+fn of_movement(lines: u8, movement: &Movement) -> Option<PlaceCause>
+    ensures cause { result ≡ causes.of_movement lines movement.now }
+    ensures rule { is_some result ≡ rules.skips_past lines movement.now }
+{
+    let before = of_skip(lines, ColumnRange::SkipBefore, movement.skip_before);
+    if before.is_some() {
+        return before;
+    }
+    of_skip(lines, ColumnRange::SkipAfter, movement.skip_after)
+}
+
+fn of_skip(lines: u8, at: ColumnRange, skip: Option<Within<1, 112>>) -> Option<PlaceCause>
+    ensures cause { result ≡ option_and_then (causes.of_skip lines at) skip }
+    ensures rule { is_some result ≡ rules.is_skip_past lines skip }
+{
+    let line = skip?.number();
+    if line <= lines {
+        return None;
+    }
+    Some(PlaceCause::SkipPast { at, line, lines })
 }

@@ -1,7 +1,7 @@
 -- The law of each card, one line for each range of columns.
 use Rattle.std.proofs.Common.{ℕ, ◌+◌, ◌≤◌, lit≤}
 use Rattle.rpg_sheet_specs.specs.Columns.{Columns, also, past}
-use Rattle.rpg_sheet_specs.specs.Tables.{conditions, three_indicators, header, is_output_card, overflow, file_overflow, file, alternating_table, has_no_name, alternating, extension, record_codes, type_card, has_no_codes, and_codes, type_and_card, field_card, is_field_card, is_and_card, type_or_field_card, input_card, calculation_card, movement, record_card, line_conditions, output_field_card, line_or_field_card, is_or_card, line_or_card, output_card}
+use Rattle.rpg_sheet_specs.specs.Tables.{conditions, three_indicators, header, is_output_card, overflow, file_overflow, file, alternating_table, has_no_name, alternating, extension, form_card, record_codes, type_card, has_no_codes, and_codes, type_and_card, field_card, is_field_card, is_and_card, type_or_field_card, input_card, calculation_card, movement, record_card, line_conditions, output_field_card, line_or_field_card, is_or_card, line_or_card, output_card}
 use Rattle.rpg_sheet.proofs.Laws.{IsTable, IsTable-lower, values_law, at_law, blank_law, also_law, past_law, where_law}
 
 infixl 7 ◌⊛◌
@@ -31,7 +31,7 @@ overflow_law : IsTable overflow 33 35
 unfolding overflow
 overflow_law = where_law is_output_card (values_law _ 33 ⊛ at_law _ (lit≤ tt) (lit≤ tt)) (values_law _ 33 ⊘ at_law _ (lit≤ tt) (lit≤ tt))
 
-file_overflow_law : IsTable file_overflow 28 40
+file_overflow_law : IsTable file_overflow 28 39
 unfolding file_overflow
 file_overflow_law = values_law _ 28
     ⊘ blank_law (lit≤ tt) (lit≤ tt) (lit≤ tt)
@@ -49,6 +49,7 @@ file_law = values_law _ 7
     ⊘ at_law _ (lit≤ tt) (lit≤ tt)
     ⊛ at_law _ (lit≤ tt) (lit≤ tt)
     ⊛ file_overflow_law
+    ⊛ at_law _ (lit≤ tt) (lit≤ tt)
     ⊛ at_law _ (lit≤ tt) (lit≤ tt)
     ⊘ blank_law (lit≤ tt) (lit≤ tt) (lit≤ tt)
 
@@ -77,6 +78,16 @@ extension_law = values_law _ 7
     ⊛ at_law _ (lit≤ tt) (lit≤ tt)
     ⊛ at_law _ (lit≤ tt) (lit≤ tt)
     ⊛ alternating_law
+
+pub form_card_law : IsTable form_card 7 75
+unfolding form_card
+form_card_law = values_law _ 7
+    ⊛ at_law _ (lit≤ tt) (lit≤ tt)
+    ⊛ at_law _ (lit≤ tt) (lit≤ tt)
+    ⊘ at_law _ (lit≤ tt) (lit≤ tt)
+    ⊛ at_law _ (lit≤ tt) (lit≤ tt)
+    ⊘ at_law _ (lit≤ tt) (lit≤ tt)
+    ⊘ blank_law (lit≤ tt) (lit≤ tt) (lit≤ tt)
 
 record_codes_law : IsTable record_codes 21 42
 unfolding record_codes

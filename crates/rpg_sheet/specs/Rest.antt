@@ -8,8 +8,8 @@ use Rattle.rpg_sheet_specs.specs.declared.file.FileSpec.{FileSpec}
 use Rattle.rpg_sheet_specs.specs.declared.indicator.ConditionSpec.{ConditionSpec}
 use Rattle.rpg_sheet_specs.specs.declared.indicator.Three.{Three}
 use Rattle.rpg_sheet_specs.specs.declared.input.InputFieldSpec.{InputFieldSpec}
-use Rattle.rpg_sheet_specs.specs.Columns.{Columns, values, at, blank, ◌⊛◌, ◌⊘◌}
-use Rattle.rpg_sheet_specs.specs.Tables.{alternating, calculation_spec, control_field_level, device_named, extension_spec, file_overflow, file_spec, input_field, match_field_level, operation, three_indicators}
+use Rattle.rpg_sheet_specs.specs.Columns.{Columns, values, at, at_with, blank, ◌⊛◌, ◌⊘◌}
+use Rattle.rpg_sheet_specs.specs.Tables.{alternating, calculation_spec, control_field_level, device_named, extension_spec, file_overflow, file_spec, form_mark, input_field, match_field_level, operation, three_indicators}
 use Rattle.rpg_sheet_specs.specs.Values.{blank_or, digits, entry, factor, marked, number}
 
 -- an F card from its record length on
@@ -17,6 +17,7 @@ abbrev pub rest_of_file : List ℕ → FileRole → Bool → Bool → Columns Fi
 rest_of_file name role ends_job ascending = values (file_spec name role ends_job ascending)
     ⊛ at 24 27 number
     ⊛ file_overflow
+    ⊛ at_with 39 39 form_mark
     ⊛ at 40 46 device_named
     ⊘ blank 47 74
 

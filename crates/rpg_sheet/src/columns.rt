@@ -82,6 +82,19 @@ impl Card {
         at(columns, rpg_sheet_values::number(self.columns(columns)))
     }
 
+    /// Reads right-aligned digits after blanks, within these bounds.
+    pub(crate) fn number_within<const FIRST: u8, const LAST: u8>(
+        &self,
+        columns: CardColumns<3>,
+    ) -> Read<Within<FIRST, LAST>>
+        ensures { result ≡ (line_from columns.first 3 (values.number_within FIRST LAST)).reading self.now }
+    {
+        at(
+            columns,
+            rpg_sheet_values::number_within(self.columns(columns)),
+        )
+    }
+
     pub(crate) fn optional_number(&self, columns: CardColumns<3>) -> Read<Option<u16>>
         ensures { result ≡ (line_from columns.first 3 (values.blank_or values.number)).reading self.now }
     {
@@ -164,7 +177,7 @@ impl Card {
         optional(columns, text, rpg_sheet_values::space(text))
     }
 
-    pub(crate) fn optional_skip(&self, columns: CardColumns<2>) -> Read<Option<Within<1, 66>>>
+    pub(crate) fn optional_skip(&self, columns: CardColumns<2>) -> Read<Option<Within<1, 112>>>
         ensures { result ≡ (line_from columns.first 2 (values.blank_or tables.skip)).reading self.now }
     {
         let text = self.columns(columns);

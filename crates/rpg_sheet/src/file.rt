@@ -1,5 +1,5 @@
 //! The file description sheet (F).
-#![tactic(auto, unfolding(rpg_sheet_specs::specs::Columns::values, rpg_sheet_specs::specs::Columns::at_with, rpg_sheet_specs::specs::Columns::also, rpg_sheet_specs::specs::Columns::past, rpg_sheet_specs::specs::Columns::blank, rpg_sheet_specs::specs::Columns::where_card, rpg_sheet_specs::specs::Values::blank_or, rpg_sheet_specs::specs::Tables::file, rpg_sheet_specs::specs::Tables::file_overflow, rpg_sheet_specs::specs::Tables::overflow, rpg_sheet_specs::specs::Tables::role))]
+#![tactic(auto, unfolding(rpg_sheet_specs::specs::Columns::values, rpg_sheet_specs::specs::Columns::at_with, rpg_sheet_specs::specs::Columns::also, rpg_sheet_specs::specs::Columns::past, rpg_sheet_specs::specs::Columns::blank, rpg_sheet_specs::specs::Columns::where_card, rpg_sheet_specs::specs::Values::blank_or, rpg_sheet_specs::specs::Tables::file, rpg_sheet_specs::specs::Tables::file_overflow, rpg_sheet_specs::specs::Tables::overflow, rpg_sheet_specs::specs::Tables::form_mark, rpg_sheet_specs::specs::Tables::role))]
 
 ghost use Rattle.std.specs.Prelude.{◌≡◌};
 ghost use Rattle.rpg_sheet.specs.Rest.{rest_of_file};
@@ -37,6 +37,7 @@ fn file_with(
 {
     let record_length = card.number(ranges::RECORD_LENGTH)?;
     let overflow = file_overflow(card)?;
+    let has_form = at(ranges::HAS_FORM, form_mark(card))?;
     let device = rpg_sheet_values::device(card.columns(ranges::DEVICE));
     card.blank(ranges::AFTER_DEVICE)?;
     Ok(FileSpec {
@@ -46,8 +47,27 @@ fn file_with(
         ascending,
         record_length,
         overflow,
+        has_form,
         device,
     })
+}
+
+/// Reads a blank, or L on the printer's card.
+fn form_mark(card: &Card) -> Option<bool>
+    ensures { result ≡ tables.form_mark card.now (cols 39 39 card.now) }
+{
+    let has_form = rpg_sheet_values::marked(b"L", card.columns(ranges::HAS_FORM))?;
+    if has_form && !is_printer_card(card) {
+        return None;
+    }
+    Some(has_form)
+}
+
+fn is_printer_card(card: &Card) -> bool
+    ensures { result ≡ tables.is_printer_card card.now }
+{
+    card.columns(ranges::FILE_TYPE) == b"O".as_slice()
+        && card.columns(ranges::DEVICE) == b"PRINTER".as_slice()
 }
 
 fn file_overflow(card: &Card) -> Result<Option<Within<112, 119>>, ColumnFault>

@@ -9,6 +9,7 @@ mod file;
 mod form;
 mod header;
 mod input;
+mod line_counter;
 mod output;
 mod sheet;
 mod source;
@@ -18,10 +19,10 @@ mod unreadable;
 pub use card::Card;
 pub use rpg_sheet_specs::{
     CalculationSpec, ColumnFault, ColumnRange, ConditionSpec, ControlLevel, DataCard, DataSpec,
-    Device, EditCode, Entry, EntryIndex, ExtensionSpec, Factor, FileRole, FileSpec, FormType,
-    HeaderSpec, Indicator, InputFieldSpec, InputSpec, LineTime, Literal, Movement, NumericLiteral,
-    Operation, OutputField, OutputRecord, OutputSpec, RecordCode, RecordType, Spec, TableSpec,
-    TextLiteral, Three, Within, Word,
+    Device, EditCode, Entry, EntryIndex, ExtensionSpec, Factor, FileRole, FileSpec, FormSpec,
+    FormType, HeaderSpec, Indicator, InputFieldSpec, InputSpec, LineTime, Literal, Movement,
+    NumericLiteral, Operation, OutputField, OutputRecord, OutputSpec, RecordCode, RecordType, Spec,
+    TableSpec, TextLiteral, Three, Within, Word,
 };
 pub use sheet::{Cards, SheetCode, SheetFault, sheet_place};
 pub use source::{MOST_CARDS, cards};

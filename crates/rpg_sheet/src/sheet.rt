@@ -18,15 +18,16 @@ use std::marker::Model;
 /// Returns a sheet's place in the order of the sheets.
 pub fn sheet_place(sheet: FormType) -> u8
     ensures value { result ≡ cards.sheet_place sheet }
-    ensures few { result ≤ 5 }
+    ensures few { result ≤ 6 }
 {
     match sheet {
         FormType::Header => 0,
         FormType::File => 1,
         FormType::Extension => 2,
-        FormType::Input => 3,
-        FormType::Calculation => 4,
-        FormType::Output => 5,
+        FormType::Form => 3,
+        FormType::Input => 4,
+        FormType::Calculation => 5,
+        FormType::Output => 6,
     }
 }
 

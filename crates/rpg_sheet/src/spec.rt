@@ -14,10 +14,11 @@ use crate::calculation::read_calculation;
 use crate::card::Card;
 use crate::columns::Read;
 use crate::input::input_card;
+use crate::line_counter::form_card;
 use crate::output::read_output;
 use rpg_sheet_specs::{
-    CalculationSpec, ColumnFault, ExtensionSpec, FileSpec, FormType, HeaderSpec, InputSpec,
-    OutputSpec, Spec,
+    CalculationSpec, ColumnFault, ExtensionSpec, FileSpec, FormSpec, FormType, HeaderSpec,
+    InputSpec, OutputSpec, Spec,
 };
 
 impl Card {
@@ -46,6 +47,15 @@ impl Card {
         ensures least { IfErr result (λ fault. IsLeastColumn (tables.extension.bad self.now) fault.column) }
     {
         crate::extension::extension(self)
+    }
+
+    /// Reads an L card, or returns the leftmost of its bad values.
+    pub fn l(&self) -> Result<FormSpec, ColumnFault>
+        ensures value { result ≡ tables.form_card.reading self.now }
+        ensures valid { OnOk result (tables.form_card.bad self.now ≡ []) }
+        ensures least { IfErr result (λ fault. IsLeastColumn (tables.form_card.bad self.now) fault.column) }
+    {
+        form_card(self)
     }
 
     /// Reads an I card, or returns the leftmost of its bad values.
@@ -111,6 +121,7 @@ impl Card {
             FormType::Header => Ok(Spec::Header(self.h()?)),
             FormType::File => Ok(Spec::File(self.f()?)),
             FormType::Extension => Ok(Spec::Extension(self.e()?)),
+            FormType::Form => Ok(Spec::Form(self.l()?)),
             FormType::Input => Ok(Spec::Input(self.i()?)),
             FormType::Calculation => Ok(Spec::Calculation(self.c()?)),
             FormType::Output => Ok(Spec::Output(self.o()?)),
@@ -118,7 +129,7 @@ impl Card {
     }
 }
 
-/// Reads an H, F or E card into `spec`.
+/// Reads an H, F, E or L card into `spec`.
 #[inline(never)]
 fn read_description(spec: &mut Option<Spec>, card: &Card, sheet: FormType) -> Read<()>
     ensures { put spec.new result ≡ mapped (λ s. Some s) ((card_on sheet).reading card.now) }
@@ -127,6 +138,7 @@ fn read_description(spec: &mut Option<Spec>, card: &Card, sheet: FormType) -> Re
         FormType::Header => *spec = Some(Spec::Header(crate::header::header(card)?)),
         FormType::File => *spec = Some(Spec::File(crate::file::file(card)?)),
         FormType::Extension => *spec = Some(Spec::Extension(crate::extension::extension(card)?)),
+        FormType::Form => *spec = Some(Spec::Form(form_card(card)?)),
         _ => *spec = Some(card.read(sheet)?),
     }
     Ok(())

@@ -30,8 +30,8 @@ is_skipped card = all_blank card || bytes_eq (cols 7 7 card) (codes "*")
 -- a sheet by its letter
 abbrev pub form_type_of : List ℕ → Option FormType
 form_type_of = one_of (
-    (codes "H", form.Header) ∷ (codes "F", form.File) ∷ (codes "E", form.Extension) ∷ (codes "I", form.Input)
-    ∷ (codes "C", form.Calculation) ∷ (codes "O", form.Output) ∷ [])
+    (codes "H", form.Header) ∷ (codes "F", form.File) ∷ (codes "E", form.Extension) ∷ (codes "L", form.Form)
+    ∷ (codes "I", form.Input) ∷ (codes "C", form.Calculation) ∷ (codes "O", form.Output) ∷ [])
 
 -- the sheet of a card, by column 6
 abbrev pub form_type : List ℕ → Option FormType
@@ -50,6 +50,7 @@ abbrev pub sheet_place : FormType → ℕ
 sheet_place form.Header = 0
 sheet_place form.File = 1
 sheet_place form.Extension = 2
-sheet_place form.Input = 3
-sheet_place form.Calculation = 4
-sheet_place form.Output = 5
+sheet_place form.Form = 3
+sheet_place form.Input = 4
+sheet_place form.Calculation = 5
+sheet_place form.Output = 6

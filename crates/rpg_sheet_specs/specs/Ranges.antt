@@ -9,7 +9,6 @@ unfoldable pub columns_of : ColumnRange → ColumnFault
 -- F
 columns_of range.FileName = column_fault 7 14
 columns_of range.FileType = column_fault 15 15
-columns_of range.EndsJob = column_fault 17 17
 columns_of range.RecordLength = column_fault 24 27
 columns_of range.Device = column_fault 40 46
 -- E
@@ -21,6 +20,9 @@ columns_of range.EntryDecimals = column_fault 44 44
 columns_of range.AlternatingName = column_fault 46 51
 columns_of range.AlternatingLength = column_fault 52 54
 columns_of range.AlternatingDecimals = column_fault 56 56
+-- L
+columns_of range.FormFile = column_fault 7 14
+columns_of range.OverflowLine = column_fault 20 22
 -- I
 columns_of range.TypeFile = column_fault 7 14
 columns_of range.TypeIndicator = column_fault 19 20

@@ -9,13 +9,14 @@ use Rattle.rpg_sheet_specs.specs.declared.spec.Spec.{Spec}
 use Rattle.rpg_sheet_specs.specs.declared.spec.Spec.TheVariants as spec
 use Rattle.rpg_sheet_specs.specs.Cards.{begins_data, ends_source, form_type, is_sheet}
 use Rattle.rpg_sheet_specs.specs.Columns.{Columns, values, ◌⊛◌}
-use Rattle.rpg_sheet_specs.specs.Tables.{header, file, extension, input_card, calculation_card, output_card}
+use Rattle.rpg_sheet_specs.specs.Tables.{header, file, extension, form_card, input_card, calculation_card, output_card}
 
 -- a card on this sheet
 abbrev pub card_on : FormType → Columns Spec
 card_on form.Header = values spec.Header ⊛ header
 card_on form.File = values spec.File ⊛ file
 card_on form.Extension = values spec.Extension ⊛ extension
+card_on form.Form = values spec.Form ⊛ form_card
 card_on form.Input = values spec.Input ⊛ input_card
 card_on form.Calculation = values spec.Calculation ⊛ calculation_card
 card_on form.Output = values spec.Output ⊛ output_card

@@ -1,8 +1,9 @@
 -- The cards, one line for each range of columns: `⊛` a range that gives the next member of the spec, `⊘` one that only has to be valid.
 -- 1-5 and 75-80 are free on every card, and further columns if a sheet's headline says so.
-use Rattle.std.specs.Prelude.{ℕ, List, [], ◌∷◌, Bool, Option, None, Some, if◌then◌else◌, ◌&&◌, codes, map}
+use Rattle.std.specs.Prelude.{ℕ, List, [], ◌∷◌, Bool, Option, None, Some, if◌then◌else◌, ◌&&◌, codes, map, ◌+◌, ◌*◌, ◌==◌, ◌||◌, not, nat_lt}
+use Rattle.std.specs.Char.{is_ascii_digit}
 use Rattle.std.specs.Str.{bytes_eq}
-use Rattle.std.specs.Option.{option_map, option_or}
+use Rattle.std.specs.Option.{option_and_then, option_map, option_or}
 use Rattle.rpg_edit_marks.specs.declared.code.EditCode.{EditCode}
 use Rattle.rpg_sheet_specs.specs.declared.indicator.Three.{Three}
 use Rattle.rpg_sheet_specs.specs.declared.indicator.ConditionSpec.{ConditionSpec}
@@ -14,6 +15,7 @@ use Rattle.rpg_sheet_specs.specs.declared.file.Device.{Device}
 use Rattle.rpg_sheet_specs.specs.declared.file.Device.TheVariants as device
 use Rattle.rpg_sheet_specs.specs.declared.extension.TableSpec.{TableSpec}
 use Rattle.rpg_sheet_specs.specs.declared.extension.ExtensionSpec.{ExtensionSpec}
+use Rattle.rpg_sheet_specs.specs.declared.form.FormSpec.{FormSpec}
 use Rattle.rpg_sheet_specs.specs.declared.input.RecordCode.{RecordCode}
 use Rattle.rpg_sheet_specs.specs.declared.input.RecordType.{RecordType}
 use Rattle.rpg_sheet_specs.specs.declared.input.InputFieldSpec.{InputFieldSpec}
@@ -35,7 +37,7 @@ use Rattle.rpg_sheet_specs.specs.declared.output.OutputSpec.{OutputSpec}
 use Rattle.rpg_sheet_specs.specs.declared.output.OutputSpec.TheVariants as output
 use Rattle.rpg_sheet_specs.specs.Columns.{Columns, cols, values, at, at_with, blank, where_card, ◌⊛◌, ◌⊘◌}
 use Rattle.rpg_text.specs.Texts.{all_blank, is_between}
-use Rattle.rpg_sheet_specs.specs.Values.{one_of, only, unused, when, blank_or, marked, number, digits, name, letters, entry, quoted, factor, indicator, indicator_within, level, condition, record_code, edit_code}
+use Rattle.rpg_sheet_specs.specs.Values.{one_of, only, unused, when, blank_or, marked, number, number_within, digits, name, letters, entry, quoted, factor, indicator, indicator_within, level, condition, record_code, edit_code, digit_number}
 
 -- three in the order of their columns
 abbrev pub three : {X : Type 0} → X → X → X → Three X
@@ -83,11 +85,19 @@ overflow = where_card is_output_card (values (λ o. o) ⊛ at 33 34 (blank_or (i
 
 -- the overflow indicator of an output file
 unfoldable pub file_overflow : Columns (Option ℕ)
-file_overflow = values (λ o. o) ⊘ blank 28 32 ⊛ overflow ⊘ blank 35 39
+file_overflow = values (λ o. o) ⊘ blank 28 32 ⊛ overflow ⊘ blank 35 38
+
+-- column 15 has O, and 40-46 the printer
+abbrev pub is_printer_card : List ℕ → Bool
+is_printer_card card = is_output_card card && bytes_eq (cols 40 46 card) (codes "PRINTER")
+
+-- blank, or L on the printer's card
+unfoldable pub form_mark : List ℕ → List ℕ → Option Bool
+form_mark card text = option_and_then (λ h. when (not h || is_printer_card card) h) (marked (codes "L") text)
 
 -- the columns of an F card, in their order
-abbrev pub file_spec : List ℕ → FileRole → Bool → Bool → ℕ → Option ℕ → Device → FileSpec
-file_spec n r e a l o v = record { name = n; role = r; ends_job = e; ascending = a; record_length = l; overflow = o; device = v }
+abbrev pub file_spec : List ℕ → FileRole → Bool → Bool → ℕ → Option ℕ → Bool → Device → FileSpec
+file_spec n r e a l o h v = record { name = n; role = r; ends_job = e; ascending = a; record_length = l; overflow = o; has_form = h; device = v }
 
 -- an F card
 unfoldable pub file : Columns FileSpec
@@ -100,6 +110,7 @@ file = values file_spec
     ⊘ at 19 19 (only (codes "F"))
     ⊛ at 24 27 number
     ⊛ file_overflow
+    ⊛ at_with 39 39 form_mark
     ⊛ at 40 46 device_named
     ⊘ blank 47 74
 
@@ -142,6 +153,22 @@ extension = values extension_spec
     ⊛ at 44 44 (blank_or digits)
     ⊛ at 45 45 (marked (codes "A"))
     ⊛ alternating
+
+-- ---- L
+
+-- the columns of an L card, in their order
+abbrev pub form_spec : List ℕ → ℕ → ℕ → FormSpec
+form_spec n l o = record { file = n; lines = l; overflow_line = o }
+
+-- an L card
+unfoldable pub form_card : Columns FormSpec
+form_card = values form_spec
+    ⊛ at 7 14 (name 8)
+    ⊛ at 15 17 (number_within 3 112)
+    ⊘ at 18 19 (only (codes "FL"))
+    ⊛ at 20 22 (number_within 1 112)
+    ⊘ at 23 24 (only (codes "OL"))
+    ⊘ blank 25 74
 
 -- ---- I
 
@@ -291,14 +318,18 @@ line_time = one_of ((codes "H", time.Heading) ∷ (codes "D", time.Detail) ∷ (
 unfoldable pub space : List ℕ → Option ℕ
 space = one_of ((codes "0", 0) ∷ (codes "1", 1) ∷ (codes "2", 2) ∷ (codes "3", 3) ∷ [])
 
--- two digits, from 01 to 66
-abbrev pub skip_line : Option ℕ → Option ℕ
-skip_line None = None
-skip_line (Some n) = when (is_between 1 66 n) n
+-- 01 to 99; A0 to A9 for 100 to 109, B0 to B2 for 110 to 112
+abbrev pub line_spelled : ℕ → ℕ → Option ℕ
+line_spelled a b =
+    if is_ascii_digit a && is_ascii_digit b then when (nat_lt 0 (10 * digit_number a + digit_number b)) (10 * digit_number a + digit_number b)
+    else if (a == 65) && is_ascii_digit b then Some (100 + digit_number b)
+    else if (a == 66) && is_between 48 50 b then Some (110 + digit_number b)
+    else None
 
 -- the line to skip to
 unfoldable pub skip : List ℕ → Option ℕ
-skip text = skip_line (digits text)
+skip (a ∷ b ∷ []) = line_spelled a b
+skip _ = None
 
 -- the columns of spaces and skips, in their order
 abbrev pub movement_of : Option ℕ → Option ℕ → Option ℕ → Option ℕ → Movement

@@ -64,6 +64,10 @@ digits text = when (all_digits text) (digits_value 10 text)
 unfoldable pub number : List ℕ → Option ℕ
 number text = digits (right_part text)
 
+-- a number in these bounds
+unfoldable pub number_within : ℕ → ℕ → List ℕ → Option ℕ
+number_within low high text = option_and_then (λ n. when (is_between low high n) n) (number text)
+
 -- A to Z, and the characters that names have as letters: $ # @
 abbrev pub is_letter : ℕ → Bool
 is_letter c = is_ascii_uppercase c || (c == 36) || (c == 35) || (c == 64)

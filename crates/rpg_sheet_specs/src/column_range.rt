@@ -12,7 +12,6 @@ pub enum ColumnRange {
     // ---- F
     FileName,
     FileType,
-    EndsJob,
     RecordLength,
     Device,
 
@@ -25,6 +24,10 @@ pub enum ColumnRange {
     AlternatingName,
     AlternatingLength,
     AlternatingDecimals,
+
+    // ---- L
+    FormFile,
+    OverflowLine,
 
     // ---- I
     /// The file of a record type.
@@ -92,7 +95,6 @@ impl ColumnRange {
             ColumnRange::TypeFile => ranges::TYPE_FILE.fault(),
             ColumnRange::LineFile => ranges::LINE_FILE.fault(),
             ColumnRange::FileType => ranges::FILE_TYPE.fault(),
-            ColumnRange::EndsJob => ranges::ENDS_JOB.fault(),
             ColumnRange::RecordLength => ranges::RECORD_LENGTH.fault(),
             ColumnRange::Device => ranges::DEVICE.fault(),
             ColumnRange::TableName => ranges::TABLE_NAME.fault(),
@@ -103,6 +105,8 @@ impl ColumnRange {
             ColumnRange::AlternatingName => ranges::ALTERNATING_NAME.fault(),
             ColumnRange::AlternatingLength => ranges::ALTERNATING_LENGTH.fault(),
             ColumnRange::AlternatingDecimals => ranges::ALTERNATING_DECIMALS.fault(),
+            ColumnRange::FormFile => ranges::FORM_FILE.fault(),
+            ColumnRange::OverflowLine => ranges::OVERFLOW_LINE.fault(),
             ColumnRange::TypeIndicator => ranges::TYPE_INDICATOR.fault(),
             ColumnRange::SkipBefore => ranges::SKIP_BEFORE.fault(),
             ColumnRange::FirstCode => ranges::FIRST_CODE.fault(),

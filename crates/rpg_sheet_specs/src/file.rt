@@ -32,5 +32,7 @@ pub struct FileSpec {
     pub record_length: u16,
     /// The indicator of a full page, OA to OG (112 to 118) or OV (119).
     pub overflow: Option<Within<112, 119>>,
+    /// L: an L card describes the pages of its form.
+    pub has_form: bool,
     pub device: Device,
 }

@@ -24,8 +24,8 @@ pub struct Movement {
     pub space_before: Option<Within<0, 3>>,
     pub space_after: Option<Within<0, 3>>,
     /// Lines to skip to.
-    pub skip_before: Option<Within<1, 66>>,
-    pub skip_after: Option<Within<1, 66>>,
+    pub skip_before: Option<Within<1, 112>>,
+    pub skip_after: Option<Within<1, 112>>,
 }
 
 /// A line.

@@ -26,7 +26,9 @@ pub const BEFORE_OVERFLOW: CardColumns<5> = CardColumns { first: 28 };
 
 pub const OVERFLOW: CardColumns<2> = CardColumns { first: 33 };
 
-pub const AFTER_OVERFLOW: CardColumns<5> = CardColumns { first: 35 };
+pub const AFTER_OVERFLOW: CardColumns<4> = CardColumns { first: 35 };
+
+pub const HAS_FORM: CardColumns<1> = CardColumns { first: 39 };
 
 pub const DEVICE: CardColumns<7> = CardColumns { first: 40 };
 
@@ -62,6 +64,20 @@ pub const ALTERNATING_FORMAT: CardColumns<1> = CardColumns { first: 55 };
 pub const ALTERNATING_DECIMALS: CardColumns<1> = CardColumns { first: 56 };
 
 pub const ALTERNATING_SEQUENCE: CardColumns<1> = CardColumns { first: 57 };
+
+// ---- L
+
+pub const FORM_FILE: CardColumns<8> = CardColumns { first: 7 };
+
+pub const FORM_LINES: CardColumns<3> = CardColumns { first: 15 };
+
+pub const LINES_WORD: CardColumns<2> = CardColumns { first: 18 };
+
+pub const OVERFLOW_LINE: CardColumns<3> = CardColumns { first: 20 };
+
+pub const OVERFLOW_WORD: CardColumns<2> = CardColumns { first: 23 };
+
+pub const AFTER_FORM: CardColumns<50> = CardColumns { first: 25 };
 
 // ---- I and O
 

@@ -6,6 +6,8 @@ ghost use Rattle.std.specs.Char.{is_ascii_digit};
 ghost use Rattle.std.specs.Str.Parse.{digits_value_after};
 ghost use Rattle.rpg_sheet_specs.specs.Values as values;
 
+use rpg_sheet_specs::Within;
+
 /// Returns a text without its leading blanks.
 fn right_part(text: &[u8]) -> &[u8]
     ensures { result.now ≡ values.right_part text.now }
@@ -54,6 +56,20 @@ pub fn number(text: &[u8]) -> Option<u16>
     ensures { result ≡ values.number text.now }
 {
     digits(right_part(text))
+}
+
+/// Reads a number within these bounds, in four columns at most.
+#[tactic(auto, unfolding(rpg_sheet_specs::specs::Values::number_within))]
+pub fn number_within<const FIRST: u8, const LAST: u8>(text: &[u8]) -> Option<Within<FIRST, LAST>>
+    requires { length text.now ≤ 4 }
+    ensures { result ≡ values.number_within FIRST LAST text.now }
+{
+    let number = number(text)?;
+    if u16::from(FIRST) <= number && number <= u16::from(LAST) {
+        Some(Within::new(number as u8))
+    } else {
+        None
+    }
 }
 
 /// Reads one digit.

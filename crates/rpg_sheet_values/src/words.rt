@@ -1,6 +1,6 @@
 //! Words that each mean one of a few things.
 
-ghost use Rattle.std.specs.Prelude.{◌≡◌, [], ◌∷◌, codes, if◌then◌else◌, length, Some};
+ghost use Rattle.std.specs.Prelude.{◌≡◌, [], ◌∷◌, codes, if◌then◌else◌, Some};
 ghost use Rattle.std.specs.Str.{bytes_eq};
 ghost use Rattle.rpg_sheet_specs.specs.Cards as cards;
 ghost use Rattle.rpg_sheet_specs.specs.Tables as tables;
@@ -8,7 +8,6 @@ ghost use Rattle.rpg_sheet_specs.specs.Values as values;
 ghost use Rattle.rpg_sheet_specs.specs.declared.file.FileRole.TheVariants as roles;
 
 use crate::indicators::indicator_within;
-use crate::numbers::digits;
 use rpg_sheet_specs::{ControlLevel, Device, FileRole, FormType, LineTime, Operation, Within};
 
 /// Whether a text is this word.
@@ -26,6 +25,7 @@ pub fn form_type_of(text: &[u8]) -> Option<FormType>
         b"H" => Some(FormType::Header),
         b"F" => Some(FormType::File),
         b"E" => Some(FormType::Extension),
+        b"L" => Some(FormType::Form),
         b"I" => Some(FormType::Input),
         b"C" => Some(FormType::Calculation),
         b"O" => Some(FormType::Output),
@@ -126,14 +126,24 @@ pub fn space(text: &[u8]) -> Option<Within<0, 3>>
 
 /// Reads the line that the form skips to.
 #[tactic(auto, unfolding(rpg_sheet_specs::specs::Tables::skip))]
-pub fn skip(text: &[u8]) -> Option<Within<1, 66>>
-    requires { length text.now ≡ 2 }
+pub fn skip(text: &[u8]) -> Option<Within<1, 112>>
     ensures { result ≡ tables.skip text.now }
 {
-    let line = digits(text)?;
-    if 1 <= line && line <= 66 {
-        Some(Within::new(line as u8))
-    } else {
-        None
+    match text {
+        [first, second] => line_spelled(*first, *second),
+        _ => None,
+    }
+}
+
+/// Returns the line with these two characters.
+fn line_spelled(first: u8, second: u8) -> Option<Within<1, 112>>
+    ensures { result ≡ tables.line_spelled first second }
+{
+    match (first, second) {
+        (b'0', b'0') => None,
+        (b'0'..=b'9', b'0'..=b'9') => Some(Within::new(10 * (first - b'0') + (second - b'0'))),
+        (b'A', b'0'..=b'9') => Some(Within::new(100 + (second - b'0'))),
+        (b'B', b'0'..=b'2') => Some(Within::new(110 + (second - b'0'))),
+        _ => None,
     }
 }
