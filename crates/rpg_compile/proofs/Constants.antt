@@ -66,6 +66,7 @@ on_card : (s : Spec) → IsInRange s → Each IsConstant (constants_on s)
 on_card (spec.Header x) h = tt
 on_card (spec.File x) h = tt
 on_card (spec.Extension x) h = tt
+on_card (spec.Form x) h = tt
 on_card (spec.Input x) h = tt
 on_card (spec.Calculation k) h =
     let first = option_to_list (option_and_then factor_constant k.factor_1) in

@@ -49,6 +49,7 @@ field_on : (s : Spec) (o : OutputSpec) → output_role s ≡ Follower o → outp
 field_on (spec.Header x) o e = absurd cc
 field_on (spec.File x) o e = absurd cc
 field_on (spec.Extension x) o e = absurd cc
+field_on (spec.Form x) o e = absurd cc
 field_on (spec.Input x) o e = absurd cc
 field_on (spec.Calculation x) o e = absurd cc
 field_on (spec.Data x) o e = absurd cc

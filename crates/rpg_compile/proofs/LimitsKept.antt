@@ -4,7 +4,7 @@ use Rattle.rpg_compile.proofs.Kept as accepted
 use Rattle.rpg_cards.specs.declared.spec_card.SpecCard.{SpecCard}
 use Rattle.rpg_faults.specs.Faults.{Faultless}
 use Rattle.rpg_compile.proofs.Fields.{fields_kept}
-use Rattle.rpg_compile.proofs.Files.{overflow_kept}
+use Rattle.rpg_compile.proofs.Files.{ends_kept, overflow_kept, page_kept}
 use Rattle.rpg_compile.proofs.Lines.{few_lines, lines_within}
 use Rattle.rpg_compile.proofs.SectionLimits.{few_instructions, few_subroutines}
 use Rattle.rpg_compile.proofs.Totals.{fields_within, name_storage_within, names_within, storage_within}
@@ -24,6 +24,8 @@ keeps_limits cards none few ranges =
       widest_line = widest_line cards rules;
       longest_disk_record = longest_disk_record cards rules;
       overflow = overflow_kept cards ranges;
+      page = page_kept cards rules ranges;
+      ends = ends_kept cards rules;
       names = names_within cards rules;
       few_fields = fields_within cards rules;
       fields = fields_kept cards ranges;

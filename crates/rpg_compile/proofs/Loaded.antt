@@ -44,6 +44,7 @@ data_fits : (s : Spec) → IsInRange s → ForSome (data_on s) IsData
 data_fits (spec.Header x) h d e = absurd cc
 data_fits (spec.File x) h d e = absurd cc
 data_fits (spec.Extension x) h d e = absurd cc
+data_fits (spec.Form x) h d e = absurd cc
 data_fits (spec.Input x) h d e = absurd cc
 data_fits (spec.Calculation x) h d e = absurd cc
 data_fits (spec.Output x) h d e = absurd cc
@@ -141,6 +142,7 @@ tables_named cards (spec.Extension x) e is named formed =
   where
     front : (P : Definition → Type 0) → Each P (definitions_on (spec.Extension x)) → Each P (map (definition_in x) (tables_on x))
     front P h = let ds = map (definition_in x) (tables_on x) in each_front P ds [] (each_front P (ds ++ []) [] (each_front P ((ds ++ []) ++ []) [] h))
+tables_named cards (spec.Form x) e is named formed = absurd cc
 tables_named cards (spec.Input x) e is named formed = absurd cc
 tables_named cards (spec.Calculation x) e is named formed = absurd cc
 tables_named cards (spec.Output x) e is named formed = absurd cc

@@ -1,12 +1,12 @@
--- The version of the program of cards: one without a secondary file and match fields is of version 1, and has neither.
+-- The version of the program of cards: what a version doesn't have, its program doesn't have.
 use Rattle.std.proofs.Common.{◌≡◌, ℕ, Bool, true, false, cond, List, [], ◌∷◌, map, Option, None, Some, refl, sym, ap, ◌∙◌}
-use Rattle.std.proofs.lemmas.Bool.{or_parts}
+use Rattle.std.proofs.lemmas.Bool.{and_parts, eqb-true, not-false, or_parts}
 use Rattle.std.specs.List.{cons_option, list_any}
 use Rattle.std.specs.Option.{option_map, option_map_or}
 use Rattle.std.specs.Prelude.{find, is_some, nat_eq}
 use Rattle.std.specs.Cmp.Lexicographic.{pointwise}
 use Rattle.rpg_cards.specs.Cards.{input_field_on}
-use Rattle.rpg_cards.specs.Files.{file_by, file_for, file_named, file_use, files, same_use}
+use Rattle.rpg_cards.specs.Files.{ending_file, file_by, file_for, file_named, file_use, files, page_of, same_use}
 use Rattle.rpg_cards.specs.Groups.{Group, groups, input_role}
 use Rattle.rpg_cards.specs.Keys.{Key}
 use Rattle.rpg_cards.specs.Levels.{has_match_field, is_match_card, is_match_field}
@@ -18,12 +18,15 @@ use Rattle.rpg_compile_program.proofs.InputTypes.{follower_on}
 use Rattle.rpg_compile_program.proofs.Matched.{Rows}
 use Rattle.rpg_compile_program.proofs.OpenGroups.{HasValid, InGroup, each_valid}
 use Rattle.rpg_compile_program.specs.Lines.{record_length_of}
-use Rattle.rpg_compile_program.specs.Program.{key_numbers, program_of, types_of, version_for, version_with}
+use Rattle.rpg_compile_program.specs.Program.{is_standard, key_numbers, needs_page, program_of, types_of, version_for, version_with}
 use Rattle.rpg_compile_program.specs.Types.{card_type, control_field, file_read, input_fields_in, input_file}
+use Rattle.rpg_paper.specs.Paper.{standard_page}
+use Rattle.rpg_paper.specs.declared.form.Page.{Page}
+use Rattle.rpg_program.specs.declared.input.InputFile.{InputFile}
 use Rattle.rpg_program.specs.declared.input.InputFile.TheVariants as input_file_of
 use Rattle.rpg_program.specs.Naming.{renamed_type}
-use Rattle.rpg_program.specs.Kept.{IsPlain, IsPlainType}
-use Rattle.rpg_program.specs.declared.rows.Version.TheVariants as versions
+use Rattle.rpg_program.specs.Kept.{IsPlain, IsPlainType, IsStandard}
+use Rattle.rpg_program.specs.Object.{has_page, has_secondary}
 use Rattle.rpg_sheet_specs.specs.declared.file.FileSpec.{FileSpec}
 use Rattle.rpg_sheet_specs.specs.declared.input.InputFieldSpec.{InputFieldSpec}
 use Rattle.rpg_sheet_specs.specs.declared.input.InputSpec.{InputSpec}
@@ -80,16 +83,40 @@ each_none (c ∷ cs) e =
     let both = or_parts (is_match_card c) (list_any is_match_card cs) e in
     ((λ i role f same. sym (ap (λ s. option_map_or is_match_field (input_field_on s) false) (follower_on c.spec i role ∙ ap spec.Input same)) ∙ both.0), each_none cs both.1)
 
+-- ---- no page of its own
+
+no_page : (p s m : Bool) → has_page (version_with p s m) ≡ false → p ≡ false
+no_page true s m e = absurd cc
+no_page false s m e = refl
+
+pages_same : (page : Page) → is_standard page ≡ true → page ≡ standard_page
+pages_same page e =
+    let both = and_parts _ _ e in
+    let lines : page.lines ≡ 66 = eqb-true _ _ both.0 in
+    let line : page.overflow_line ≡ 60 = eqb-true _ _ both.1 in
+    λ i. record { lines = lines i; overflow_line = line i }
+
+none_ends : (o : Option InputFile) → is_some o ≡ false → o ≡ None
+none_ends None e = refl
+none_ends (Some f) e = absurd cc
+
+pub standard : (cards : List SpecCard) → has_page (version_for cards) ≡ false → (allowance : ℕ) → IsStandard (program_of cards allowance)
+unfolding program_of
+standard cards old allowance =
+    let both = or_parts _ _ (no_page (needs_page (page_of cards) (ending_file cards)) (is_some (file_for Secondary cards)) (has_match_field cards) old) in
+    record { page = pages_same (page_of cards) (not-false _ both.0); ends = none_ends (ending_file cards) both.1 }
+
 -- ---- version 1
 
-neither : (a b : Bool) → version_with a b ≡ versions.One → (a ≡ false) × (b ≡ false)
-neither true b e = absurd cc
-neither false true e = absurd cc
-neither false false e = (refl, refl)
+neither : (p s m : Bool) → has_secondary (version_with p s m) ≡ false → (s ≡ false) × (m ≡ false)
+neither true s m e = absurd cc
+neither false true m e = absurd cc
+neither false false true e = absurd cc
+neither false false false e = (refl, refl)
 
-module _ (cards : List SpecCard) (first : version_for cards ≡ versions.One) where
+module _ (cards : List SpecCard) (first : has_secondary (version_for cards) ≡ false) where
   both : (is_some (file_for Secondary cards) ≡ false) × (has_match_field cards ≡ false)
-  both = neither (is_some (file_for Secondary cards)) (has_match_field cards) first
+  both = neither (needs_page (page_of cards) (ending_file cards)) (is_some (file_for Secondary cards)) (has_match_field cards) first
 
   no_length : (o : Option FileSpec) → is_some o ≡ false → record_length_of o ≡ 0
   no_length None e = refl

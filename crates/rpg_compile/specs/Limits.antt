@@ -1,15 +1,16 @@
 -- The limits of the object format, for the program that cards compile to.
-use Rattle.std.specs.Prelude.{ℕ, ◌+◌, ◌≤◌, List, All, length}
+use Rattle.std.specs.Prelude.{◌≡◌, ℕ, ◌+◌, ◌≤◌, List, All, None, length}
 use Rattle.std.specs.Option.{ForSome, option_and_then}
 use Rattle.rpg_cards.specs.Calculations.{calculations}
 use Rattle.rpg_cards.specs.Plain.{ArePlain}
 use Rattle.rpg_cards.specs.Sections.{sections_of}
 use Rattle.rpg_cards.specs.Constants.{constants}
-use Rattle.rpg_cards.specs.Files.{file_for}
+use Rattle.rpg_cards.specs.Files.{ending_file, file_for, page_of}
 use Rattle.rpg_cards.specs.declared.files.FileUse.TheVariants as uses
 use Rattle.rpg_cards.specs.declared.spec_card.SpecCard.{SpecCard}
 use Rattle.rpg_compile_layouts.specs.Rows.{rows_of}
 use Rattle.rpg_compile_layouts.specs.Within.{IsLineWithin, IsTypeWithin}
+use Rattle.rpg_paper.specs.Paper.{IsPage}
 use Rattle.rpg_program.specs.Kept.{AreValuesOf, IsFieldRow, IsOverflowIndicator, storage_of}
 use Rattle.rpg_faults_flow.specs.Kept.{KeepsRule}
 use Rattle.rpg_faults_limits.specs.Names.{bad_size}
@@ -31,6 +32,8 @@ pub record KeepsLimits (cards : List SpecCard) : Type 0 where
   pub widest_line : record_length_of (file_for uses.Printer cards) ≤ 132
   pub longest_disk_record : record_length_of (file_for uses.Disk cards) ≤ 9999
   pub overflow : ForSome (option_and_then (λ f. f.overflow) (file_for uses.Printer cards)) IsOverflowIndicator
+  pub page : IsPage (page_of cards)
+  pub ends : record_length_of (file_for uses.Secondary cards) ≡ 0 → ending_file cards ≡ None
   -- ---- fields
   pub names : length (defined_fields cards) + length (constants cards) ≤ 4000
   pub few_fields : length (forms (table_of cards)) ≤ 4000

@@ -14,11 +14,13 @@ use crate::{
     faultless_sources_keep_limits,
 };
 use rpg_card_index::IndexedCards;
-use rpg_cards::FileUse;
+use rpg_cards::{FileUse, ending_file};
 use rpg_compile_layouts::{lines_of, types_of};
 use rpg_compile_program::{Fields, fields_of};
+use rpg_paper::Page;
 use rpg_program::Program;
-use rpg_program::rows::{Rows, Version};
+use rpg_program::input::InputFile;
+use rpg_program::rows::{Overflow, Rows, Version};
 use rpg_sheet_specs::FileSpec;
 use std::alloc::{AllocError, Global};
 
@@ -63,14 +65,17 @@ fn program_of(alloc: Global, source: &IndexedCards, allowance: u16) -> Result<Pr
     } = section_rows(alloc, &table, cards)?;
     let secondary = source.file_for(FileUse::Secondary);
     let printer = source.file_for(FileUse::Printer);
+    let page = source.page();
+    let ends = ending_file(cards);
     Ok(Program::build(Rows {
-        version: version_for(secondary, source.has_match_field()),
+        version: version_for(needs_page(page, ends), secondary, source.has_match_field()),
         allowance,
         record_length: length_of(source.file_for(FileUse::Primary)),
         secondary_length: length_of(secondary),
         printer_length: length_of(printer),
         disk_length: length_of(source.file_for(FileUse::Disk)),
-        overflow: overflow_of(printer),
+        overflow: overflow_of(printer, page),
+        ends,
         fields,
         values,
         types,
@@ -81,11 +86,21 @@ fn program_of(alloc: Global, source: &IndexedCards, allowance: u16) -> Result<Pr
     }))
 }
 
-/// The version of a program: 2 with a secondary file or match fields, else 1.
-fn version_for(secondary: Option<&FileSpec>, has_match_field: bool) -> Version
-    ensures { result ≡ programs.version_with (is_some (option_copied secondary.entry)) has_match_field }
+/// Whether only version 3 has this page and this ending file.
+fn needs_page(page: Page, ends: Option<InputFile>) -> bool
+    ensures { result ≡ programs.needs_page page ends }
+{
+    let standard = Page::standard();
+    let is_standard = page.lines == standard.lines && page.overflow_line == standard.overflow_line;
+    !is_standard || ends.is_some()
+}
+
+/// The version of a program: 3 if it needs that, 2 with a secondary file or match fields, else 1.
+fn version_for(needs_page: bool, secondary: Option<&FileSpec>, has_match_field: bool) -> Version
+    ensures { result ≡ programs.version_with needs_page (is_some (option_copied secondary.entry)) has_match_field }
 {
     match secondary {
+        _ if needs_page => Version::Three,
         Some(_) => Version::Two,
         None if has_match_field => Version::Two,
         None => Version::One,
@@ -102,9 +117,13 @@ fn length_of(file: Option<&FileSpec>) -> u16
     }
 }
 
-/// The indicator that a full page of the file turns on.
-fn overflow_of(file: Option<&FileSpec>) -> Option<u8>
-    ensures { result ≡ option_and_then (λ f. f.overflow) (option_copied file.entry) }
+/// The page, with the indicator of the file that a full one turns on.
+fn overflow_of(file: Option<&FileSpec>, page: Page) -> Overflow
+    ensures { result ≡ record { indicator = option_and_then (λ f. f.overflow) (option_copied file.entry); page = page } }
 {
-    file?.overflow.map(|indicator| indicator.number())
+    let indicator = match file {
+        Some(file) => file.overflow.map(|indicator| indicator.number()),
+        None => None,
+    };
+    Overflow { indicator, page }
 }

@@ -48,7 +48,7 @@ fn spaces(number: Option<Within<0, 3>>) -> u8
 }
 
 /// Returns the line to skip to, 0 for none.
-fn line(number: Option<Within<1, 66>>) -> u8
+fn line(number: Option<Within<1, 112>>) -> u8
     ensures { result ≡ unwrap_or number 0 }
 {
     match number {

@@ -17,7 +17,7 @@ use Rattle.rpg_verify_rules.specs.declared.rule.SubroutineRule.TheVariants.{V23,
 use Rattle.rpg_compile_program.proofs.Calculations as calculations
 use Rattle.rpg_compile_program.proofs.Flow.{calls_kept, levels_kept, returns_kept, targets_kept}
 use Rattle.rpg_compile_program.proofs.Known.{name_valid, name_known}
-use Rattle.rpg_compile_program.proofs.Lists.{Seen, or_second}
+use Rattle.rpg_compile_program.proofs.Lists.{Seen, or_first, or_second}
 use Rattle.rpg_compile_program.proofs.OutputLines as lines
 use Rattle.rpg_compile_program.proofs.Settings.{overflow_kept}
 use Rattle.rpg_compile_program.proofs.Types.{types_kept}
@@ -29,7 +29,10 @@ module _ (cards : List SpecCard) (allowance : ℕ) (rules : KeepsCardRules cards
   ends_inside : Seen cards (λ before c after. lines.ends_outside cards before c ≡ false)
   ends_inside before c after split =
       or_second (option_map_or (λ i. outside_on_input (file_by (own_file before i) cards) i || joins_badly before after i) (input_on c.spec) false)
-      (option_map_or (outside_line cards (file_by (open_file output_role before) cards)) (output_field_on c.spec) false) (rules.f16 before c after split)
+      (option_map_or (outside_line cards (file_by (open_file output_role before) cards)) (output_field_on c.spec) false) (or_first _ _ (rules.f16 before c after split))
+
+  skips_inside : Seen cards (λ before c after. lines.skips_outside cards before c ≡ false)
+  skips_inside before c after split = or_second _ (lines.skips_outside cards before c) (rules.f16 before c after split)
 
   lines_fit : lines.AreFit cards allowance
   lines_fit = record {
@@ -45,6 +48,7 @@ module _ (cards : List SpecCard) (allowance : ℕ) (rules : KeepsCardRules cards
     columns = rules.f9_operands;
     editing = rules.f17;
     ends = ends_inside;
+    skips = skips_inside;
   }
 
   calculations_fit : calculations.AreFit cards allowance

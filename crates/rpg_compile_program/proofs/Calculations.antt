@@ -58,6 +58,7 @@ ranges_on : (s : Spec) (k : CalculationSpec) → calculation_on s ≡ Some k →
 ranges_on (spec.Header h) k is range = cc
 ranges_on (spec.File f) k is range = cc
 ranges_on (spec.Extension e) k is range = cc
+ranges_on (spec.Form h) k is range = cc
 ranges_on (spec.Input i) k is range = cc
 ranges_on (spec.Calculation j) k is range = let same : j ≡ k = cc in subst IsCalculation same range
 ranges_on (spec.Output o) k is range = cc
@@ -67,6 +68,7 @@ indicators_on : (cards : List SpecCard) (s : Spec) (k : CalculationSpec) → cal
 indicators_on cards (spec.Header h) k is right = cc
 indicators_on cards (spec.File f) k is right = cc
 indicators_on cards (spec.Extension e) k is right = cc
+indicators_on cards (spec.Form h) k is right = cc
 indicators_on cards (spec.Input i) k is right = cc
 indicators_on cards (spec.Calculation j) k is right = let same : j ≡ k = cc in subst (λ x. bad_on_calculation cards x ≡ false) same right
 indicators_on cards (spec.Output o) k is right = cc

@@ -6,7 +6,7 @@ use Rattle.std.specs.Option.{ForSome, option_map_or}
 use Rattle.std.specs.Prelude.{is_some, nat_le, ◌==◌}
 use Rattle.rpg_cards.specs.Calculations.{alternatives, awaited_level, condition_of, conditions_on, depends, in_places, is_or, tests_on}
 use Rattle.rpg_cards.specs.Statements.{shows_of}
-use Rattle.rpg_cards.specs.Files.{file_for}
+use Rattle.rpg_cards.specs.Files.{ending_file, file_for, page_of}
 use Rattle.rpg_cards.specs.Levels.{has_match_field}
 use Rattle.rpg_cards.specs.Plain.{Each}
 use Rattle.rpg_cards.specs.declared.files.FileUse.TheVariants.{Secondary}
@@ -25,7 +25,7 @@ use Rattle.rpg_sheet_specs.specs.declared.calculation.ControlLevel.{ControlLevel
 use Rattle.rpg_sheet_specs.specs.declared.calculation.ControlLevel.TheVariants as control
 use Rattle.rpg_sheet_specs.specs.declared.indicator.ConditionSpec as sheet
 use Rattle.rpg_sheet_specs.specs.declared.indicator.Three.{Three}
-use Rattle.rpg_compile_program.specs.Program.{version_for}
+use Rattle.rpg_compile_program.specs.Program.{needs_page, version_for, version_with}
 use Rattle.rpg_compile_program.specs.Ranges.{InThree, IsCondition, IsControl}
 
 -- ---- resulting indicators
@@ -62,19 +62,21 @@ all_settable t right range =
 pub low_is_testable : (v : Version) (n : ℕ) → n ≤ 128 → nat_le n (highest_testable v) ≡ true
 low_is_testable versions.One n low = le-leb n 128 low
 low_is_testable versions.Two n low = le-leb n 129 (omega arith)
+low_is_testable versions.Three n low = le-leb n 129 (omega arith)
 
 -- what F8 doesn't bar may be tested in the program's version
 pub testable_number : (cards : List SpecCard) (n : ℕ) → is_barred_mr cards n ≡ false → n ≤ 129 → nat_le n (highest_testable (version_for cards)) ≡ true
-testable_number cards n right within = by (is_some (file_for Secondary cards)) (has_match_field cards) right
+testable_number cards n right within = by (needs_page (page_of cards) (ending_file cards)) (is_some (file_for Secondary cards)) (has_match_field cards) right
   where
     not_mr : (b : Bool) → (b && true) ≡ false → b ≡ false
     not_mr true h = h
     not_mr false h = refl
 
-    by : (a b : Bool) → ((n == 129) && not b) ≡ false → nat_le n (highest_testable (cond (a || b) versions.Two versions.One)) ≡ true
-    by true b h = le-leb n 129 within
-    by false true h = le-leb n 129 within
-    by false false h = let other : n ≢ 129 = eqb-false n 129 (not_mr (n == 129) h) in le-leb n 128 (omega arith)
+    by : (p a b : Bool) → ((n == 129) && not b) ≡ false → nat_le n (highest_testable (version_with p a b)) ≡ true
+    by true a b h = le-leb n 129 within
+    by false true b h = le-leb n 129 within
+    by false false true h = le-leb n 129 within
+    by false false false h = let other : n ≢ 129 = eqb-false n 129 (not_mr (n == 129) h) in le-leb n 128 (omega arith)
 
 module _ (v : Version) where
   abbrev is_testable_if_any : Option sheet.ConditionSpec → Bool

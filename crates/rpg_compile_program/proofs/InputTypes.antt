@@ -58,6 +58,7 @@ follower_on (spec.Extension x) i e = cc
 follower_on (spec.Calculation x) i e = cc
 follower_on (spec.Output x) i e = cc
 follower_on (spec.Data x) i e = cc
+follower_on (spec.Form x) i e = cc
 follower_on (spec.Input (input.Type t)) i e = cc
 follower_on (spec.Input (input.And cs)) i e = let same : input.And cs ≡ i = cc in ap spec.Input same
 follower_on (spec.Input (input.Field f)) i e = let same : input.Field f ≡ i = cc in ap spec.Input same
@@ -73,6 +74,7 @@ heading_on (spec.Extension x) t name e = cc
 heading_on (spec.Calculation x) t name e = cc
 heading_on (spec.Output x) t name e = cc
 heading_on (spec.Data x) t name e = cc
+heading_on (spec.Form x) t name e = cc
 heading_on (spec.Input (input.And cs)) t name e = cc
 heading_on (spec.Input (input.Field f)) t name e = cc
 heading_on (spec.Input (input.Type u)) t name e =
@@ -232,7 +234,7 @@ module _ (cards : List SpecCard) (rules : KeepsCardRules cards) (ranges : AreCar
   type_named before c after t split is =
       sym (ap (λ s. option_map_or (λ (t : RecordType). lacks_file cards is_input (is_some (open_group input_role before)) t.file) (type_on s) false) is)
       ∙ or_second (option_map_or (bad_file before) (file_on c.spec) false) (option_map_or (λ (t : RecordType). lacks_file cards is_input (is_some (open_group input_role before)) t.file) (type_on c.spec) false)
-      (or_first _ (option_map_or (λ r. lacks_file cards is_output (is_some (open_group output_role before)) r.file) (output_record_on c.spec) false) (rules.f7 before c after split))
+      (or_first _ (option_map_or (λ r. lacks_file cards is_output (is_some (open_group output_role before)) r.file) (output_record_on c.spec) false) (or_first _ _ (rules.f7 before c after split)))
 
   pub heads : filed.Heads cards input_role HasFile IsTypeValid IsInputValid
   heads before c after t name split role known =

@@ -30,7 +30,7 @@ module _ (cards : List SpecCard) (rules : KeepsCardRules cards) where
   pub input_kept : Seen cards (λ before c after. option_map_or (λ i. outside_on_input (file_by (own_file before i) cards) i || joins_badly before after i) (input_on c.spec) false ≡ false)
   input_kept before c after split =
       or_first (option_map_or (λ i. outside_on_input (file_by (own_file before i) cards) i || joins_badly before after i) (input_on c.spec) false)
-      (option_map_or (outside_line cards (file_by (open_file output_role before) cards)) (output_field_on c.spec) false) (rules.f16 before c after split)
+      (option_map_or (outside_line cards (file_by (open_file output_role before) cards)) (output_field_on c.spec) false) (or_first _ _ (rules.f16 before c after split))
 
   not_turned : (o : Option InputSpec) (before after : List SpecCard) → option_map_or (λ i. outside_on_input (file_by (own_file before i) cards) i || joins_badly before after i) o false ≡ false
       → option_map_or is_turned (option_and_then input_field_in o) false ≡ false

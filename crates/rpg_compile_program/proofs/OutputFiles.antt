@@ -40,8 +40,7 @@ module _ (cards : List SpecCard)
   first_is before c after f split is =
       let valid : bad_file before f ≡ false = subst (λ (o : Option FileSpec). option_map_or (bad_file before) o false ≡ false) is (fit before c after split) in
       let two = or_parts _ _ valid in
-      let three = or_parts _ _ two.0 in
-      let one = or_parts _ _ three.0 in
+      let one = or_parts _ _ two.0 in
       let alone = none_if (file_for (file_use f) before) one.1 in
       let test = λ (g : FileSpec). same_use (file_use f) (file_use g) in
       let here : find test (files (c ∷ after)) ≡ Some f =

@@ -10,7 +10,7 @@ use Rattle.rpg_cards.specs.Keys.{Fixed, Key}
 use Rattle.rpg_cards.specs.Plain.{Each}
 use Rattle.rpg_cards.specs.Cards.{calculation_on, file_on, output_field_in, output_field_on, output_on, output_record_in, output_record_on}
 use Rattle.rpg_cards.specs.Constants.{constant_form, constants, constants_on, factor_constant, is_same, text_constant}
-use Rattle.rpg_cards.specs.Files.{file_by, file_for, file_use, is_output, same_use}
+use Rattle.rpg_cards.specs.Files.{file_by, file_for, file_use, is_output, page_of, same_use}
 use Rattle.rpg_cards.specs.Groups.{Follower, Group, Heading, groups, open_file, open_group, output_role}
 use Rattle.rpg_cards.specs.declared.constants.Constant.TheVariants as constant
 use Rattle.rpg_cards.specs.declared.files.FileUse.{FileUse}
@@ -25,6 +25,7 @@ use Rattle.rpg_faults_operands.specs.Indexes.{bad_index, bad_index_of}
 use Rattle.rpg_faults_operands.specs.Kinds.{wrong_in_output, wrong_operand}
 use Rattle.rpg_faults_operands.specs.Names.{lacks_name, names_nothing}
 use Rattle.rpg_faults_operands.specs.Operands.{Operand, operands_ending, operands_listed, output_operand, output_operand_on}
+use Rattle.rpg_paper.specs.declared.form.Page.{Page}
 use Rattle.rpg_program.specs.Forms.{form_at, has_field, length_of}
 use Rattle.rpg_program.specs.LineFaults.{KeepsFieldRules, fits_editing}
 use Rattle.rpg_program.specs.declared.condition.Condition.{Condition}
@@ -35,7 +36,7 @@ use Rattle.rpg_program.specs.declared.line.File.{File}
 use Rattle.rpg_program.specs.declared.line.File.TheVariants as put
 use Rattle.rpg_program.specs.declared.line.LineField.{LineField}
 use Rattle.rpg_edit_marks.specs.declared.code.Fill.{Fill}
-use Rattle.rpg_faults_places.specs.Places.{is_past, outside_line}
+use Rattle.rpg_faults_places.specs.Places.{is_past, is_skip_past, outside_line, outside_page, skips_past}
 use Rattle.rpg_program.specs.Constants.{word_at}
 use Rattle.rpg_program.specs.Object.{Object, file_length}
 use Rattle.rpg_program.proofs.Renaming.Lines.{keeps_same}
@@ -61,7 +62,7 @@ use Rattle.rpg_compile_program.proofs.Words.{words_same}
 use Rattle.rpg_compile_program.specs.Lines.{line_alternatives, file_put, is_unmoved, line_field_of, card_line, output_fields_in, put_length, output_file, spacing_of}
 use Rattle.rpg_compile_program.specs.Lines as words
 use Rattle.rpg_compile_program.specs.Program.{key_numbers, numbered_line, program_of, version_for}
-use Rattle.rpg_compile_program.specs.Ranges.{AreCards, InThree, IsCard, IsCondition, IsInRange, IsLine, IsMovement, IsOutput, IsOutputField, IsSkip, IsSpace}
+use Rattle.rpg_compile_program.specs.Ranges.{AreCards, InThree, IsCard, IsCondition, IsInRange, IsLine, IsMovement, IsOutput, IsOutputField, IsSpace}
 use Rattle.rpg_compile_program.specs.Table.{key_form, key_word, table_of}
 use Rattle.rpg_compile_program.proofs.Each.{each_append, three_of, each_at, each_passes, none_passes}
 use Rattle.rpg_compile_program.proofs.Lists.{none_in_option}
@@ -83,6 +84,7 @@ follower_on : (s : Spec) (o : OutputSpec) → output_role s ≡ Follower o → o
 follower_on (spec.Header x) o e = cc
 follower_on (spec.File x) o e = cc
 follower_on (spec.Extension x) o e = cc
+follower_on (spec.Form x) o e = cc
 follower_on (spec.Input x) o e = cc
 follower_on (spec.Calculation x) o e = cc
 follower_on (spec.Data x) o e = cc
@@ -99,6 +101,7 @@ heading_on : (s : Spec) (r : OutputRecord) (name : Option (List ℕ)) → output
 heading_on (spec.Header x) r name e = cc
 heading_on (spec.File x) r name e = cc
 heading_on (spec.Extension x) r name e = cc
+heading_on (spec.Form x) r name e = cc
 heading_on (spec.Input x) r name e = cc
 heading_on (spec.Calculation x) r name e = cc
 heading_on (spec.Data x) r name e = cc
@@ -114,6 +117,7 @@ indicators_on : (cards : List SpecCard) (s : Spec) (o : OutputSpec) → output_o
 indicators_on cards (spec.Header x) o e valid = cc
 indicators_on cards (spec.File x) o e valid = cc
 indicators_on cards (spec.Extension x) o e valid = cc
+indicators_on cards (spec.Form x) o e valid = cc
 indicators_on cards (spec.Input x) o e valid = cc
 indicators_on cards (spec.Calculation x) o e valid = cc
 indicators_on cards (spec.Data x) o e valid = cc
@@ -126,10 +130,15 @@ after_all test xs o e = none_in_option test o ((or_parts _ _ (sym (list_any-appe
 abbrev pub ends_outside : List SpecCard → List SpecCard → SpecCard → Bool
 ends_outside cards before c = option_map_or (outside_line cards (file_by (open_file output_role before) cards)) (output_field_on c.spec) false
 
+-- a line of the printer skips past its page
+abbrev pub skips_outside : List SpecCard → List SpecCard → SpecCard → Bool
+skips_outside cards before c = option_map_or (λ r. outside_page cards (file_by (option_or r.file (open_file output_role before)) cards) r.movement) (output_record_on c.spec) false
+
 ranges_on : (s : Spec) (o : OutputSpec) → output_on s ≡ Some o → IsInRange s → IsOutput o
 ranges_on (spec.Header x) o e valid = cc
 ranges_on (spec.File x) o e valid = cc
 ranges_on (spec.Extension x) o e valid = cc
+ranges_on (spec.Form x) o e valid = cc
 ranges_on (spec.Input x) o e valid = cc
 ranges_on (spec.Calculation x) o e valid = cc
 ranges_on (spec.Data x) o e valid = cc
@@ -180,9 +189,9 @@ at_most : (o : Option ℕ) (n : ℕ) → ForSome o (λ x. x ≤ n) → nat_le (u
 at_most None n h = le-leb 0 n (omega arith)
 at_most (Some x) n h = le-leb x n (h x refl)
 
-skipped_to : (o : Option ℕ) → ForSome o IsSkip → nat_le (unwrap_or o 0) 66 ≡ true
-skipped_to None h = refl
-skipped_to (Some x) h = le-leb x 66 (h x refl).1
+skipped_to : (lines : ℕ) (o : Option ℕ) → is_skip_past lines o ≡ false → nat_le (unwrap_or o 0) lines ≡ true
+skipped_to lines None h = le-leb 0 lines (omega arith)
+skipped_to lines (Some x) h = le-leb x lines (ltb-false lines x h)
 
 spaced_after : (b : Bool) (o : Option ℕ) → ForSome o IsSpace → nat_le (cond b 1 (unwrap_or o 0)) 3 ≡ true
 spaced_after true o h = refl
@@ -192,11 +201,12 @@ blank_zero : (o : Option ℕ) → is_some o ≡ false → (unwrap_or o 0 == 0) �
 blank_zero None h = refl
 blank_zero (Some x) h = cc
 
-spaced_right : (file : File) (m : Movement) → IsMovement m → (file ≡ put.Disk → moves m ≡ false) → is_spaced_on file (spacing_of file m) ≡ true
-spaced_right put.Printer m range still =
+spaced_right : (lines : ℕ) (file : File) (m : Movement) → IsMovement m → (file ≡ put.Disk → moves m ≡ false) → (file ≡ put.Printer → skips_past lines m ≡ false) → is_spaced_on lines file (spacing_of file m) ≡ true
+spaced_right lines put.Printer m range still inside =
+    let skips = or_parts _ _ (inside refl) in
     and_from _ _ (and_from _ _ (at_most m.space_before 3 range.space_before) (spaced_after (is_unmoved m) m.space_after range.space_after))
-    (and_from _ _ (skipped_to m.skip_before range.skip_before) (skipped_to m.skip_after range.skip_after))
-spaced_right put.Disk m range still =
+    (and_from _ _ (skipped_to lines m.skip_before skips.0) (skipped_to lines m.skip_after skips.1))
+spaced_right lines put.Disk m range still inside =
     let none = still refl in
     let three = or_parts _ _ none in
     let two = or_parts _ _ three.0 in
@@ -269,6 +279,7 @@ module _ (cards : List SpecCard) (allowance : ℕ) where
     pub columns : KeepsRule (λ before c after. columns.bad_operand_columns cards c after) cards
     pub editing : KeepsRule (λ before c after. bad_editing cards c) cards
     pub ends : KeepsRule (λ before c after. ends_outside cards before c) cards
+    pub skips : KeepsRule (λ before c after. skips_outside cards before c) cards
 
   module _ (h : AreFit) where
     abbrev forms : Key → Option FieldForm
@@ -285,7 +296,7 @@ module _ (cards : List SpecCard) (allowance : ℕ) where
         by_any false e = cc
 
     fit_files : (before : List SpecCard) (c : SpecCard) (after : List SpecCard) → cards ≡ before ++ c ∷ after → option_map_or (bad_file before) (file_on c.spec) false ≡ false
-    fit_files before c after split = (or_parts _ _ (or_parts _ _ (h.files before c after split)).0).0
+    fit_files before c after split = (or_parts _ _ (or_parts _ _ (or_parts _ _ (h.files before c after split)).0).0).0
 
     abbrev HasFile : Option (List ℕ) → Type 0
     HasFile name = named_files.HasFile cards fit_files is_output name
@@ -299,19 +310,22 @@ module _ (cards : List SpecCard) (allowance : ℕ) where
       pub testable : Each (IsTestable (version_for cards)) (standing r.conditions)
       pub still : (moves r.movement && option_map_or is_disk_file (file_by name cards) false) ≡ false
       pub movement : IsMovement r.movement
+      pub inside : outside_page cards (file_by name cards) r.movement ≡ false
 
     heads : filed.Heads cards output_role HasFile IsLineValid (λ name o. Unit {0})
     heads before c after r name split role known =
         let at = heading_on c.spec r name role in
         let on : output_record_on c.spec ≡ Some r = ap (option_and_then output_record_in) at.on in
         let lacks : lacks_file cards is_output (is_some (open_group output_role before)) r.file ≡ false =
-        subst (λ (o : Option OutputRecord). option_map_or (λ r. lacks_file cards is_output (is_some (open_group output_role before)) r.file) o false ≡ false) on (or_parts _ _ (h.files before c after split)).1 in
+        subst (λ (o : Option OutputRecord). option_map_or (λ r. lacks_file cards is_output (is_some (open_group output_role before)) r.file) o false ≡ false) on (or_parts _ _ (or_parts _ _ (h.files before c after split)).0).1 in
         let still : moves_disk_by cards before r ≡ false = subst (λ (o : Option OutputRecord). option_map_or (moves_disk_by cards before) o false ≡ false) on (h.spaces before c after split) in
+        let inside : outside_page cards (file_by (option_or r.file (open_file output_role before)) cards) r.movement ≡ false =
+        subst (λ (o : Option OutputRecord). option_map_or (λ r. outside_page cards (file_by (option_or r.file (open_file output_role before)) cards) r.movement) o false ≡ false) on (h.skips before c after split) in
         let asks : any_of (bad_in_output cards) r.conditions ≡ false = indicators_on cards c.spec (output.Record r) at.on (h.indicators before c after split) in
         let range : IsLine r = ranges_on c.spec (output.Record r) at.on (each_at IsCard before c after (subst AreCards split h.in_range)) in
         subst (λ (n : Option (List ℕ)). HasFile (option_or n (open_file output_role before)) × IsLineValid (option_or n (open_file output_role before)) r) (sym at.file) (
           named_files.named_or_before cards fit_files is_output (is_some (open_group output_role before)) r.file (open_file output_role before) lacks known,
-          record { testable = testable_three cards r.conditions asks range.conditions; still = still; movement = range.movement },
+          record { testable = testable_three cards r.conditions asks range.conditions; still = still; movement = range.movement; inside = inside },
         )
 
     -- ---- the cards after it
@@ -394,6 +408,10 @@ module _ (cards : List SpecCard) (allowance : ℕ) where
     unfolding program_of
     version_is = refl
 
+    page_is : p.overflow.page ≡ page_of cards
+    unfolding program_of
+    page_is = refl
+
     -- the length of the file that a line goes to
     file_is : (f : FileSpec) → IsOwn f → (u : FileUse) → file_use f ≡ u → is_output u ≡ true → put_length cards (file_put u) ≡ f.record_length
     file_is f own uses.Primary is test = cc
@@ -411,6 +429,13 @@ module _ (cards : List SpecCard) (allowance : ℕ) where
         by_moves : (b : Bool) → (b && true) ≡ false → b ≡ false
         by_moves true h = h
         by_moves false h = refl
+
+    -- a line for the printer stays on its page
+    inside_on : (f : FileSpec) (m : Movement) → outside_page cards (Some f) m ≡ false → (u : FileUse) → file_use f ≡ u → is_output u ≡ true → file_put u ≡ put.Printer → skips_past (page_of cards).lines m ≡ false
+    inside_on f m inside uses.Primary is test e = cc
+    inside_on f m inside uses.Secondary is test e = cc
+    inside_on f m inside uses.Printer is test e = subst (λ (u : FileUse). (same_use uses.Printer u && skips_past (page_of cards).lines m) ≡ false) is inside
+    inside_on f m inside uses.Disk is test e = cc
 
     record IsRightField (len : ℕ) (f : LineField ℕ) : Type 0 where
       keeps : KeepsFieldRules (form_at p.fields) (word_at p) len f
@@ -452,6 +477,7 @@ module _ (cards : List SpecCard) (allowance : ℕ) where
       length : put_length cards file ≡ len
       some : 1 ≤ len
       still : file ≡ put.Disk → moves g.heading.movement ≡ false
+      inside : file ≡ put.Printer → skips_past (page_of cards).lines g.heading.movement ≡ false
 
     abbrev InFile : Group OutputRecord OutputSpec → Type 0
     InFile g = filed.InFile cards output_role HasFile IsLineValid IsOutputValid g
@@ -466,6 +492,7 @@ module _ (cards : List SpecCard) (allowance : ℕ) where
           length = file_is f valid.0.3 (file_use f) refl valid.0.2;
           some = valid.0.3.lowest;
           still = still_on f g.heading.movement still (file_use f) refl;
+          inside = inside_on f g.heading.movement (subst (λ (o : Option FileSpec). outside_page cards o g.heading.movement ≡ false) by valid.1.0.inside) (file_use f) refl valid.0.2;
         }
 
     line_breaks_not : (g : Group OutputRecord OutputSpec) (valid : InFile g) (r : LineRule) → line_breaks r p (numbered_line cards (words.line_of_file (file_put (file_use valid.0.0)) (put_length cards (file_put (file_use valid.0.0))) g)) ≡ false
@@ -478,7 +505,7 @@ module _ (cards : List SpecCard) (allowance : ℕ) where
 
         by_rule : (r : LineRule) → line_breaks r p (numbered_line cards (words.line_of_file (file_put (file_use valid.0.0)) (put_length cards (file_put (file_use valid.0.0))) g)) ≡ false
         by_rule V2 = ne_eqb (file_length p (file_put (file_use valid.0.0))) 0 (λ e. let some = (put_of g valid).some in let l = length_same cards allowance (file_put (file_use valid.0.0)) ∙ (put_of g valid).length in omega arith)
-        by_rule V8 = not_from_true _ (spaced_right (file_put (file_use valid.0.0)) g.heading.movement valid.1.0.movement (put_of g valid).still)
+        by_rule V8 = not_from_true _ (ap (λ (page : Page). is_spaced_on page.lines (file_put (file_use valid.0.0)) (spacing_of (file_put (file_use valid.0.0)) g.heading.movement)) page_is ∙ spaced_right (page_of cards).lines (file_put (file_use valid.0.0)) g.heading.movement valid.1.0.movement (put_of g valid).still (put_of g valid).inside)
         by_rule V9 = not_from_true _ (ap (λ v. list_all (list_all (is_testable v)) (line_alternatives (standing g.heading.conditions) g.followers)) version_is ∙ alternatives_testable (version_for cards) (standing g.heading.conditions) g.followers valid.1.0.testable (further_testable g.file g.followers valid.1.1))
         by_rule V10 = not_from_true _ (each_passes (is_field_there p) _ (all (λ f. is_field_there p f ≡ true) (λ f k. field_there p _ f k.keeps)))
         by_rule V11 = none_passes (lacks_editing p) _ (all (λ f. lacks_editing p f ≡ false) (λ f k. editing_fits p _ f k.keeps))

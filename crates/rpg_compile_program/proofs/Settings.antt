@@ -52,7 +52,7 @@ module _ (cards : List SpecCard) (rules : KeepsCardRules cards) where
   pub valid_files : Seen cards (λ before c after. option_map_or (bad_file before) (file_on c.spec) false ≡ false)
   valid_files before c after split =
       or_first (option_map_or (bad_file before) (file_on c.spec) false) (option_map_or (λ t. lacks_file cards is_input (is_some (open_group input_role before)) t.file) (type_on c.spec) false)
-      (or_first _ (option_map_or (λ r. lacks_file cards is_output (is_some (open_group output_role before)) r.file) (output_record_on c.spec) false) (rules.f7 before c after split))
+      (or_first _ (option_map_or (λ r. lacks_file cards is_output (is_some (open_group output_role before)) r.file) (output_record_on c.spec) false) (or_first _ _ (rules.f7 before c after split)))
 
   pub own : (u : FileUse) (f : FileSpec) → file_for u cards ≡ Some f → IsOwn cards valid_files f
   own u f e = found_from cards valid_files (λ g. same_use u (file_use g)) f [] cards refl e

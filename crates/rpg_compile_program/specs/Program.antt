@@ -1,18 +1,21 @@
 -- The program that the cards of a source compile to, with numbers instead of their names.
-use Rattle.std.specs.Prelude.{ℕ, Bool, ◌||◌, List, map, is_some, if◌then◌else◌}
+use Rattle.std.specs.Prelude.{ℕ, Bool, not, ◌&&◌, ◌||◌, ◌==◌, List, map, Option, is_some, if◌then◌else◌}
 use Rattle.std.specs.Option.{option_and_then}
 use Rattle.rpg_cards.specs.Calculations.{calculations}
 use Rattle.rpg_cards.specs.Keys.{Key}
 use Rattle.rpg_cards.specs.Sections.{Sections, sections_of}
-use Rattle.rpg_cards.specs.Files.{file_for}
+use Rattle.rpg_cards.specs.Files.{ending_file, file_for, page_of}
 use Rattle.rpg_cards.specs.Levels.{has_match_field}
 use Rattle.rpg_cards.specs.declared.files.FileUse.TheVariants as uses
 use Rattle.rpg_cards.specs.declared.spec_card.SpecCard.{SpecCard}
 use Rattle.rpg_compile_program.specs.Levels.{subroutine_level}
 use Rattle.rpg_compile_program.specs.Whole.{IsCodeOf, detail_code, subroutine_rows, total_code}
+use Rattle.rpg_paper.specs.Paper.{standard_page}
+use Rattle.rpg_paper.specs.declared.form.Page.{Page}
 use Rattle.rpg_program.specs.Input.{TypeRow}
 use Rattle.rpg_program.specs.Lines.{Line}
 use Rattle.rpg_program.specs.Object.{LineRow, Object}
+use Rattle.rpg_program.specs.declared.input.InputFile.{InputFile}
 use Rattle.rpg_program.specs.declared.rows.Version.{Version}
 use Rattle.rpg_program.specs.declared.rows.Version.TheVariants as versions
 use Rattle.rpg_program.specs.Naming.{renamed_line, renamed_type}
@@ -53,13 +56,22 @@ sections cards = sections_of (calculations cards)
 abbrev pub HasCodeOf : List SpecCard → Object → Type 0
 HasCodeOf cards p = IsCodeOf (key_numbers cards) (subroutine_level (sections cards).subroutines) (sections cards) p
 
--- version 2 has a secondary file or match fields
-abbrev pub version_with : Bool → Bool → Version
-version_with has_secondary has_match_field = if has_secondary || has_match_field then versions.Two else versions.One
+-- the page of a program that names none
+abbrev pub is_standard : Page → Bool
+is_standard page = page.lines == standard_page.lines && page.overflow_line == standard_page.overflow_line
+
+-- only version 3 has this page and this ending file
+abbrev pub needs_page : Page → Option InputFile → Bool
+needs_page page ends = not (is_standard page) || is_some ends
+
+-- else version 2 has a secondary file or match fields
+abbrev pub version_with : Bool → Bool → Bool → Version
+version_with needs_page has_secondary has_match_field =
+    if needs_page then versions.Three else if has_secondary || has_match_field then versions.Two else versions.One
 
 -- the version of a source's object program
 abbrev pub version_for : List SpecCard → Version
-version_for cards = version_with (is_some (file_for uses.Secondary cards)) (has_match_field cards)
+version_for cards = version_with (needs_page (page_of cards) (ending_file cards)) (is_some (file_for uses.Secondary cards)) (has_match_field cards)
 
 -- the object program of a source, with that allowance
 unfoldable pub program_of : List SpecCard → ℕ → Object
@@ -70,7 +82,8 @@ program_of cards allowance = record {
   secondary_length = record_length_of (file_for uses.Secondary cards);
   printer_length = record_length_of (file_for uses.Printer cards);
   disk_length = record_length_of (file_for uses.Disk cards);
-  overflow = option_and_then (λ f. f.overflow) (file_for uses.Printer cards);
+  overflow = record { indicator = option_and_then (λ f. f.overflow) (file_for uses.Printer cards); page = page_of cards };
+  ends = ending_file cards;
   fields = forms (table_of cards);
   values = values_of cards;
   types = types_of cards;

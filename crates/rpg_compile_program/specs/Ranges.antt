@@ -21,6 +21,7 @@ use Rattle.rpg_sheet_specs.specs.declared.input.RecordCode.{RecordCode}
 use Rattle.rpg_sheet_specs.specs.declared.input.RecordType.{RecordType}
 use Rattle.rpg_sheet_specs.specs.declared.literal.Factor.{Factor}
 use Rattle.rpg_sheet_specs.specs.declared.literal.Factor.TheVariants as factor
+use Rattle.rpg_sheet_specs.specs.declared.form.FormSpec.{FormSpec}
 use Rattle.rpg_sheet_specs.specs.declared.output.Movement.{Movement}
 use Rattle.rpg_sheet_specs.specs.declared.output.OutputField.{OutputField}
 use Rattle.rpg_sheet_specs.specs.declared.output.OutputRecord.{OutputRecord}
@@ -67,6 +68,14 @@ IsInput (input.Type t) = IsType t
 IsInput (input.And codes) = InThree IsCode codes
 IsInput (input.Field f) = IsInputField f
 
+-- ---- L cards
+
+-- a page of 3 to 112 lines
+pub record IsForm (f : FormSpec) : Type 0 where
+  pub shortest : 3 ≤ f.lines
+  pub longest : f.lines ≤ 112
+  pub first : 1 ≤ f.overflow_line
+
 -- ---- C cards
 
 -- L0 to L9, LR
@@ -92,20 +101,14 @@ pub record IsCalculation (k : CalculationSpec) : Type 0 where
 
 -- ---- O cards
 
--- at most three lines are spaced, and skips lead to lines 1 to 66
+-- at most three lines are spaced
 abbrev pub IsSpace : ℕ → Type 0
 IsSpace n = n ≤ 3
 
--- a skip to line 1 to 66
-abbrev pub IsSkip : ℕ → Type 0
-IsSkip n = (1 ≤ n) × (n ≤ 66)
-
--- spaces and skips in range
+-- spaces in range
 pub record IsMovement (m : Movement) : Type 0 where
   pub space_before : ForSome m.space_before IsSpace
   pub space_after : ForSome m.space_after IsSpace
-  pub skip_before : ForSome m.skip_before IsSkip
-  pub skip_after : ForSome m.skip_after IsSkip
 
 -- a record card of a line in range
 pub record IsLine (r : OutputRecord) : Type 0 where
@@ -147,6 +150,7 @@ abbrev pub IsInRange : Spec → Type 0
 IsInRange (spec.Header h) = Unit {0}
 IsInRange (spec.File f) = ForSome f.overflow IsOverflowIndicator
 IsInRange (spec.Extension e) = Unit {0}
+IsInRange (spec.Form f) = IsForm f
 IsInRange (spec.Input i) = IsInput i
 IsInRange (spec.Calculation k) = IsCalculation k
 IsInRange (spec.Output o) = IsOutput o

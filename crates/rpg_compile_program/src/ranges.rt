@@ -9,7 +9,7 @@ ghost use Rattle.rpg_compile_program.specs.Ranges.{InThree};
 
 use rpg_cards::SpecCard;
 use rpg_sheet_specs::{
-    CalculationSpec, ConditionSpec, ControlLevel, DataSpec, Factor, FileSpec, Indicator,
+    CalculationSpec, ConditionSpec, ControlLevel, DataSpec, Factor, FileSpec, FormSpec, Indicator,
     InputFieldSpec, InputSpec, Literal, Movement, OutputField, OutputRecord, OutputSpec,
     RecordCode, RecordType, Spec, Three, Within,
 };
@@ -28,6 +28,7 @@ fn spec_in_range(spec: &Spec)
     match spec {
         Spec::Header(_) | Spec::Extension(_) => {}
         Spec::File(file) => file_in_range(file),
+        Spec::Form(form) => form_in_range(form),
         Spec::Input(input) => input_in_range(input),
         Spec::Calculation(calculation) => calculation_in_range(calculation),
         Spec::Output(output) => output_in_range(output),
@@ -41,6 +42,13 @@ fn file_in_range(file: &FileSpec)
     if let Some(overflow) = file.overflow {
         overflow.number();
     }
+}
+
+fn form_in_range(form: &FormSpec)
+    ensures { ranges.IsForm form.now }
+{
+    form.lines.number();
+    form.overflow_line.number();
 }
 
 fn input_in_range(input: &InputSpec)
@@ -189,8 +197,6 @@ fn movement_in_range(movement: Movement)
 {
     space_in_range(movement.space_before);
     space_in_range(movement.space_after);
-    skip_in_range(movement.skip_before);
-    skip_in_range(movement.skip_after);
 }
 
 fn space_in_range(lines: Option<Within<0, 3>>)
@@ -198,14 +204,6 @@ fn space_in_range(lines: Option<Within<0, 3>>)
 {
     if let Some(lines) = lines {
         lines.number();
-    }
-}
-
-fn skip_in_range(line: Option<Within<1, 66>>)
-    ensures { ForSome line ranges.IsSkip }
-{
-    if let Some(line) = line {
-        line.number();
     }
 }
 

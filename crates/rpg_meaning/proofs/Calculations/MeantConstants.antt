@@ -44,6 +44,7 @@ card_same : (c : Constant) (s : Spec) → list_any (is_same c) (constants_on s) 
 card_same c (spec.Header x) = refl
 card_same c (spec.File x) = refl
 card_same c (spec.Extension x) = refl
+card_same c (spec.Form x) = refl
 card_same c (spec.Input x) = refl
 card_same c (spec.Calculation k) =
     let first : List Constant = option_to_list (option_and_then factor_constant k.factor_1) in

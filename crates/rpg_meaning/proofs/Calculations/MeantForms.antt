@@ -50,6 +50,7 @@ card_same (spec.Extension e) = by e.alternating
     by : (o : Option TableSpec) → definitions_on (spec.Extension (record e { alternating = o })) ≡ given_on (spec.Extension (record e { alternating = o }))
     by None = λ i. table_same e.entries e.table i ∷ []
     by (Some t) = λ i. table_same e.entries e.table i ∷ table_same e.entries t i ∷ []
+card_same (spec.Form x) = refl
 card_same (spec.Input (input.Type t)) = refl
 card_same (spec.Input (input.And t)) = refl
 card_same (spec.Input (input.Field f)) = λ i. record { name = f.name; form = field_same f i } ∷ []

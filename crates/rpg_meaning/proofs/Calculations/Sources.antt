@@ -1,7 +1,7 @@
 -- The program of a source is a translation of what its cards mean.
 use Rattle.std.proofs.Common.{◌≡◌, ℕ, List, refl, ap, subst, ◌∙◌}
 use Rattle.std.specs.Option.{option_and_then}
-use Rattle.rpg_cards.specs.Files.{file_for}
+use Rattle.rpg_cards.specs.Files.{file_for, page_of}
 use Rattle.rpg_cards.specs.Keys.{key_cmp}
 use Rattle.rpg_cards.specs.Sections.{sections_of}
 use Rattle.rpg_cards.specs.declared.files.FileUse.TheVariants as uses
@@ -22,7 +22,7 @@ use Rattle.rpg_meaning.specs.Sheets.Forms.{meant_forms}
 use Rattle.rpg_meaning.proofs.Calculations.Filled.{filled_in}
 use Rattle.rpg_meaning.proofs.Calculations.Keys.{named_world}
 use Rattle.rpg_meaning.proofs.Calculations.MeantCalculations.{calculations_are_meant}
-use Rattle.rpg_meaning.proofs.Calculations.MeantFiles.{printer_is_meant}
+use Rattle.rpg_meaning.proofs.Calculations.MeantFiles.{page_is_meant, printer_is_meant}
 use Rattle.rpg_meaning.proofs.Calculations.MeantForms.{form_same, word_same}
 use Rattle.rpg_meaning.proofs.Calculations.MeantLines.{lines_are_meant}
 use Rattle.rpg_meaning.proofs.Calculations.MeantSections.{sections_are_meant}
@@ -37,7 +37,7 @@ compiled_source cards = record {
   sections = sections cards;
   forms = key_form (table_of cards);
   words = key_word (table_of cards);
-  overflow = option_and_then (λ f. f.overflow) (file_for uses.Printer cards);
+  overflow = record { indicator = option_and_then (λ f. f.overflow) (file_for uses.Printer cards); page = page_of cards };
   lines = lines_on cards;
 }
 
@@ -48,7 +48,7 @@ source_same cards = λ i. record {
   sections = (ap sections_of (calculations_are_meant cards) ∙ sections_are_meant (meant_calculations cards)) i;
   forms = λ k. form_same cards k i;
   words = λ k. word_same cards k i;
-  overflow = option_and_then (λ f. f.overflow) (printer_is_meant cards i);
+  overflow = record { indicator = option_and_then (λ f. f.overflow) (printer_is_meant cards i); page = page_is_meant cards i };
   lines = lines_are_meant cards i;
 }
 

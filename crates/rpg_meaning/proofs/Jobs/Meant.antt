@@ -21,7 +21,7 @@ use Rattle.rpg_meaning.proofs.Jobs.MeantTypes.{types_are_meant}
 use Rattle.rpg_meaning.proofs.Jobs.ProgramOf.{IsProgramOf}
 use Rattle.rpg_meaning.specs.Jobs.Sources.{RunsAreMeant, job_of}
 use Rattle.rpg_meaning.specs.Jobs.Start.{IsStart}
-use Rattle.rpg_meaning.proofs.Calculations.MeantFiles.{primary_is_meant, secondary_is_meant}
+use Rattle.rpg_meaning.proofs.Calculations.MeantFiles.{ends_is_meant, primary_is_meant, secondary_is_meant}
 use Rattle.rpg_meaning.proofs.Calculations.Sources.{meant_world, translates}
 use Rattle.rpg_program.specs.Kept.{IsProgram}
 use Rattle.rpg_verify_rules.specs.Accepted.{IsAccepted}
@@ -35,6 +35,7 @@ job_is cards allowance kept = record {
   same_types = ap (map (renamed_type (key_numbers cards))) (types_are_meant cards);
   same_length = ap file_record_length (primary_is_meant cards);
   same_secondary = ap file_record_length (secondary_is_meant cards);
+  same_ends = ends_is_meant cards;
   same_allowance = refl;
 }
 

@@ -12,4 +12,5 @@ pub record IsProgramOf (p : Object) (job : Job) (number : Key → ℕ) : Type 0 
   pub same_types : p.types ≡ map (renamed_type number) job.types
   pub same_length : p.record_length ≡ job.record_length
   pub same_secondary : p.secondary_length ≡ job.secondary_length
+  pub same_ends : p.ends ≡ job.ends
   pub same_allowance : p.allowance ≡ job.allowance

@@ -30,7 +30,7 @@ use Rattle.rpg_cycle_records.specs.Earlier.{Selected, any_agrees, control_fields
 use Rattle.rpg_cycle_records.specs.Identifying.{IsOf, IsOfNone, Misplaced, Trial, code_holds, has_position, identified, is_valid_record, padded, same_file, trial_weight}
 use Rattle.rpg_cycle_records.specs.Levels.{differs, highest_broken, is_in_record, level_bytes}
 use Rattle.rpg_cycle_records.specs.Matching.{agrees, exceeds, match_value_in}
-use Rattle.rpg_cycle_records.specs.Waiting.{Inputs, chosen, first_of, has_match, input_at, other_file, with_file_over, takes_in, waiting_in, with_waiting}
+use Rattle.rpg_cycle_records.specs.Waiting.{Inputs, chosen, first_of, has_match, input_at, is_after_end, other_file, with_file_over, takes_in, waiting_in, with_waiting}
 use Rattle.rpg_program.specs.Naming.{Agree, renamed_type}
 use Rattle.rpg_cycle_safety.proofs.Selecting.{Picks, levels_alone, selects, takes}
 use Rattle.rpg_cycle_safety.proofs.Working.{IsTaken}
@@ -151,11 +151,11 @@ module _ {p : Object} {job : Job} {number : Key → ℕ} (orderly : IsOrderly p)
   pub takes_same : (i : Inputs) (f : InputFile) → takes_in p i f ≡ cards.meant_takes_in job i f
   takes_same i f = λ k. not (eqb (length_same f k) 0) && (not (input_at i f).is_over && is_none (waiting_in i f))
 
-  chosen_same : (a b : Option Selected) → chosen p a b ≡ cards.meant_chosen job a b
-  chosen_same None None = refl
-  chosen_same (Some q) None = refl
-  chosen_same None (Some r) = refl
-  chosen_same (Some q) (Some r) = λ i. Some (first_of (value_same q i) (value_same r i))
+  chosen_same : (earlier : List Selected) (a b : Option Selected) → chosen p (left_by p earlier) a b ≡ cards.meant_chosen job earlier a b
+  chosen_same earlier None None = refl
+  chosen_same earlier (Some q) None = λ i. cond (is_after_end (is.same_ends i) Secondary (last_value_same Secondary earlier i) (value_same q i)) None (Some Primary)
+  chosen_same earlier None (Some r) = λ i. cond (is_after_end (is.same_ends i) Primary (last_value_same Primary earlier i) (value_same r i)) None (Some Secondary)
+  chosen_same earlier (Some q) (Some r) = λ i. Some (first_of (value_same q i) (value_same r i))
 
   -- ---- what the parts of a selection come to
 
@@ -286,13 +286,13 @@ module _ {p : Object} {job : Job} {number : Key → ℕ} (orderly : IsOrderly p)
         subst (λ o. Matches (machine.select_waiting p (left_by p earlier) f (waiting_in c.inputs f) c) (Continues, cards.meant_select_waiting job earlier f o s)) (ap (λ i. waiting_in i f) same.inputs)
         (waiting_same f (waiting_in c.inputs f) h)
 
-    pub select_one_same : IsCycleEnd (machine.select_from p (left_by p earlier) (chosen p (waiting_in c.inputs Primary) (waiting_in c.inputs Secondary)) c).end
-        → Matches (machine.select_from p (left_by p earlier) (chosen p (waiting_in c.inputs Primary) (waiting_in c.inputs Secondary)) c)
-        (Continues, cards.meant_select_from job earlier (cards.meant_chosen job (waiting_in s.inputs Primary) (waiting_in s.inputs Secondary)) s)
+    pub select_one_same : IsCycleEnd (machine.select_from p (left_by p earlier) (chosen p (left_by p earlier) (waiting_in c.inputs Primary) (waiting_in c.inputs Secondary)) c).end
+        → Matches (machine.select_from p (left_by p earlier) (chosen p (left_by p earlier) (waiting_in c.inputs Primary) (waiting_in c.inputs Secondary)) c)
+        (Continues, cards.meant_select_from job earlier (cards.meant_chosen job earlier (waiting_in s.inputs Primary) (waiting_in s.inputs Secondary)) s)
     select_one_same h =
-        subst (λ o. Matches (machine.select_from p (left_by p earlier) (chosen p (waiting_in c.inputs Primary) (waiting_in c.inputs Secondary)) c) (Continues, cards.meant_select_from job earlier o s))
-        (chosen_same (waiting_in c.inputs Primary) (waiting_in c.inputs Secondary) ∙ ap (λ i. cards.meant_chosen job (waiting_in i Primary) (waiting_in i Secondary)) same.inputs)
-        (picked_same (chosen p (waiting_in c.inputs Primary) (waiting_in c.inputs Secondary)) h)
+        subst (λ o. Matches (machine.select_from p (left_by p earlier) (chosen p (left_by p earlier) (waiting_in c.inputs Primary) (waiting_in c.inputs Secondary)) c) (Continues, cards.meant_select_from job earlier o s))
+        (chosen_same earlier (waiting_in c.inputs Primary) (waiting_in c.inputs Secondary) ∙ ap (λ i. cards.meant_chosen job earlier (waiting_in i Primary) (waiting_in i Secondary)) same.inputs)
+        (picked_same (chosen p (left_by p earlier) (waiting_in c.inputs Primary) (waiting_in c.inputs Secondary)) h)
 
   -- ---- MR
 
@@ -368,13 +368,13 @@ module _ {p : Object} {job : Job} {number : Key → ℕ} (orderly : IsOrderly p)
 
   selecting_follows : (earlier : List Selected) → Follows p job number IsNone (machine.select_one p (left_by p earlier)) (cards.meant_select_one job earlier) (IsTaken p)
   selecting_follows earlier =
-      follows_does p job number IsNone (IsTaken p) _ (λ s. (Continues, cards.meant_select_from job earlier (cards.meant_chosen job (waiting_in s.inputs Primary) (waiting_in s.inputs Secondary)) s)) alike
+      follows_does p job number IsNone (IsTaken p) _ (λ s. (Continues, cards.meant_select_from job earlier (cards.meant_chosen job earlier (waiting_in s.inputs Primary) (waiting_in s.inputs Secondary)) s)) alike
     where
       alike : (c : UnderWay) (s : JobState) → IsSettled p job number IsNone c → Same p job number s c
-          → Alike p job number (IsTaken p) (machine.select_from p (left_by p earlier) (chosen p (waiting_in c.inputs Primary) (waiting_in c.inputs Secondary)) c)
-          (Continues, cards.meant_select_from job earlier (cards.meant_chosen job (waiting_in s.inputs Primary) (waiting_in s.inputs Secondary)) s)
+          → Alike p job number (IsTaken p) (machine.select_from p (left_by p earlier) (chosen p (left_by p earlier) (waiting_in c.inputs Primary) (waiting_in c.inputs Secondary)) c)
+          (Continues, cards.meant_select_from job earlier (cards.meant_chosen job earlier (waiting_in s.inputs Primary) (waiting_in s.inputs Secondary)) s)
       alike c s settled same =
-          let picks = selects p orderly (left_by p earlier) c settled.waiting (none_taken c settled) (chosen p (waiting_in c.inputs Primary) (waiting_in c.inputs Secondary)) in
+          let picks = selects p orderly (left_by p earlier) c settled.waiting (none_taken c settled) (chosen p (left_by p earlier) (waiting_in c.inputs Primary) (waiting_in c.inputs Secondary)) in
           from_picks _ (IsTaken p) c _ _ settled picks (select_one_same earlier c s same picks.named) picks.taken
 
   last_follows : (earlier : List Selected) → Follows p job number IsNone (machine.without_output (λ c. done Continues (with_config (with_all level_indicators true) c))) (meant_does (λ s. (Continues, with_turned level_indicators true s))) (IsTaken p)

@@ -18,6 +18,7 @@ use Rattle.rpg_program.specs.Input.{TypeRow, input_fault, record_in}
 use Rattle.rpg_program.specs.Lines.{Line, detail_output, overflow_output, total_output}
 use Rattle.rpg_program.specs.World.{Data, World, with_data}
 use Rattle.rpg_program.specs.declared.form.FieldForm.{FieldForm}
+use Rattle.rpg_program.specs.declared.rows.Overflow.{Overflow}
 use Rattle.rpg_cycle_safety.proofs.Accepting.{inputs_right}
 use Rattle.rpg_cycle_safety.proofs.Filling.{record_keeps}
 use Rattle.rpg_cycle_safety.proofs.Instructing.{output_keeps}
@@ -97,8 +98,8 @@ on_agrees forms number f v w a = record { «data» = record { fields = a.data.fi
 module _ {p : Object} {job : Job} {number : Key → ℕ} (orderly : IsOrderly p) (is : IsProgramOf p job number) where
   -- ---- output
 
-  -- what holds at the cards' overflow indicator and lines holds at the program's
-  at_program : (P : Option ℕ → List (Line ℕ) → Type 0) → P job.source.overflow (map (renamed_line number) job.source.lines) → P p.overflow (lines_of p)
+  -- what holds at the cards' overflow and lines holds at the program's
+  at_program : (P : Overflow → List (Line ℕ) → Type 0) → P job.source.overflow (map (renamed_line number) job.source.lines) → P p.overflow (lines_of p)
   at_program P h = subst (P p.overflow) (sym is.calculations.lines) (subst (λ o. P o (map (renamed_line number) job.source.lines)) (sym is.calculations.overflow) h)
 
   pub details_follow : (P : Selection) → Follows p job number P (machine.detail_lines p) (cards.meant_detail_lines job) P
@@ -122,8 +123,8 @@ module _ {p : Object} {job : Job} {number : Key → ℕ} (orderly : IsOrderly p)
   -- a page that isn't full
   pub overflows_follow : (P : Selection) → Follows p job number P (machine.overflow_lines p) (cards.meant_overflow_lines job) P
   overflows_follow P =
-      follows_unless p job number P (machine.has_no_overflow p.overflow) _ (machine.output p times.Overflow) (by_effect (overflow_output job.source.forms job.source.words job.source.overflow job.source.lines))
-      (λ c s same. ap (λ o. machine.has_no_overflow o c.config) is.calculations.overflow ∙ by job.source.overflow c s same) (overflow_follows P)
+      follows_unless p job number P (machine.has_no_overflow p.overflow.indicator) _ (machine.output p times.Overflow) (by_effect (overflow_output job.source.forms job.source.words job.source.overflow job.source.lines))
+      (λ c s same. ap (λ o. machine.has_no_overflow o.indicator c.config) is.calculations.overflow ∙ by job.source.overflow.indicator c s same) (overflow_follows P)
     where
       by : (o : Option ℕ) (c : UnderWay) (s : JobState) → Same p job number s c → machine.has_no_overflow o c.config ≡ not (option_map_or (λ n. set.contains s.world.data.on n) o false)
       by None c s same = refl

@@ -14,6 +14,7 @@ use Rattle.rpg_program.specs.Operate.{operate}
 use Rattle.rpg_program.specs.World.{World, three_hold}
 use Rattle.rpg_program.specs.declared.condition.Conditions.{Conditions}
 use Rattle.rpg_program.specs.declared.form.FieldForm.{FieldForm}
+use Rattle.rpg_program.specs.declared.rows.Overflow.{Overflow}
 use Rattle.rpg_machine.specs.Config.{Output, no_output, with_more}
 use Rattle.rpg_meaning.specs.Calculations.Parts.{InDetail, InSubroutine, InTotal, Part, calculations_in, label_position}
 
@@ -40,7 +41,7 @@ pub record Source : Type 0 where
   pub sections : Sections Key
   pub forms : Key → Option FieldForm
   pub words : Key → List ℕ  -- the edit word that a constant is
-  pub overflow : Option ℕ
+  pub overflow : Overflow
   pub lines : List (Line Key)
 
 -- the values by name and everything else that the cards change, the running part and which of its calculations is next, where open EXSRs

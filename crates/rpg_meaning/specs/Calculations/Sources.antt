@@ -6,7 +6,7 @@ use Rattle.rpg_faults_flow.specs.Columns.{bad_calculation_columns}
 use Rattle.rpg_faults_flow.specs.Kept.{KeepsRule}
 use Rattle.rpg_meaning.specs.Calculations.Meaning.{Source}
 use Rattle.rpg_meaning.specs.Sheets.Calculations.{meant_calculations}
-use Rattle.rpg_meaning.specs.Sheets.Files.{overflow_indicator}
+use Rattle.rpg_meaning.specs.Sheets.Files.{meant_overflow}
 use Rattle.rpg_meaning.specs.Sheets.Forms.{meant_forms, meant_words}
 use Rattle.rpg_meaning.specs.Sheets.Lines.{meant_lines}
 use Rattle.rpg_meaning.specs.Sheets.Sections.{meant_sections}
@@ -25,6 +25,6 @@ source_of cards = record {
   sections = meant_sections (meant_calculations cards);
   forms = meant_forms cards;
   words = meant_words cards;
-  overflow = overflow_indicator cards;
+  overflow = meant_overflow cards;
   lines = meant_lines cards;
 }

@@ -21,7 +21,7 @@ use Rattle.rpg_cycle_records.specs.Earlier.{Selected, is_any, or_before, with_re
 use Rattle.rpg_cycle_records.specs.Identifying.{code_holds, same_file}
 use Rattle.rpg_cycle_records.specs.Levels.{differs, highest_broken, level_bytes}
 use Rattle.rpg_cycle_records.specs.Matching.{agrees, exceeds, match_value_in}
-use Rattle.rpg_cycle_records.specs.Waiting.{Inputs, first_of, input_at, other_file, with_file_over, waiting_in, with_waiting}
+use Rattle.rpg_cycle_records.specs.Waiting.{Inputs, first_of, input_at, is_after_end, other_file, with_file_over, waiting_in, with_waiting}
 
 module _ (job : Job) where
   -- ---- record types
@@ -154,21 +154,21 @@ module _ (job : Job) where
   meant_select_waiting earlier f None s = s
   meant_select_waiting earlier f (Some r) s = with_selected earlier r (record s { inputs = with_waiting f None s.inputs })
 
-  -- the file whose record is selected, if any waits
-  abbrev pub meant_chosen : Option Selected → Option Selected → Option InputFile
-  meant_chosen None None = None
-  meant_chosen (Some q) None = Some Primary
-  meant_chosen None (Some r) = Some Secondary
-  meant_chosen (Some q) (Some r) = Some (first_of (meant_match_value q) (meant_match_value r))
+  -- the file whose record is selected, if one waits and doesn't come after the end
+  abbrev pub meant_chosen : List Selected → Option Selected → Option Selected → Option InputFile
+  meant_chosen earlier None None = None
+  meant_chosen earlier (Some q) None = if is_after_end job.ends Secondary (meant_last_value Secondary earlier) (meant_match_value q) then None else Some Primary
+  meant_chosen earlier None (Some r) = if is_after_end job.ends Primary (meant_last_value Primary earlier) (meant_match_value r) then None else Some Secondary
+  meant_chosen earlier (Some q) (Some r) = Some (first_of (meant_match_value q) (meant_match_value r))
 
-  -- if no record waits, LR and L1 to L9 turn on
+  -- if none is selected, LR and L1 to L9 turn on
   abbrev pub meant_select_from : List Selected → Option InputFile → JobState → JobState
   meant_select_from earlier None s = with_turned (last_record ∷ level_indicators) true s
   meant_select_from earlier (Some f) s = meant_select_waiting earlier f (waiting_in s.inputs f) s
 
   -- the record that the cycle is for
   abbrev pub meant_select_one : List Selected → MeantPhase
-  meant_select_one earlier = meant_does (λ s. (Continues, meant_select_from earlier (meant_chosen (waiting_in s.inputs Primary) (waiting_in s.inputs Secondary)) s))
+  meant_select_one earlier = meant_does (λ s. (Continues, meant_select_from earlier (meant_chosen earlier (waiting_in s.inputs Primary) (waiting_in s.inputs Secondary)) s))
 
   -- if LR is on no record is read, and L1 to L9 turn on
   abbrev pub meant_select_record : List Selected → Option (List ℕ) → Option (List ℕ) → MeantPhase
@@ -199,7 +199,7 @@ module _ (job : Job) where
   -- the lines for overflow, if its indicator is on
   abbrev pub meant_overflow_lines : MeantPhase
   meant_overflow_lines =
-      meant_unless (λ s. not (option_map_or (λ n. is_on_in n s) job.source.overflow false))
+      meant_unless (λ s. not (option_map_or (λ n. is_on_in n s) job.source.overflow.indicator false))
       (by_effect (overflow_output job.source.forms job.source.words job.source.overflow job.source.lines))
 
   -- ---- 8 MR shows whether the record has a match, and its columns are moved to fields

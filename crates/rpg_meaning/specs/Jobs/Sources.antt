@@ -7,7 +7,7 @@ use Rattle.rpg_cycle.specs.Runs as machine
 use Rattle.rpg_cycle.specs.Starting.{date_in}
 use Rattle.rpg_program.specs.Put.{Bytes}
 use Rattle.rpg_program.specs.World.{World}
-use Rattle.rpg_meaning.specs.Sheets.Files.{is_primary, is_secondary, file_record_length, the_file}
+use Rattle.rpg_meaning.specs.Sheets.Files.{is_primary, is_secondary, file_record_length, meant_ends, the_file}
 use Rattle.rpg_meaning.specs.Sheets.RecordTypes.{meant_types}
 use Rattle.rpg_meaning.specs.Jobs.Job.{Job}
 use Rattle.rpg_meaning.specs.Jobs.Runs.{IsMeantRun, MeantCourse}
@@ -22,6 +22,7 @@ job_of cards allowance = record {
   types = meant_types cards;
   record_length = file_record_length (the_file is_primary cards);
   secondary_length = file_record_length (the_file is_secondary cards);
+  ends = meant_ends cards;
   allowance = allowance;
 }
 

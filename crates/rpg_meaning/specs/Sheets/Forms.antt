@@ -74,6 +74,7 @@ abbrev pub given_on : Spec → List Definition
 given_on (spec.Header x) = []
 given_on (spec.File x) = []
 given_on (spec.Extension e) = given_by_table e.entries e.table ∷ option_to_list (option_map (given_by_table e.entries) e.alternating)
+given_on (spec.Form x) = []
 given_on (spec.Input x) = given_by_input x
 given_on (spec.Calculation k) = given_by_result k.result_field k.length k.decimals
 given_on (spec.Output x) = []
@@ -137,6 +138,7 @@ abbrev pub is_on_card : Constant → Spec → Bool
 is_on_card c (spec.Header x) = false
 is_on_card c (spec.File x) = false
 is_on_card c (spec.Extension x) = false
+is_on_card c (spec.Form x) = false
 is_on_card c (spec.Input x) = false
 is_on_card c (spec.Calculation k) = is_in_factor c k.factor_1 || is_in_factor c k.factor_2
 is_on_card c (spec.Output x) = is_on_output c x
