@@ -1,7 +1,7 @@
 -- The texts of codes; which codes a set has, and the set with one more.
 use Rattle.std.specs.Prelude.{ℕ, List, Bool, true, false, codes, slice_index_or, slice_set}
 use Rattle.rpg_cli_values.specs.declared.code.WarningCode.{WarningCode}
-use Rattle.rpg_cli_values.specs.declared.code.WarningCode.TheVariants.{W1, W2, W3, W4, W5, W6, W7, W8, W9, W10, W11, W12, W13}
+use Rattle.rpg_cli_values.specs.declared.code.WarningCode.TheVariants.{W1, W2, W3, W4, W5, W6, W7, W8, W9, W10, W11, W12, W13, W14, W15}
 use Rattle.rpg_cli_values.specs.declared.codes.WarningCodes.{WarningCodes}
 
 -- a code as it is printed
@@ -19,6 +19,8 @@ warning_code_text W10 = codes "W10"
 warning_code_text W11 = codes "W11"
 warning_code_text W12 = codes "W12"
 warning_code_text W13 = codes "W13"
+warning_code_text W14 = codes "W14"
+warning_code_text W15 = codes "W15"
 
 -- the number of a code, counted from 0
 abbrev pub code_number : WarningCode → ℕ
@@ -35,6 +37,8 @@ code_number W10 = 9
 code_number W11 = 10
 code_number W12 = 11
 code_number W13 = 12
+code_number W14 = 13
+code_number W15 = 14
 
 -- the code is in the set
 abbrev pub has : WarningCodes → WarningCode → Bool

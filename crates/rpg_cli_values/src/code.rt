@@ -19,13 +19,15 @@ pub enum WarningCode {
     W11,
     W12,
     W13,
+    W14,
+    W15,
 }
 
 impl WarningCode {
     /// Returns its number, counted from 0.
     pub const fn number(self) -> usize
         ensures value { result ≡ code_number self }
-        ensures within { result < 13 }
+        ensures within { result < 15 }
     {
         match self {
             WarningCode::W1 => 0,
@@ -41,6 +43,8 @@ impl WarningCode {
             WarningCode::W11 => 10,
             WarningCode::W12 => 11,
             WarningCode::W13 => 12,
+            WarningCode::W14 => 13,
+            WarningCode::W15 => 14,
         }
     }
 
@@ -61,6 +65,8 @@ impl WarningCode {
             WarningCode::W11 => "W11",
             WarningCode::W12 => "W12",
             WarningCode::W13 => "W13",
+            WarningCode::W14 => "W14",
+            WarningCode::W15 => "W15",
         }
     }
 
@@ -80,6 +86,8 @@ impl WarningCode {
             "W11" => Some(WarningCode::W11),
             "W12" => Some(WarningCode::W12),
             "W13" => Some(WarningCode::W13),
+            "W14" => Some(WarningCode::W14),
+            "W15" => Some(WarningCode::W15),
             _ => None,
         }
     }

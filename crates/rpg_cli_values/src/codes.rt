@@ -9,13 +9,13 @@ use crate::code::WarningCode;
 #[derive(Clone, Copy)]
 pub struct WarningCodes {
     /// Whether each code is in it, by the code's number.
-    marks: [bool; 13],
+    marks: [bool; 15],
 }
 
 impl WarningCodes {
-    pub const NONE: WarningCodes = WarningCodes { marks: [false; 13] };
+    pub const NONE: WarningCodes = WarningCodes { marks: [false; 15] };
 
-    pub const ALL: WarningCodes = WarningCodes { marks: [true; 13] };
+    pub const ALL: WarningCodes = WarningCodes { marks: [true; 15] };
 
     /// Whether a code is in the set.
     pub const fn has(self, code: WarningCode) -> bool

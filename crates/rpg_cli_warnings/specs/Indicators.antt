@@ -26,6 +26,7 @@ abbrev pub conditions_on_card : Spec → Option (Three (Option ConditionSpec))
 conditions_on_card (spec.Header h) = None
 conditions_on_card (spec.File f) = None
 conditions_on_card (spec.Extension e) = None
+conditions_on_card (spec.Form h) = None
 conditions_on_card (spec.Input i) = None
 conditions_on_card (spec.Calculation k) = Some k.conditions
 conditions_on_card (spec.Output o) = Some (line_conditions_on o)
@@ -115,6 +116,7 @@ abbrev pub spec_turns_on : ℕ → Spec → Bool
 spec_turns_on n (spec.Header h) = false
 spec_turns_on n (spec.File f) = is_number n f.overflow
 spec_turns_on n (spec.Extension e) = false
+spec_turns_on n (spec.Form h) = false
 spec_turns_on n (spec.Input i) = input_turns_on n i
 spec_turns_on n (spec.Calculation k) = result_turns_on n k
 spec_turns_on n (spec.Output o) = false

@@ -26,6 +26,14 @@ const NOT_RESET: &str =
 
 const NOT_PRINTER: &str = "{} isn't PRINTER: this file is the disk file";
 
+const LEFT_OUT: &str = "records of {} after the last match value of {} are left out";
+
+const NEVER_READ: &str = "no record of {} is processed";
+
+const NO_FORM: &str = "L in 39, and no L card: a page has 66 lines, and overflow is at line 60";
+
+const UNMARKED_FORM: &str = "39 is blank, and there is an L card: its lines count";
+
 const NO_OVERFLOW: &str =
     "the printer has no overflow indicator: the second page has no heading, and lines go on over the fold";
 
@@ -64,12 +72,20 @@ fn write_of_card(out: &mut TextWriter, kind: WarningKind, line: &[u8]) {
         WarningKind::NotReset => (NOT_RESET, name_at(line, 32, 6)),
         WarningKind::Unused => ("{} is set, and nothing reads it", name_at(line, 43, 6)),
         WarningKind::NoOverflow => (NO_OVERFLOW, NO_NAME),
+        WarningKind::NoForm => (NO_FORM, NO_NAME),
+        WarningKind::UnmarkedForm => (UNMARKED_FORM, NO_NAME),
         _ => (NOT_PRINTER, name_at(line, 40, 7)),
     };
     out.fill(sentence, &[name.into()]);
 }
 
-fn write_sentence(out: &mut TextWriter, kind: WarningKind, line: &[u8]) {
+/// Writes which records of another file are lost, by the cards of both files.
+fn write_loss(out: &mut TextWriter, sentence: &str, source: &[u8], card: u16, line: &[u8]) {
+    let other = name_at(CardLines::of(source).line_of(card), 7, 8);
+    out.fill_two(sentence, other, name_at(line, 7, 8));
+}
+
+fn write_sentence(out: &mut TextWriter, kind: WarningKind, source: &[u8], line: &[u8]) {
     let (sentence, indicator) = match kind {
         WarningKind::NeverOn { indicator } => (
             "indicator {} is tested, and nothing turns it on",
@@ -86,6 +102,14 @@ fn write_sentence(out: &mut TextWriter, kind: WarningKind, line: &[u8]) {
         WarningKind::SetsHalt { indicator } => (SETS_HALT, indicator),
         WarningKind::Overlap { first, last, card } => {
             write_overlap(out, first, last, card);
+            return;
+        }
+        WarningKind::LeftOut { card } => {
+            write_loss(out, LEFT_OUT, source, card, line);
+            return;
+        }
+        WarningKind::NeverRead { card } => {
+            write_loss(out, NEVER_READ, source, card, line);
             return;
         }
         WarningKind::Shorter { result, factor } => {
@@ -106,6 +130,7 @@ fn write_sentence(out: &mut TextWriter, kind: WarningKind, line: &[u8]) {
 fn warned<'a>(
     alloc: Global,
     file: FileName<'a>,
+    source: &[u8],
     line: &'a [u8],
     warning: Warning,
 ) -> Result<Diagnostic<'a>, AllocError> {
@@ -117,7 +142,7 @@ fn warned<'a>(
     let place = file.card(card, marked(Some(columns)), line);
     let topic = Topic::Warning(kind.code().number().saturating_add(1));
     let mut draft = Draft::new(alloc, Level::Warning, Some(place), Some(topic));
-    write_sentence(&mut draft.message, kind, line);
+    write_sentence(&mut draft.message, kind, source, line);
     draft.finish()
 }
 
@@ -179,7 +204,7 @@ pub fn warning_diagnostics<'a>(
     let mut lines = CardLines::of(rest);
     for warning in warnings.iter().take(usize::from(most)) {
         let line = lines.line_of(warning.card.saturating_sub(skipped));
-        out.push(warned(alloc, file, line, *warning));
+        out.push(warned(alloc, file, source, line, *warning));
     }
     if !warnings.is_empty() {
         out.push(counted(alloc, file, warnings.len(), most));

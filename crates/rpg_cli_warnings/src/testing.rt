@@ -16,9 +16,7 @@ pub(crate) fn tested_on(card: &SpecCard) -> Option<Three<Option<ConditionSpec>>>
     match &card.spec {
         Spec::Calculation(calculation) => Some(calculation.conditions),
         Spec::Output(output) => Some(line_conditions_on(output)),
-        Spec::Header(_) | Spec::File(_) | Spec::Extension(_) | Spec::Input(_) | Spec::Data(_) => {
-            None
-        }
+        _ => None,
     }
 }
 

@@ -52,7 +52,7 @@ fn turns_on(card: &SpecCard, indicator: u8) -> bool
         },
         Spec::Input(input) => input_turns_on(input, indicator),
         Spec::Calculation(calculation) => result_turns_on(calculation, indicator),
-        Spec::Header(_) | Spec::Extension(_) | Spec::Output(_) | Spec::Data(_) => false,
+        _ => false,
     }
 }
 

@@ -1,6 +1,6 @@
 -- The codes of warnings.
 use Rattle.rpg_cli_values.specs.declared.code.WarningCode.{WarningCode}
-use Rattle.rpg_cli_values.specs.declared.code.WarningCode.TheVariants.{W1, W2, W3, W4, W5, W6, W7, W8, W9, W10, W11, W12, W13}
+use Rattle.rpg_cli_values.specs.declared.code.WarningCode.TheVariants.{W1, W2, W3, W4, W5, W6, W7, W8, W9, W10, W11, W12, W13, W14, W15}
 use Rattle.rpg_warnings_lines.specs.declared.warning.WarningKind.{WarningKind}
 use Rattle.rpg_warnings_lines.specs.declared.warning.WarningKind.TheVariants as kind
 
@@ -19,3 +19,7 @@ code kind.NotReset = W10
 code kind.Unused = W11
 code kind.NoOverflow = W12
 code kind.NotPrinter = W13
+code (kind.LeftOut card) = W14
+code (kind.NeverRead card) = W14
+code kind.NoForm = W15
+code kind.UnmarkedForm = W15

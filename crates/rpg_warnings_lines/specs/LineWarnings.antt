@@ -3,6 +3,7 @@ use Rattle.std.specs.Prelude.{ℕ, List, [], ◌∷◌, ◌++◌, Option}
 use Rattle.std.specs.Option.{option_or, option_to_list}
 use Rattle.rpg_cards.specs.declared.spec_card.SpecCard.{SpecCard}
 use Rattle.rpg_warnings_lines.specs.Devices.{device_on}
+use Rattle.rpg_warnings_lines.specs.Files.{file_warning}
 use Rattle.rpg_warnings_lines.specs.Overlaps.{overlaps_from}
 use Rattle.rpg_warnings_lines.specs.Pages.{page_on}
 use Rattle.rpg_warnings_lines.specs.Printer.{overflow_on}
@@ -19,7 +20,7 @@ card_warning source cards c after = option_or (option_or (option_or (page_on c) 
 -- those of the last cards
 abbrev pub card_warnings : List (List ℕ) → List SpecCard → List SpecCard → List Warning
 card_warnings source cards [] = []
-card_warnings source cards (c ∷ cs) = option_to_list (card_warning source cards c cs) ++ card_warnings source cards cs
+card_warnings source cards (c ∷ cs) = option_to_list (card_warning source cards c cs) ++ option_to_list (file_warning cards c) ++ card_warnings source cards cs
 
 -- results that nothing reads, fields over each other, the cards by themselves, totals that aren't set back
 abbrev pub line_warnings : List (List ℕ) → List SpecCard → List Warning

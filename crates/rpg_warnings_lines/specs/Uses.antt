@@ -12,12 +12,9 @@ use Rattle.rpg_sheet_specs.specs.declared.entry.EntryIndex.{EntryIndex}
 use Rattle.rpg_sheet_specs.specs.declared.entry.EntryIndex.TheVariants as index
 use Rattle.rpg_sheet_specs.specs.declared.extension.ExtensionSpec.{ExtensionSpec}
 use Rattle.rpg_sheet_specs.specs.declared.extension.TableSpec.{TableSpec}
-use Rattle.rpg_sheet_specs.specs.declared.indicator.Three.{Three}
-use Rattle.rpg_sheet_specs.specs.declared.input.InputSpec.{InputSpec}
 use Rattle.rpg_sheet_specs.specs.declared.input.InputSpec.TheVariants as input
 use Rattle.rpg_sheet_specs.specs.declared.literal.Factor.{Factor}
 use Rattle.rpg_sheet_specs.specs.declared.literal.Factor.TheVariants as factor
-use Rattle.rpg_sheet_specs.specs.declared.output.OutputSpec.{OutputSpec}
 use Rattle.rpg_sheet_specs.specs.declared.output.OutputSpec.TheVariants as output
 use Rattle.rpg_sheet_specs.specs.declared.spec.Spec.{Spec}
 use Rattle.rpg_sheet_specs.specs.declared.spec.Spec.TheVariants as spec

@@ -1,8 +1,9 @@
-//! Warnings about printed lines, their files, and the results that they print or don't.
+//! Warnings about files, printed lines, and the results that they print or don't.
 #![tactic(auto)]
 
 mod alternatives;
 mod devices;
+mod files;
 mod lines;
 mod marks;
 mod overlaps;

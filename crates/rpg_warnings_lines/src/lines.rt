@@ -6,6 +6,7 @@ ghost use Rattle.std.specs.Str.Lines.{lines};
 ghost use Rattle.rpg_warnings_lines.specs.LineWarnings as warned;
 
 use crate::devices::device_on;
+use crate::files::file_warning;
 use crate::overlaps::put_overlaps;
 use crate::pages::page_on;
 use crate::printer::overflow_on;
@@ -42,7 +43,7 @@ pub fn put_warning(warnings: &mut Vec<Warning>, warning: Option<Warning>) -> Res
     Ok(())
 }
 
-/// Appends the warnings about page numbers, lines, printers and devices, in the order of their cards.
+/// Appends the warnings about page numbers, lines, printers, devices and files, in the order of their cards.
 fn put_card_warnings(
     warnings: &mut Vec<Warning>,
     text: &[u8],
@@ -53,6 +54,7 @@ fn put_card_warnings(
     let mut rest = cards;
     while let Some((card, after)) = rest.split_first() {
         put_warning(warnings, card_warning(text, cards, card, after))?;
+        put_warning(warnings, file_warning(cards, card))?;
         rest = after;
     }
     Ok(())

@@ -74,7 +74,7 @@ fn any_line(test: LineTest, file: &Word<8>, cards: &[SpecCard]) -> bool
     false
 }
 
-fn is_printer(file: &FileSpec) -> bool
+pub(crate) fn is_printer(file: &FileSpec) -> bool
     ensures { result ≡ printer.is_printer file.now }
 {
     match (file.role, file.device) {

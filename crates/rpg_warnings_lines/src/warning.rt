@@ -52,6 +52,19 @@ pub enum WarningKind {
     NoOverflow,
     /// Its device looks like the printer, and is the disk file.
     NotPrinter,
+    /// Its file ends the job: records of the file on this card that have a greater match
+    /// value are left out.
+    LeftOut {
+        card: u16,
+    },
+    /// Its file ends the job before a record of the file on this card is selected.
+    NeverRead {
+        card: u16,
+    },
+    /// It has L in 39, and there is no L card.
+    NoForm,
+    /// There is an L card for its file, and 39 is blank.
+    UnmarkedForm,
 }
 
 impl WarningKind {
@@ -72,6 +85,8 @@ impl WarningKind {
             WarningKind::Unused => WarningCode::W11,
             WarningKind::NoOverflow => WarningCode::W12,
             WarningKind::NotPrinter => WarningCode::W13,
+            WarningKind::LeftOut { .. } | WarningKind::NeverRead { .. } => WarningCode::W14,
+            WarningKind::NoForm | WarningKind::UnmarkedForm => WarningCode::W15,
         }
     }
 }

@@ -1,4 +1,4 @@
-use Rattle.std.proofs.Common.{◌≡◌, ℕ, ◌+◌, ◌∙◌, List, Option, ap, drop, sym}
+use Rattle.std.proofs.Common.{ℕ, ◌+◌, ◌∙◌, List, Option, ap, drop, sym}
 use Rattle.rpg_warnings_lines.proofs.Noting.{lowers_more, read_more}
 use Rattle.rpg_warnings_lines.specs.Marks.{least_at, least_with, marks_of}
 use Rattle.rpg_warnings_lines.specs.Unused.{read_from}
