@@ -3,7 +3,9 @@ use Rattle.std.specs.Prelude.{◌≡◌, Bool, true, false, ◌⊎◌, ℕ, List
 use Rattle.rpg_engine.specs.Object.{Object}
 use Rattle.rpg_engine.specs.Objects.{HasObjectFault, IsRefused, SpellsProgram}
 use Rattle.rpg_engine.specs.declared.object.ObjectFault.{ObjectFault}
+use Rattle.rpg_engine.specs.declared.object.ObjectFault.TheVariants as objects
 use Rattle.rpg_verify_rules.specs.Accepted.{IsAccepted}
+use Rattle.rpg_verify_rules.specs.declared.rule.BrokenRule.{BrokenRule}
 use Rattle.rpg_cli_answers.specs.declared.answer.Answer.{Answer}
 use Rattle.rpg_cli_answers.specs.declared.answer.Answer.TheVariants as answers
 use Rattle.rpg_cli_jobs.specs.Dated.{date_answer}
@@ -33,19 +35,25 @@ files_answer p request =
 abbrev pub source_answer : Object → Request → Result WantedFiles Answer
 source_answer p request = then_answer (files_answer p request) (λ files. then_answer (asked_answer (limit_of request) (Ok p) request.date) (λ kept. Ok files))
 
--- The object's bytes are this program's, which is accepted or rejected, and needs these files; and no limit keeps it from running.
-pub record IsReady (object : List ℕ) (request : Request) (accepted : Result Object ObjectFault) (files : WantedFiles) : Type 0 where
+-- The object's bytes are this program's, which is accepted or rejected, and needs these files.
+pub record IsJudged (object : List ℕ) (request : Request) (accepted : Result Object ObjectFault) (files : WantedFiles) : Type 0 where
   pub program : Object
   pub spelled : SpellsProgram object program
   pub same : IfOk accepted (λ verified. verified ≡ program)
+  pub obeys : IfOk accepted IsAccepted
   pub refused : IfErr accepted (λ fault. IsRefused fault program)
   pub wanted : files_answer program request ≡ Ok files
+
+-- and no limit keeps it from running
+pub record IsReady (object : List ℕ) (request : Request) (accepted : Result Object ObjectFault) (files : WantedFiles) : Type 0 where
+  pub judged : IsJudged object request accepted files
   pub kept : asked_answer (limit_of request) accepted request.date ≡ Ok tt
 
--- why the object isn't run, before any other file is opened: the fault of its bytes; or what its program needs and the arguments don't
--- name; or, for an accepted program, the date or the limit
+-- why the object isn't run, before any other file is opened: its bytes are no program's; or its program needs what the arguments don't
+-- name; or, if they ask for a limit, a broken rule, the date or the limit
 abbrev pub StopsRun : (object : List ℕ) → Request → Answer → Type 0
 StopsRun object request answer =
-    ((fault : ObjectFault) × HasObjectFault fault object × (answer ≡ answers.Object fault))
+    ((fault : ObjectFault) × HasObjectFault fault object × ((broken : BrokenRule) → fault ≡ objects.Refused broken → ⊥) × (answer ≡ answers.Object fault))
     ⊎ ((p : Object) × SpellsProgram object p × (files_answer p request ≡ Err answer))
-    ⊎ ((p : Object) × SpellsProgram object p × IsAccepted p × (asked_answer (limit_of request) (Ok p) request.date ≡ Err answer))
+    ⊎ ((accepted : Result Object ObjectFault) × (files : WantedFiles) × IsJudged object request accepted files
+    × (asked_answer (limit_of request) accepted request.date ≡ Err answer))

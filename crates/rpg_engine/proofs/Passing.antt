@@ -192,7 +192,7 @@ phase_four p earlier x y c d h g =
     let a = takes p earlier Primary x c g.one g.put h g.first in
     let b = takes p earlier Secondary y g.one g.two g.more a.orderly g.second in
     let kept = λ (f : InputFile). ap (λ (u : UnderWay). (input_at u.inputs f).is_over) g.selects.1
-    ∙ one_selected p left f (chosen p (waiting_in g.two.inputs Primary) (waiting_in g.two.inputs Secondary)) g.two in
+    ∙ one_selected p left f (chosen p left (waiting_in g.two.inputs Primary) (waiting_in g.two.inputs Secondary)) g.two in
     record {
       primary = taken_within p Primary x c.inputs c.inputs g.one.inputs d.inputs refl (kept Primary ∙ ap (λ (i : InputState). i.is_over) b.other) (asked p left Primary x c g.one g.put g.first);
       secondary = taken_within p Secondary y c.inputs g.one.inputs g.two.inputs d.inputs a.other (kept Secondary) (asked p left Secondary y g.one g.two g.more g.second);

@@ -3,6 +3,8 @@
 ghost use Rattle.std.specs.Prelude.{◌≡◌, nat_lt, IfErr, IfOk};
 ghost use Rattle.rpg_program.specs.Object.{Object};
 ghost use Rattle.rpg_verify_rules.specs.Accepted.{IsAccepted};
+ghost use Rattle.rpg_engine.specs.declared.object.ObjectFault.TheVariants as objects;
+ghost use Rattle.rpg_verify_rules.specs.declared.rule.BrokenRule.{BrokenRule};
 ghost use Rattle.rpg_engine.specs.Objects.{HasObjectFault, IsAcceptedWith, IsRefused, SpellsProgram};
 
 use rpg_object::{Code, DecodeFault, decode};
@@ -52,6 +54,7 @@ pub fn decode_object(alloc: Global, bytes: &[u8]) -> Result<Program, ObjectFault
     ensures spelled { IfOk result (λ p. SpellsProgram bytes.now p) }
     ensures only { IfOk result (λ p. (q : Object) → SpellsProgram bytes.now q → p ≡ q) }
     ensures refused { IfErr result (λ fault. HasObjectFault fault bytes.now) }
+    ensures unjudged { IfErr result (λ fault. (broken : BrokenRule) → fault ≡ objects.Refused broken → ⊥) }
 {
     Ok(decode(alloc, bytes)?)
 }
