@@ -73,9 +73,9 @@ def rounds(rules):
 # ---- inputs of the program
 
 
-def program_input(deck, table, switches, printer, keeps_forms):
+def program_input(deck, table, switches, printer):
     lines = [f"D{card}" for card in deck.split("\n")[:-1]] + [f"T{record}" for record in table]
-    return "".join(f"{it}\n" for it in [*lines, f"S{switches}", *([f"P{printer}"] if printer else []), *(["F"] if keeps_forms else [])])
+    return "".join(f"{it}\n" for it in [*lines, f"S{switches}", *([f"P{printer}"] if printer else [])])
 
 
 def after(words, word):
@@ -85,9 +85,9 @@ def after(words, word):
 
 def case_input(path):
     words = words_of(path)
-    table = (CASES / "table").read_text(encoding="latin-1").split("\n")[:-1]
+    table = (CASES / after(words, "--table").partition("=")[2]).read_text(encoding="latin-1").split("\n")[:-1]
     switches = after(words, "--switches") or "0" * 8
-    return program_input(path.read_text(encoding="latin-1"), table, switches, after(words, "--printer"), "--forms" in words)
+    return program_input(path.read_text(encoding="latin-1"), table, switches, after(words, "--printer"))
 
 
 def case_answer(path):
@@ -189,7 +189,7 @@ def inputs_for(wrong, decks):
     for feature in {it.feature for it in wrong}:
         for seed in range(1, decks + 1):
             job = old_deck_sources.made(seed, {feature})
-            inputs[f"{feature}-{seed}"] = program_input(job.deck, job.table or [], job.switches, job.printer, False)
+            inputs[f"{feature}-{seed}"] = program_input(job.deck, job.table or [], job.switches, job.printer)
     return inputs
 
 

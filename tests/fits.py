@@ -13,7 +13,7 @@ from outcome import Outcome
 from program import Program
 
 # The words that decks are rewritten with, if NAME.words has no others.
-WORDS = "--table TABF=table --switches 10000000 --forms"
+WORDS = "--table TABF=table --switches 10000000"
 
 AT_ONCE = 10
 

@@ -145,6 +145,11 @@ fn note_of<'a>(
     Draft::note(alloc, source_card(file, source, note.card)).filled("{}", &[note.text.into()])
 }
 
+/// Returns the note on an option for the L cards of an old deck, which are read now.
+pub(crate) fn forms_note(alloc: Global, file: FileName<'_>) -> Result<Diagnostic<'_>, AllocError> {
+    Draft::note(alloc, file.whole()).filled("--forms has no effect: L cards are read", &[])
+}
+
 /// Returns the diagnostic for a deck that can't be rewritten.
 pub(crate) fn refusal_diagnostic<'a>(
     alloc: Global,

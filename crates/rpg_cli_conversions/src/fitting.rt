@@ -1,7 +1,7 @@
 //! The command that rewrites an old deck.
 
 use crate::changes::{
-    long_deck_diagnostic, refusal_diagnostic, report_changes, too_many_diagnostic,
+    forms_note, long_deck_diagnostic, refusal_diagnostic, report_changes, too_many_diagnostic,
 };
 use crate::new_deck::{new_deck_faults, origins};
 use rpg_cli_answers::{
@@ -75,7 +75,6 @@ fn rewrite(
     let tables = table_files(alloc, request, records)?;
     let settings = Settings {
         switches: switches_of(request),
-        keeps_forms: request.keeps_forms,
         printer: printer_of(request),
         tables: tables.as_slice(),
     };
@@ -194,6 +193,9 @@ fn report_fit<L: Listener>(
         role: FileArgument::Fitted.name(),
     };
     report_changes(alloc, old, source, fit, listener);
+    if request.gives_forms {
+        tell_made(listener, forms_note(alloc, old));
+    }
     tell_all(listener, &new_deck_faults(alloc, new, fit));
     tell_all(listener, &origins(alloc, new, old, fit));
 }

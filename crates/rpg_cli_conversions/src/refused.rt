@@ -257,7 +257,7 @@ fn write_record_fault(out: &mut TextWriter, fault: RecordFault) {
         RecordFault::NoPlace { column, byte } => {
             write_count(out, "column {}: ", column);
             write_quoted(out, &[byte]);
-            out.write_str(" stands where no digits go");
+            out.write_str(" is where no digits go");
         }
         RecordFault::TooMany => out.write_str("a file has at most 10,000,000 records"),
     }

@@ -24,13 +24,7 @@ pub struct FittedDeck {
     pub judged: SourceFaults,
 }
 
-/// Rewrites an old deck, as far as the rules go.
-///
-/// The faults are those of the new deck: it has none exactly if it can be compiled.
-///
-/// # Errors
-///
-/// A rule rejects the deck, it has too many cards, or memory runs out.
+/// Rewrites an old deck, as far as the rules go. The faults are those of the new deck: it has none exactly if it can be compiled.
 pub fn fit(alloc: Global, source: &[u8], settings: &Settings) -> Result<FittedDeck, FitFault>
     ensures laws { IfOk result (λ fit. IsFitted source.now fit.fitted) }
     ensures faults { IfOk result (λ fit. AreSourceFaults fit.fitted.new.items fit.judged.faults.items) }
@@ -39,11 +33,7 @@ pub fn fit(alloc: Global, source: &[u8], settings: &Settings) -> Result<FittedDe
 }
 
 /// Rewrites an old deck by any rules: each one is applied in turn, to what the ones before it left. A deck that one of them rejects
-/// isn't returned.
-///
-/// # Errors
-///
-/// A rule rejects the deck, it has too many cards, or memory runs out.
+/// isn't returned, and neither is one with too many cards.
 pub fn fit_by<R: Rules>(alloc: Global, source: &[u8], rules: &R) -> Result<FittedDeck, FitFault>
     ensures laws { IfOk result (λ fit. IsFitted source.now fit.fitted) }
     ensures faults { IfOk result (λ fit. AreSourceFaults fit.fitted.new.items fit.judged.faults.items) }

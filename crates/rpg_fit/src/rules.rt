@@ -56,7 +56,7 @@ fn apply_to_cards(editor: &mut Editor, settings: &Settings, rule: Rule) {
         Rule::Comments => comments(editor),
         Rule::Columns => columns(editor),
         Rule::Switches => switches(editor, &settings.switches),
-        Rule::Forms => forms(editor, settings),
+        Rule::Forms => forms(editor),
         Rule::Tables => tables(editor, settings),
         Rule::NumberedPages => numbered_pages(editor),
         Rule::Disks => disks(editor),

@@ -1,6 +1,6 @@
 //! UDAY, UMONTH and UYEAR.
 
-use rpg_fit_deck::{Card, Editor, Seen, Sentence, View, Word};
+use rpg_fit_deck::{Editor, Seen, Sentence, View, Word};
 use rpg_fit_terms::is_name_on;
 use rpg_fit_words::{
     Columns, Done, Indicator, Line, List, Place, Printer, RuleStop, array_of, calculation,
@@ -8,30 +8,11 @@ use rpg_fit_words::{
     is_total_skipped_late, lines, printer_of,
 };
 
-/// A part of the date that the old system provided as a field.
-#[derive(Clone, Copy)]
-enum DatePart {
-    Day,
-    Month,
-    Year,
-}
+/// The name of a part of the date that the old system provided as a field.
+type DatePart = &'static [u8];
 
-impl DatePart {
-    /// All parts, in the order of reports.
-    const ALL: [DatePart; 3] = [DatePart::Day, DatePart::Month, DatePart::Year];
-
-    fn name(self) -> &'static [u8] {
-        match self {
-            DatePart::Day => b"UDAY",
-            DatePart::Month => b"UMONTH",
-            DatePart::Year => b"UYEAR",
-        }
-    }
-
-    fn word(self) -> Word {
-        Word::of(self.name())
-    }
-}
+/// All parts, in the order of reports.
+const PARTS: [DatePart; 3] = [b"UDAY", b"UMONTH", b"UYEAR"];
 
 /// Rewrites parts of the date as fields that calculations fill from UDATE.
 pub fn dates(editor: &mut Editor) -> Done {
@@ -46,9 +27,8 @@ pub fn dates(editor: &mut Editor) -> Done {
 /// Returns the parts of the date that a deck uses and no card defines.
 fn undefined_parts(view: &View) -> List<DatePart> {
     let mut found = List::new(view.alloc);
-    for part in &DatePart::ALL {
-        let name = part.name();
-        if is_name_used(view, name) && !is_defined(view, name) {
+    for part in &PARTS {
+        if is_name_used(view, *part) && !is_defined(view, *part) {
             found.push(*part);
         }
     }
@@ -74,12 +54,7 @@ fn fill(editor: &mut Editor, view: &View, parts: &[DatePart]) -> Done {
 
 /// Whether an array, a result or an input field defines a name.
 fn is_defined(view: &View, name: &[u8]) -> bool {
-    for seen in view.cards.iter() {
-        if defines(seen, name) {
-            return true;
-        }
-    }
-    array_of(view, name).is_some()
+    view.cards.iter().any(|seen| defines(seen, name)) || array_of(view, name).is_some()
 }
 
 /// Whether a card is a calculation that gives a name its length, or an input field.
@@ -88,33 +63,17 @@ fn defines(seen: &Seen, name: &[u8]) -> bool {
         || is_card(seen, b'I') && seen.card.value(53, 58) == name
 }
 
-/// Whether a name is one of these parts of the date.
 fn is_part(parts: &[DatePart], name: &[u8]) -> bool {
-    for part in parts {
-        if part.name() == name {
-            return true;
-        }
-    }
-    false
+    parts.iter().any(|part| *part == name)
 }
 
-/// Returns the first card that has one of these parts of the date.
 fn first_card(view: &View, parts: &[DatePart]) -> usize {
     for seen in view.cards.iter() {
-        if uses_part(&seen.card, parts) {
+        if parts.iter().any(|part| is_name_on(&seen.card, *part)) {
             return seen.number;
         }
     }
     0
-}
-
-fn uses_part(card: &Card, parts: &[DatePart]) -> bool {
-    for part in parts {
-        if is_name_on(card, part.name()) {
-            return true;
-        }
-    }
-    false
 }
 
 /// Rejects parts of the date on lines that may be written before any calculation.
@@ -154,10 +113,10 @@ fn has_total(view: &View) -> bool {
 
 /// The calculations that fill each part of the date, in order. The word is a field for the month and the day.
 const MOVES: [(DatePart, &[u8]); 4] = [
-    (DatePart::Month, b"||MOVEL|UDATE|UMONTH|  20"),
-    (DatePart::Day, b"||MOVEL|UDATE|%|  40"),
-    (DatePart::Day, b"||MOVE|%|UDAY|  20"),
-    (DatePart::Year, b"||MOVE|UDATE|UYEAR|  20"),
+    (b"UMONTH", b"||MOVEL|UDATE|UMONTH|  20"),
+    (b"UDAY", b"||MOVEL|UDATE|%|  40"),
+    (b"UDAY", b"||MOVE|%|UDAY|  20"),
+    (b"UYEAR", b"||MOVE|UDATE|UYEAR|  20"),
 ];
 
 /// Fills parts of the date, as part of the change of a card.
@@ -174,7 +133,7 @@ impl Filling<'_> {
     fn put(&self, editor: &mut Editor, place: Place, level: Indicator) -> Done {
         let mut cards = List::new(editor.alloc());
         for (part, template) in &MOVES {
-            if is_part(self.parts, part.name()) {
+            if is_part(self.parts, *part) {
                 let filled = calculation(*template, &[self.half], self.number);
                 cards.push(filled.with(7, 8, level.word().text()));
             }
@@ -191,9 +150,9 @@ fn sentence(parts: &[DatePart]) -> Sentence {
         "%, %, % from UDATE, so --date is month, day, year",
     );
     match parts {
-        [a, b, c] => Sentence::of_three(three, a.word(), b.word(), c.word()),
-        [a, b] => Sentence::of_two(two, a.word(), b.word()),
-        [a, ..] => Sentence::about(one, a.word()),
+        [a, b, c] => Sentence::of_three(three, Word::of(*a), Word::of(*b), Word::of(*c)),
+        [a, b] => Sentence::of_two(two, Word::of(*a), Word::of(*b)),
+        [a, ..] => Sentence::about(one, Word::of(*a)),
         [] => Sentence::of(""),
     }
 }

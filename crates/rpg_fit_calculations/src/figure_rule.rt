@@ -2,7 +2,8 @@
 
 use rpg_fit_deck::{Card, Editor, Seen, Sentence, View, Word};
 use rpg_fit_words::{
-    Columns, Done, Operand, Place, RuleStop, calculation, form_of, fresh_name, insert_at, is_card,
+    Columns, Done, Operand, Outcome, Place, RuleStop, calculation, form_of, fresh_name, insert_at,
+    is_card,
 };
 
 /// The longest text that a literal fills.
@@ -124,7 +125,7 @@ fn rewritten(
     fields: &mut Fields,
     seen: Seen,
     columns: Columns,
-) -> Result<Card, RuleStop> {
+) -> Outcome<Card> {
     let constant = Word::of(columns.value(&seen.card));
     let Some(figure) = Figure::of(constant.text()) else {
         return Ok(seen.card);
@@ -152,7 +153,7 @@ fn meaning(
     constant: Word,
     figure: Figure,
     columns: Columns,
-) -> Result<Instead, RuleStop> {
+) -> Outcome<Instead> {
     let Some(beside) = Beside::of(view, other_operand(&seen.card, columns)) else {
         let why = "% stands with a name that nothing defines";
         return Err(RuleStop::about(seen.number, why, constant));
@@ -205,12 +206,7 @@ fn instead_of(
 }
 
 /// Returns the field that replaces a figurative constant, created for the first card that needs it.
-fn field(
-    editor: &mut Editor,
-    fields: &mut Fields,
-    figure: Figure,
-    number: usize,
-) -> Result<Word, RuleStop> {
+fn field(editor: &mut Editor, fields: &mut Fields, figure: Figure, number: usize) -> Outcome<Word> {
     let (known, stem, template): (Option<Word>, &[u8], &[u8]) = match figure {
         Figure::Blanks => (fields.blanks, b"BL$", BLANKS),
         Figure::Zeros => (fields.zeros, b"ZE$", ZEROS),

@@ -53,11 +53,7 @@ pub(crate) enum Moves {
     OutOf(Entries),
 }
 
-/// Returns what a MOVEA becomes. `is_same`: both sides are the same array.
-///
-/// # Errors
-///
-/// Moves of entries don't have the same meaning. The sentence says why.
+/// Returns what a MOVEA becomes, or why moves of entries don't have the same meaning. `is_same`: both sides are the same array.
 pub(crate) fn moves_of(from: Side, to: Side, is_same: bool) -> Result<Moves, Sentence> {
     match (from, to) {
         (Side::Field(_), Side::Field(_)) => Ok(Moves::Left),

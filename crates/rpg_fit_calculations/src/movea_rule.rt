@@ -5,8 +5,8 @@ use crate::movea::{Entries, Moves, Side, moves_of};
 use crate::now::{Now, replace};
 use rpg_fit_deck::{Card, Editor, Seen, Sentence, View, Word};
 use rpg_fit_words::{
-    Array, Columns, Constant, Done, Flagged, FreeIndicators, Group, List, NewCard, Operand,
-    RuleStop, array_of, entry, form_of, groups_now, under_flag, unused_prefix,
+    Array, Columns, Constant, Done, Flagged, Group, List, NewCard, Operand, Outcome, RuleStop,
+    array_of, entry, form_of, groups_now, unused_prefix,
 };
 
 /// Rewrites MOVEA as moves of single entries.
@@ -15,24 +15,18 @@ pub fn moves(editor: &mut Editor) -> Done {
     let Some(first) = found.first() else {
         return Ok(());
     };
-    let mut free = FreeIndicators::new();
     let mut now = Now::of(editor, first.last)?;
     for group in found.iter() {
         if group.operation() == b"MOVEA".as_slice() {
             now.turn(group.last);
-            rewrite_group(editor, &mut free, group, &mut now)?;
+            rewrite_group(editor, group, &mut now)?;
         }
     }
     Ok(())
 }
 
 /// Rewrites a MOVEA. One whose operands can't be read stays, for the compiler to report.
-fn rewrite_group(
-    editor: &mut Editor,
-    free: &mut FreeIndicators,
-    group: &Group,
-    now: &mut Now,
-) -> Done {
+fn rewrite_group(editor: &mut Editor, group: &Group, now: &mut Now) -> Done {
     match meaning(now)? {
         None => Ok(()),
         Some(Moves::Left) => {
@@ -42,13 +36,13 @@ fn rewrite_group(
         }
         Some(moves) => {
             make_rooms(editor, now)?;
-            move_entries(editor, free, group, now, moves)
+            move_entries(editor, group, now, moves)
         }
     }
 }
 
 /// Returns what a MOVEA becomes, or None if its operands can't be read.
-fn meaning(now: &Now) -> Result<Option<Moves>, RuleStop> {
+fn meaning(now: &Now) -> Outcome<Option<Moves>> {
     let factor = Columns::Factor2.value(&now.seen.card);
     let result = Columns::Result.value(&now.seen.card);
     let Some(from) = side(now, factor)? else {
@@ -65,7 +59,7 @@ fn meaning(now: &Now) -> Result<Option<Moves>, RuleStop> {
 }
 
 /// Returns a side of a MOVEA; None if nothing defines the operand, or its array has no such entry.
-fn side(now: &Now, text: &[u8]) -> Result<Option<Side>, RuleStop> {
+fn side(now: &Now, text: &[u8]) -> Outcome<Option<Side>> {
     if is_literal(text) {
         let characters = Constant::of(text).text().len();
         return Ok(Some(Side::Field(characters)));
@@ -101,18 +95,12 @@ fn entries_side(array: Array, index: &[u8]) -> Option<Side> {
 }
 
 /// Rewrites a MOVEA with an array.
-fn move_entries(
-    editor: &mut Editor,
-    free: &mut FreeIndicators,
-    group: &Group,
-    now: &mut Now,
-    moves: Moves,
-) -> Done {
+fn move_entries(editor: &mut Editor, group: &Group, now: &mut Now, moves: Moves) -> Done {
     let work = match moves {
         Moves::Into(_) | Moves::OutOf(_) => work_prefix(&now.view, now.seen.number)?,
         _ => Word::empty(),
     };
-    let under = under_flag(&now.view, group, free, false)?;
+    let under = now.under_flag(group, false)?;
     let plan = Plan::of(&now.seen, &under, work);
     let mut cards = under.before;
     plan.push_moves(&mut cards, moves);
@@ -148,7 +136,7 @@ fn make_room(editor: &mut Editor, now: &mut Now, columns: Columns) -> Done {
 }
 
 /// Returns a prefix for work fields that no name has.
-fn work_prefix(view: &View, number: usize) -> Result<Word, RuleStop> {
+fn work_prefix(view: &View, number: usize) -> Outcome<Word> {
     let prefix = unused_prefix(view, b"MV", LAST)
         .or(unused_prefix(view, b"MW", LAST))
         .or(unused_prefix(view, b"MX", LAST))

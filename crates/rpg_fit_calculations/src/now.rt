@@ -1,21 +1,28 @@
 //! The calculations of a deck, one after another, and cards that replace one.
 
 use rpg_fit_deck::{Editor, Seen, Sentence, View, Word};
-use rpg_fit_words::{Done, Group, List, NewCard, RuleStop, put_cards, remove_cards, with_room};
+use rpg_fit_words::{
+    Done, Flagged, FreeIndicators, Group, List, NewCard, Outcome, ShortNames, put_cards,
+    remove_cards, under_flag,
+};
 
 /// A deck, but for cards that replaced calculations, and the last card of the calculation that is next.
 #[derive(Drop)]
 pub(crate) struct Now {
     pub view: View,
     pub seen: Seen,
+    pub free: FreeIndicators,
+    names: ShortNames,
 }
 
 impl Now {
     /// Begins with a calculation.
-    pub fn of(editor: &Editor, last: Seen) -> Result<Now, RuleStop> {
+    pub fn of(editor: &Editor, last: Seen) -> Outcome<Now> {
         Ok(Now {
             view: editor.view()?,
             seen: last,
+            free: FreeIndicators::new(),
+            names: ShortNames::new(editor.alloc()),
         })
     }
 
@@ -38,11 +45,16 @@ impl Now {
 
     /// Gives an array a name with room for a comma and an index.
     pub fn make_room(&mut self, editor: &mut Editor, array: Word, index: Word) -> Done {
-        let name = with_room(editor, array.text(), index)?;
+        let name = self.names.with_room(editor, array.text(), index)?;
         if name.text() != array.text() {
             self.look(editor)?;
         }
         Ok(())
+    }
+
+    /// Returns the conditions of the cards that replace a calculation: its own, or a free indicator.
+    pub fn under_flag(&mut self, group: &Group, always: bool) -> Outcome<Flagged> {
+        under_flag(&self.view, group, &mut self.free, always)
     }
 }
 
@@ -50,11 +62,11 @@ impl Now {
 pub(crate) fn replace(
     editor: &mut Editor,
     group: &Group,
-    cards: &List<NewCard>,
+    new: &List<NewCard>,
     remark: Sentence,
 ) -> Done {
     let number = group.last.number;
-    put_cards(editor, group.first().at, cards.checked()?, number)?;
+    put_cards(editor, group.first().at, new.checked()?, number)?;
     remove_cards(editor, group.leading.as_slice(), number);
     editor.remove(group.last.at, number);
     editor.report(number, remark);

@@ -3,8 +3,8 @@
 use crate::now::{Now, replace};
 use rpg_fit_deck::{Card, Editor, Sentence, View, Word};
 use rpg_fit_words::{
-    Columns, Done, FreeIndicators, FreshNames, Group, Indicator, NewCard, Operand, RuleStop,
-    array_of, calculation, form_of, groups_now, under_flag,
+    Columns, Done, FreshNames, Group, Indicator, NewCard, Operand, Outcome, RuleStop, array_of,
+    calculation, form_of, groups_now,
 };
 
 /// The most digits of a number.
@@ -24,16 +24,15 @@ pub fn square_roots(editor: &mut Editor) -> Done {
     for group in found.iter() {
         if group.operation() == b"SQRT".as_slice() {
             now.seen = group.last;
-            rewrite_root(editor, &mut unused, group, &now, found.as_slice())?;
+            rewrite_root(editor, &mut unused, group, &mut now, found.as_slice())?;
         }
     }
     Ok(())
 }
 
-/// The indicators and names that no card has and no loop has got yet.
+/// The names that no card has and no loop has got yet.
 #[derive(Clone, Copy)]
 struct Unused {
-    indicators: FreeIndicators,
     squares: FreshNames,
     roots: FreshNames,
     nexts: FreshNames,
@@ -44,7 +43,6 @@ struct Unused {
 impl Unused {
     fn new() -> Unused {
         Unused {
-            indicators: FreeIndicators::new(),
             squares: FreshNames::of(b"SQ#", 6),
             roots: FreshNames::of(b"SG#", 6),
             nexts: FreshNames::of(b"SH#", 6),
@@ -82,10 +80,8 @@ fn check_remainders(number: usize, found: &[Group]) -> Done {
 /// Rejects whole arrays and resulting indicators.
 fn check(now: &Now, found: &[Group]) -> Done {
     let (card, number) = (&now.seen.card, now.seen.number);
-    let factor = array_of(&now.view, Columns::Factor2.value(card));
-    if factor
-        .or(array_of(&now.view, Columns::Result.value(card)))
-        .is_some()
+    if array_of(&now.view, Columns::Factor2.value(card)).is_some()
+        || array_of(&now.view, Columns::Result.value(card)).is_some()
     {
         return Err(RuleStop::because(number, "SQRT of whole arrays"));
     }
@@ -102,7 +98,6 @@ struct Digits {
     decimals: usize,
 }
 
-/// Returns the digits of a constant.
 fn digits_of(constant: &[u8]) -> Digits {
     let mut digits = Digits {
         length: 0,
@@ -145,10 +140,10 @@ fn rewrite_root(
     editor: &mut Editor,
     unused: &mut Unused,
     group: &Group,
-    now: &Now,
-    found: &[Group],
+    now: &mut Now,
+    all: &[Group],
 ) -> Done {
-    check(now, found)?;
+    check(now, all)?;
     let card = &now.seen.card;
     let (Some(digits), Some(decimals)) = (
         operand_digits(&now.view, Columns::Factor2.value(card)),
@@ -173,11 +168,11 @@ fn put_loop(
     editor: &mut Editor,
     unused: &mut Unused,
     group: &Group,
-    now: &Now,
+    now: &mut Now,
     length: usize,
     decimals: usize,
 ) -> Done {
-    let under = under_flag(&now.view, group, &mut unused.indicators, true)?;
+    let under = now.under_flag(group, true)?;
     let Some(flag) = under.flag else {
         return Ok(());
     };
@@ -227,12 +222,12 @@ struct Root {
 
 impl Root {
     fn of(
-        now: &Now,
+        now: &mut Now,
         unused: &mut Unused,
         level: Indicator,
         flag: Indicator,
         length: usize,
-    ) -> Result<Root, RuleStop> {
+    ) -> Outcome<Root> {
         let number = now.seen.number;
         Ok(Root {
             level,
@@ -242,7 +237,7 @@ impl Root {
             next: unused.nexts.take(&now.view, number)?,
             again: unused.starts.take(&now.view, number)?,
             done: unused.ends.take(&now.view, number)?,
-            goes_on: unused.indicators.take(&now.view, number)?,
+            goes_on: now.free.take(&now.view, number)?,
             length,
             number,
         })

@@ -3,8 +3,8 @@
 use crate::now::{Now, replace};
 use rpg_fit_deck::{Card, Editor, Sentence, View, Word};
 use rpg_fit_words::{
-    Array, Columns, Done, FreeIndicators, FreshNames, Group, Indicator, NewCard, Operand, RuleStop,
-    array_of, calculation, entry, fresh_name, groups_now, under_flag,
+    Array, Columns, Done, FreshNames, Group, Indicator, NewCard, Operand, Outcome, RuleStop,
+    array_of, calculation, entry, fresh_name, groups_now,
 };
 
 /// The least number of entries for which the calculations are a loop.
@@ -16,13 +16,12 @@ pub fn whole_calculations(editor: &mut Editor) -> Done {
     let Some(first) = found.first() else {
         return Ok(());
     };
-    let mut free = FreeIndicators::new();
     let mut now = Now::of(editor, first.last)?;
     for (place, group) in found.iter().enumerate() {
         if !is_left(group.operation()) {
             now.turn(group.last);
             let next = found.get(place.saturating_add(1));
-            rewrite_group(editor, &mut free, group, &mut now, next)?;
+            rewrite_group(editor, group, &mut now, next)?;
         }
     }
     Ok(())
@@ -57,7 +56,6 @@ impl Wholes {
         }
     }
 
-    /// Returns the array in columns.
     fn at(&self, columns: Columns) -> Option<Array> {
         match columns {
             Columns::Factor1 => self.factor1,
@@ -78,14 +76,13 @@ impl Wholes {
     }
 }
 
-/// Whether an operand is an entry of an array.
 fn is_entry_of(text: &[u8], array: &[u8]) -> bool {
     text != array && Operand::of(text).name == array
 }
 
 /// Rejects an operation that can't be done entry by entry, a result that isn't a whole array or is a factor by one of its entries, and
 /// resulting indicators.
-fn check(now: &Now, wholes: &Wholes, next: Option<&Group>) -> Done {
+fn check(now: &Now, whole: &Wholes, next: Option<&Group>) -> Done {
     let card = &now.seen.card;
     let number = now.seen.number;
     let operation = card.value(28, 32);
@@ -94,7 +91,7 @@ fn check(now: &Now, wholes: &Wholes, next: Option<&Group>) -> Done {
         let why = "a whole array beside %";
         return Err(RuleStop::about(number, why, Word::of(operation)));
     }
-    if wholes.result.is_none() {
+    if whole.result.is_none() {
         return Err(RuleStop::because(number, "a whole array into a field"));
     }
     if !card.is_blank(54, 59) {
@@ -117,29 +114,23 @@ fn check(now: &Now, wholes: &Wholes, next: Option<&Group>) -> Done {
 }
 
 /// Rewrites a calculation, if it has whole arrays.
-fn rewrite_group(
-    editor: &mut Editor,
-    free: &mut FreeIndicators,
-    group: &Group,
-    now: &mut Now,
-    next: Option<&Group>,
-) -> Done {
-    let wholes = Wholes::of(&now.view, &now.seen.card);
-    let Some(entries) = wholes.least_entries() else {
+fn rewrite_group(editor: &mut Editor, group: &Group, now: &mut Now, next: Option<&Group>) -> Done {
+    let whole = Wholes::of(&now.view, &now.seen.card);
+    let Some(entries) = whole.least_entries() else {
         return Ok(());
     };
-    check(now, &wholes, next)?;
+    check(now, &whole, next)?;
     match entries {
         0 => Ok(()),
-        _ if entries < LOOP_FROM => by_entry(editor, free, group, now, &wholes, entries),
-        _ => by_loop(editor, free, group, now, &wholes, entries),
+        _ if entries < LOOP_FROM => by_entry(editor, group, now, &whole, entries),
+        _ => by_loop(editor, group, now, &whole, entries),
     }
 }
 
 /// Gives the whole arrays of a calculation names with room for a comma and an index.
-fn make_rooms(editor: &mut Editor, now: &mut Now, wholes: &Wholes, index: Word) -> Done {
+fn make_rooms(editor: &mut Editor, now: &mut Now, whole: &Wholes, index: Word) -> Done {
     for columns in &Columns::ALL {
-        if wholes.at(*columns).is_some() {
+        if whole.at(*columns).is_some() {
             let name = Word::of(columns.value(&now.seen.card));
             now.make_room(editor, name, index)?;
         }
@@ -148,10 +139,10 @@ fn make_rooms(editor: &mut Editor, now: &mut Now, wholes: &Wholes, index: Word) 
 }
 
 /// Returns the calculation of an entry, with an index for each whole array.
-fn entry_card(wholes: &Wholes, base: NewCard, index: Word) -> NewCard {
+fn entry_card(whole: &Wholes, base: NewCard, index: Word) -> NewCard {
     let mut card = base.card;
     for columns in &Columns::ALL {
-        if wholes.at(*columns).is_some() {
+        if whole.at(*columns).is_some() {
             let array = Word::of(columns.value(&card));
             card = columns.put(card, entry(array, index).text());
         }
@@ -165,19 +156,18 @@ fn entry_card(wholes: &Wholes, base: NewCard, index: Word) -> NewCard {
 /// Rewrites a calculation as one for each entry.
 fn by_entry(
     editor: &mut Editor,
-    free: &mut FreeIndicators,
     group: &Group,
     now: &mut Now,
-    wholes: &Wholes,
-    entries: usize,
+    whole: &Wholes,
+    count: usize,
 ) -> Done {
-    make_rooms(editor, now, wholes, Word::of_number(entries))?;
-    let under = under_flag(&now.view, group, free, false)?;
+    make_rooms(editor, now, whole, Word::of_number(count))?;
+    let under = now.under_flag(group, false)?;
     let base = base_of(now, under.level).with(9, 17, under.conditions.text());
     let mut cards = under.before;
-    for place in 0..entries {
+    for place in 0..count {
         let index = Word::of_number(place.saturating_add(1));
-        cards.push(entry_card(wholes, base, index));
+        cards.push(entry_card(whole, base, index));
     }
     let (one, several) = (
         "whole arrays: % calculation",
@@ -198,26 +188,25 @@ fn base_of(now: &Now, level: Indicator) -> NewCard {
 /// Rewrites a calculation as a loop over the entries.
 fn by_loop(
     editor: &mut Editor,
-    free: &mut FreeIndicators,
     group: &Group,
     now: &mut Now,
-    wholes: &Wholes,
-    entries: usize,
+    whole: &Wholes,
+    count: usize,
 ) -> Done {
     let index = FreshNames::of(b"X#", 2).take(&now.view, now.seen.number)?;
-    make_rooms(editor, now, wholes, index)?;
-    let under = under_flag(&now.view, group, free, true)?;
+    make_rooms(editor, now, whole, index)?;
+    let under = now.under_flag(group, true)?;
     let Some(flag) = under.flag else {
         return Ok(());
     };
     let frame = Loop::of(now, under.level, flag, index)?;
     let mut cards = under.before;
     cards.push_all(&frame.begin());
-    cards.push(entry_card(wholes, frame.base, index));
-    cards.push_all(&frame.end(entries));
+    cards.push(entry_card(whole, frame.base, index));
+    cards.push_all(&frame.end(count));
     let remark =
         "whole arrays: a loop of %; give --allowance more than 1000 where it is done often";
-    let remark = Sentence::about(remark, Word::of_number(entries));
+    let remark = Sentence::about(remark, Word::of_number(count));
     replace(editor, group, &cards, remark)?;
     now.look(editor)
 }
@@ -240,7 +229,7 @@ struct Loop {
 }
 
 impl Loop {
-    fn of(now: &Now, level: Indicator, flag: Indicator, index: Word) -> Result<Loop, RuleStop> {
+    fn of(now: &Now, level: Indicator, flag: Indicator, index: Word) -> Outcome<Loop> {
         let number = now.seen.number;
         Ok(Loop {
             level,

@@ -97,14 +97,8 @@ fn report_disks(editor: &mut Editor, disks: &[Disk]) {
     }
 }
 
-/// Returns the disk file of a line.
 fn disk_of<'a>(disks: &'a [Disk], file: &[u8]) -> Option<&'a Disk> {
-    for disk in disks {
-        if disk.name() == file {
-            return Some(disk);
-        }
-    }
-    None
+    disks.iter().find(|disk| disk.name() == file)
 }
 
 /// Puts a file's name on the card of a line, as part of the change of a disk file.

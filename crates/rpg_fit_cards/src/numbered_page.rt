@@ -29,7 +29,6 @@ pub fn numbered_pages(editor: &mut Editor) -> Done {
     }
 }
 
-/// Whether a counter is PAGE itself.
 fn is_page(counter: &[u8]) -> bool {
     counter == b"PAGE".as_slice()
 }
@@ -41,13 +40,9 @@ fn counts(view: &View, counter: &[u8]) -> bool {
 
 /// Whether a calculation defines the length of a name.
 fn is_defined(view: &View, name: &[u8]) -> bool {
-    for seen in &view.cards {
-        let card = &seen.card;
-        if is_card(seen, b'C') && !card.is_blank(49, 51) && card.value(43, 48) == name {
-            return true;
-        }
-    }
-    false
+    view.cards.iter().any(|seen| {
+        is_card(seen, b'C') && !seen.card.is_blank(49, 51) && seen.card.value(43, 48) == name
+    })
 }
 
 /// Returns the first card that prints a name, or else the first that has it.

@@ -27,10 +27,7 @@ impl Switches {
 
     /// Whether a switch, counted from 1, is on.
     pub fn is_on(&self, number: usize) -> bool {
-        match self.digits.get(number.saturating_sub(1)) {
-            Some(digit) => *digit == b'1',
-            None => false,
-        }
+        self.digits.get(number.saturating_sub(1)) == Some(&b'1')
     }
 
     /// Returns the eight digits.
@@ -51,8 +48,6 @@ pub struct TableFile<'a> {
 #[derive(Clone, Copy)]
 pub struct Settings<'a> {
     pub switches: Switches,
-    /// Whether each form keeps at most the lines of its L card.
-    pub keeps_forms: bool,
     /// The printer whose deck is wanted, if a deck has several.
     pub printer: Option<&'a [u8]>,
     pub tables: &'a [TableFile<'a>],
@@ -61,11 +56,7 @@ pub struct Settings<'a> {
 impl<'a> Settings<'a> {
     /// Returns the records of a table file, if the arguments have them.
     pub(crate) fn records_of(&self, name: &[u8]) -> Option<&'a [u8]> {
-        for table in self.tables {
-            if table.name == name {
-                return Some(table.records);
-            }
-        }
-        None
+        let table = self.tables.iter().find(|table| table.name == name)?;
+        Some(table.records)
     }
 }

@@ -19,12 +19,9 @@ pub fn tables(editor: &mut Editor, settings: &Settings) -> Done {
 
 /// Returns the number of the first E card whose table is read from a file.
 fn first_with_file(view: &View) -> Option<usize> {
-    for seen in &view.cards {
-        if is_card(seen, b'E') && has_file(&seen.card) {
-            return Some(seen.number);
-        }
-    }
-    None
+    let mut cards = view.cards.iter();
+    let first = cards.find(|seen| is_card(seen, b'E') && has_file(&seen.card))?;
+    Some(first.number)
 }
 
 /// Whether the table of an E card is read from a file.
@@ -71,8 +68,7 @@ fn check_table(seen: &Seen) -> Done {
     if seen.card.is_blank(19, 26) {
         return Ok(());
     }
-    let why = "a table that is written at the end (19 to 26)";
-    Err(RuleStop::because(seen.number, why))
+    Err(RuleStop::because(seen.number, "a table that is written at the end (19 to 26)"))
 }
 
 /// Returns the starts of the data after those of an E card, which are the first.
@@ -149,11 +145,8 @@ fn take_over(editor: &mut Editor, shape: &TableShape, records: usize, seen: &See
     } else {
         "% records of % stand after ** now; compile again when they change"
     };
-    let sentence = Sentence::of_two(
-        text,
-        Word::of_number(records),
-        Word::of(seen.card.value(11, 18)),
-    );
+    let name = Word::of(seen.card.value(11, 18));
+    let sentence = Sentence::of_two(text, Word::of_number(records), name);
     let mut card = seen.card.with(11, 18, &[]);
     let per_card = shape.per_card();
     if per_card != shape.per_record {

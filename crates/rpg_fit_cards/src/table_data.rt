@@ -1,7 +1,7 @@
 //! The records of a table file as the data of a table.
 
 use rpg_fit_deck::{Card, Sentence, Word};
-use rpg_fit_words::{Done, List, RuleStop};
+use rpg_fit_words::{Done, List, Outcome};
 use rpg_text::first_line;
 use std::alloc::Global;
 
@@ -95,11 +95,7 @@ fn pad(text: &mut Vec<u8>, length: usize) -> Done {
 }
 
 /// Returns all entries of a table in sequence, given its records. Missing entries are blanks.
-pub(crate) fn entries_of(
-    alloc: Global,
-    shape: &TableShape,
-    records: &[&[u8]],
-) -> Result<Vec<u8>, RuleStop> {
+pub(crate) fn entries_of(alloc: Global, shape: &TableShape, records: &[&[u8]]) -> Outcome<Vec<u8>> {
     let mut text = Vec::new(alloc);
     let width = shape.record_columns();
     for record in records {

@@ -15,7 +15,7 @@ pub(crate) fn narrow_data(editor: &mut Editor) -> Done {
     let tables = tables_with_data(&view);
     let mut left = tables.checked()?;
     for part in view.data.as_slice().chunk_by(|_, next| !begins_data(next)) {
-        if is_wide(part) {
+        if part.iter().any(|line| line.width > COLUMNS) {
             narrow_part(editor, left.first(), part)?;
         }
         left = left.get(1..).unwrap_or(&[]);
@@ -34,22 +34,9 @@ fn tables_with_data(view: &View) -> List<Seen> {
     found
 }
 
-/// Whether a line has more columns than a card.
-fn is_wide(lines: &[Seen]) -> bool {
-    for line in lines {
-        if line.width > COLUMNS {
-            return true;
-        }
-    }
-    false
-}
-
 /// Cuts the data of an E card, if there is one, or punches them anew.
 fn narrow_part(editor: &mut Editor, table: Option<&Seen>, part: &[Seen]) -> Done {
-    let shape = match table {
-        Some(table) => TableShape::of(&table.card),
-        None => None,
-    };
+    let shape = table.and_then(|table| TableShape::of(&table.card));
     match (table, shape) {
         (Some(table), Some(shape)) if shape.record_columns() > COLUMNS => {
             return punch_anew(editor, table, &shape, part);
@@ -120,10 +107,7 @@ fn punch_anew(editor: &mut Editor, table: &Seen, shape: &TableShape, part: &[See
     let per_card = Word::of_number(shape.per_card());
     let text = "% entries a card in place of %, as a card has 80 columns";
     let sentence = Sentence::of_two(text, per_card, Word::of_number(shape.per_record));
-    editor.rewrite(
-        table,
-        table.card.with_right(33, 35, per_card.text()),
-        sentence,
-    );
+    let card = table.card.with_right(33, 35, per_card.text());
+    editor.rewrite(table, card, sentence);
     Ok(())
 }

@@ -18,18 +18,15 @@ pub struct Card {
 impl Card {
     /// Returns the card of a line's first 80 characters, padded with blanks.
     pub fn of(line: &[u8]) -> Card {
-        let mut card = Card {
-            columns: [b' '; COLUMNS],
-        };
-        card.put(1, COLUMNS, line);
-        card
+        let mut columns = [b' '; COLUMNS];
+        let length = line.len().min(COLUMNS);
+        columns[..length].copy_from_slice(&line[..length]);
+        Card { columns }
     }
 
     /// Returns a card that is blank except for its form in column 6.
     pub fn of_form(form: u8) -> Card {
-        let mut card = Card::of(&[]);
-        card.put_column(6, form);
-        card
+        Card::of(&[]).with(6, 6, &[form])
     }
 
     /// Returns the character in a column, or a blank if there is no such column.
@@ -102,10 +99,7 @@ impl Card {
     /// Writes a text into columns, padded with blanks.
     pub fn put(&mut self, first: usize, last: usize, text: &[u8]) {
         for place in 0..last.saturating_add(1).saturating_sub(first) {
-            let character = match text.get(place) {
-                Some(character) => *character,
-                None => b' ',
-            };
+            let character = text.get(place).copied().unwrap_or(b' ');
             self.put_column(first.saturating_add(place), character);
         }
     }
@@ -119,11 +113,8 @@ impl Card {
     /// Returns this card with a text at the end of columns, after blanks.
     pub fn with_right(mut self, first: usize, last: usize, text: &[u8]) -> Card {
         self.put(first, last, &[]);
-        self.put(
-            last.saturating_add(1).saturating_sub(text.len()).max(first),
-            last,
-            text,
-        );
+        let start = last.saturating_add(1).saturating_sub(text.len());
+        self.put(start.max(first), last, text);
         self
     }
 

@@ -38,10 +38,6 @@ pub struct Editor<'a> {
 
 impl<'a> Editor<'a> {
     /// Returns a source that is unchanged.
-    ///
-    /// # Errors
-    ///
-    /// Memory runs out.
     pub fn new(alloc: Global, source: &'a [u8]) -> Result<Editor<'a>, AllocError>
         ensures { IfOk result (λ editor. IsSource source.now editor) }
     {
@@ -215,10 +211,6 @@ impl<'a> Editor<'a> {
     }
 
     /// Returns the cards in their present form.
-    ///
-    /// # Errors
-    ///
-    /// Memory runs out.
     pub fn view(&self) -> Result<View, AllocError> {
         let mut view = View::new(self.alloc, self.lines.len());
         self.show(&mut view)?;
@@ -263,14 +255,9 @@ impl<'a> Editor<'a> {
         }
         let Editor {
             alloc,
-            lines: _,
             slots,
             end,
-            made: _,
-            gone: _,
-            rule: _,
-            refusal: _,
-            ran_out: _,
+            ..
         } = self;
         finished(alloc, source, slots, end)
     }

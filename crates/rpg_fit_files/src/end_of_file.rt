@@ -1,59 +1,31 @@
-//! The end of the job with one of several input files: `E` in 17 of F.
+//! The end of the job with some of the files that are read: `E` in 17 of F.
 
+use crate::merged::secondary_files;
 use rpg_fit_deck::{Editor, Seen, Sentence, View, Word};
-use rpg_fit_words::{Done, List, RuleStop, file_name, files_read, record_types};
-use std::alloc::Global;
+use rpg_fit_words::{Done, RuleStop, file_name, files_read, record_types};
 
-/// Blanks `E` in 17 if only some files have it and the last file is among them, which is read last.
+/// Rejects a deck where only some of several secondary files have `E` in 17: they become one file.
 pub fn end_of_files(editor: &mut Editor) -> Done {
     let view = editor.view()?;
-    let files = files_read(&view);
-    let ending = files_with_end(view.alloc, files.checked()?);
-    let (Some(first), Some(other), Some(last)) = (
-        ending.checked()?.first(),
-        first_without_end(files.as_slice()),
-        files.as_slice().last(),
+    let files = secondary_files(&view);
+    let (Some(file), Some(other)) = (
+        file_with_end(files.checked()?, true),
+        file_with_end(files.as_slice(), false),
     ) else {
         return Ok(());
     };
-    check_matching(&view, first, other)?;
-    if !has_end(last) {
-        let why = "% has E in 17 and % hasn't: the old job never reads the second one";
-        return Err(refused(first, Sentence::of_two(why, name(first), name(last))));
-    }
-    for file in ending.as_slice() {
-        let sentence = Sentence::of("E (17) blanked: the last file is read last");
-        editor.rewrite(file, file.card.with(17, 17, &[]), sentence);
-    }
-    Ok(())
+    let why = Sentence::of_two(
+        "% has E in 17 and % hasn't, and they become one file",
+        Word::of(file_name(file)),
+        Word::of(file_name(other)),
+    );
+    Err(RuleStop::refused(file.number, why))
 }
 
-fn name(file: &Seen) -> Word {
-    Word::of(file_name(file))
-}
-
-fn refused(file: &Seen, why: Sentence) -> RuleStop {
-    RuleStop::refused(file.number, why)
-}
-
-/// Whether the job ends with a file.
-fn has_end(file: &Seen) -> bool {
-    file.card.column(17) == b'E'
-}
-
-fn files_with_end(alloc: Global, files: &[Seen]) -> List<Seen> {
-    let mut found = List::new(alloc);
+/// Returns the first file that has `E` in 17, or the first that hasn't.
+fn file_with_end(files: &[Seen], has_end: bool) -> Option<&Seen> {
     for file in files {
-        if has_end(file) {
-            found.push(*file);
-        }
-    }
-    found
-}
-
-fn first_without_end(files: &[Seen]) -> Option<&Seen> {
-    for file in files {
-        if !has_end(file) {
+        if (file.card.column(17) == b'E') == has_end {
             return Some(file);
         }
     }
@@ -73,16 +45,12 @@ fn has_match_fields(view: &View) -> Result<bool, RuleStop> {
     Ok(false)
 }
 
-/// Rejects files that are matched: records of the other one may be left.
-fn check_matching(view: &View, first: &Seen, other: &Seen) -> Done {
-    if !has_match_fields(view)? {
-        return Ok(());
+/// Whether the job may end before the last record of a file, since another one has `E` in 17.
+pub(crate) fn may_leave_records(view: &View, file: &Seen) -> Result<bool, RuleStop> {
+    let files = files_read(view);
+    let is_ended = file_with_end(files.checked()?, true).is_some();
+    if !is_ended || file.card.column(17) == b'E' {
+        return Ok(false);
     }
-    let why = Sentence::of_three(
-        "% has E in 17 and % hasn't: the old job ends with %, and rpg2 reads both to their end",
-        name(first),
-        name(other),
-        name(first),
-    );
-    Err(refused(first, why))
+    Ok(file.card.column(16) == b'S' || has_match_fields(view)?)
 }

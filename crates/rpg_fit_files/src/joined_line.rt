@@ -5,7 +5,7 @@ use crate::updated::{Both, Updated};
 use rpg_fit_deck::{Editor, Seen, Sentence, Word};
 use rpg_fit_words::{
     Conjunction, Done, FreeIndicators, Indicator, Line, List, NewCard, Place, RuleStop,
-    calculation, insert_at, push_conditioned, push_conditions, put_cards,
+    calculation, insert_at, overflow_of, push_conditioned, push_conditions, put_cards,
 };
 
 /// Rejects lines that one line can't stand for. `both`: two that may be for one record.
@@ -79,28 +79,17 @@ fn check_between(updated: &Updated, lines: &[&Line]) -> Done {
 
 /// Returns the first field that a line blanks and one of some lines has.
 fn blanked_on<'a>(line: &'a Line, lines: &[&Line]) -> Option<&'a Seen> {
-    for field in line.fields.iter() {
-        if field.card.column(39) == b'B' && have_field(lines, base_of(field)) {
-            return Some(field);
-        }
-    }
-    None
+    line.fields.iter().find(|field| field.card.column(39) == b'B'
+        && have_field(lines, base_of(field)))
 }
 
 fn have_field(lines: &[&Line], name: &[u8]) -> bool {
-    for line in lines {
-        for field in line.fields.iter() {
-            if base_of(field) == name {
-                return true;
-            }
-        }
-    }
-    false
+    lines.iter().any(|line| line.fields.iter().any(|field| base_of(field) == name))
 }
 
 /// Rejects a line that tests overflow.
 fn check_overflow(updated: &Updated, line: &Line) -> Done {
-    let overflow = updated.overflow();
+    let overflow = overflow_of(&updated.deck.view);
     for alternative in line.alternatives.iter() {
         if !overflow.is_blank() && alternative.condition.tests(overflow) {
             let why = "two lines may change one record of %, and one asks for %";

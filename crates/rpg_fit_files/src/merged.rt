@@ -64,14 +64,8 @@ fn new_length(files: &[Seen]) -> Option<usize> {
     (files.len() <= MOST_FILES && longest < LONGEST).then_some(longest.saturating_add(1))
 }
 
-/// Returns the place of the file with a name.
 fn place_of(files: &[Seen], name: &[u8]) -> Option<usize> {
-    for (place, file) in files.iter().enumerate() {
-        if file_name(file) == name {
-            return Some(place);
-        }
-    }
-    None
+    files.iter().position(|file| file_name(file) == name)
 }
 
 /// Returns the letter in front of the records of a file, by its place.
@@ -195,10 +189,7 @@ fn move_codes(
     if room.is_some() {
         return Ok(());
     }
-    let and = NewCard {
-        card: Card::of_form(b'I').with(14, 16, b"AND"),
-        number: head.number,
-    };
+    let and = NewCard::of_form(b'I', head.number).with(14, 16, b"AND");
     let following = address_after(view, kind.more.last().unwrap_or(head).at);
     put_cards(editor, following, &[and.with(21, 27, code.text())], with)
 }

@@ -4,8 +4,8 @@ use crate::file::{base_of, is_page};
 use rpg_fit_deck::{Address, Card, Editor, Seen, Sentence, Word};
 use rpg_fit_terms::is_name_on;
 use rpg_fit_words::{
-    Conjunction, DeckLines, Done, Indicator, Line, List, NewCard, Operand, RuleStop, Term, Time,
-    UseKind, file_name, indicator_uses, is_card, name_files, push_conditions, put_cards,
+    Conjunction, DeckLines, Done, Indicator, Line, List, NewCard, Operand, Outcome, RuleStop, Term,
+    Time, UseKind, file_name, indicator_uses, is_card, name_files, push_conditions, put_cards,
 };
 
 /// A printer whose lines are taken out, and the deck before that.
@@ -18,7 +18,7 @@ pub(crate) struct OtherPrinter {
 
 impl OtherPrinter {
     /// Returns a printer of a deck in its present form. Each line gets its file's name, so that lines may go.
-    pub fn of(editor: &mut Editor, file: &Seen) -> Result<OtherPrinter, RuleStop> {
+    pub fn of(editor: &mut Editor, file: &Seen) -> Outcome<OtherPrinter> {
         let unnamed = DeckLines::of(editor)?;
         name_files(editor, unnamed.lines.as_slice(), file.number);
         Ok(OtherPrinter {
@@ -79,7 +79,7 @@ impl OtherPrinter {
     }
 
     /// Whether one of its lines changes what other lines put out.
-    fn has_effects(&self) -> Result<bool, RuleStop> {
+    fn has_effects(&self) -> Outcome<bool> {
         let mut found = false;
         for line in self.deck.lines.iter() {
             if let Some(field) = self.effect_of(line) {
@@ -92,12 +92,9 @@ impl OtherPrinter {
 
     /// Returns the first field of a line of its own that changes what other lines put out.
     fn effect_of<'a>(&self, line: &'a Line) -> Option<&'a Seen> {
-        for field in line.fields.iter() {
-            if self.has(line) && self.has_effect(field) {
-                return Some(field);
-            }
-        }
-        None
+        line.fields
+            .iter()
+            .find(|field| self.has(line) && self.has_effect(field))
     }
 
     /// Whether a field counts pages or is blanked for others, or may have a bad index.
@@ -109,20 +106,14 @@ impl OtherPrinter {
 
     /// Whether a calculation, or a line of another file, has a name.
     fn is_used_elsewhere(&self, name: &[u8]) -> bool {
-        if name.is_empty() {
-            return false;
-        }
-        for line in self.deck.lines.iter() {
-            if !self.has(line) && is_on(line.fields.as_slice(), name) {
-                return true;
-            }
-        }
-        for seen in &self.deck.view.cards {
-            if is_card(seen, b'C') && is_name_on(&seen.card, name) {
-                return true;
-            }
-        }
-        false
+        let (mut lines, mut cards) = (self.deck.lines.iter(), self.deck.view.cards.iter());
+        !name.is_empty()
+            && (lines.any(|line| !self.has(line)
+                && line
+                    .fields
+                    .iter()
+                    .any(|field| is_name_on(&field.card, name)))
+                || cards.any(|seen| is_card(seen, b'C') && is_name_on(&seen.card, name)))
     }
 
     /// Rejects a field that changes others at overflow, which a disk file doesn't have.
@@ -210,24 +201,10 @@ impl OtherPrinter {
             }
         }
         if is_empty {
-            cards.push(NewCard {
-                card: Card::of_form(b'O')
-                    .with_right(40, 43, b"1")
-                    .with(45, 47, b"' '"),
-                number: self.file.number,
-            });
+            let blank = NewCard::of_form(b'O', self.file.number);
+            cards.push(blank.with_number(40, 43, 1).with(45, 47, b"' '"));
         }
     }
-}
-
-/// Whether one of some fields has a name.
-fn is_on(fields: &[Seen], name: &[u8]) -> bool {
-    for field in fields {
-        if is_name_on(&field.card, name) {
-            return true;
-        }
-    }
-    false
 }
 
 /// Returns the card at an address, if it has conditions of a line.
@@ -235,10 +212,6 @@ fn condition_card(line: &Line, at: Address) -> Option<&Card> {
     if line.head.at == at {
         return Some(&line.head.card);
     }
-    for seen in line.more.iter() {
-        if seen.at == at {
-            return Some(&seen.card);
-        }
-    }
-    None
+    let seen = line.more.iter().find(|seen| seen.at == at)?;
+    Some(&seen.card)
 }

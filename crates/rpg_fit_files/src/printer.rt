@@ -38,12 +38,7 @@ fn name_device(editor: &mut Editor, file: &Seen) {
 
 /// Returns the printer that the arguments name, if it is one of these.
 fn kept_of<'a>(files: &'a [Seen], wanted: Option<&[u8]>) -> Option<&'a Seen> {
-    for file in files {
-        if wanted == Some(file_name(file)) {
-            return Some(file);
-        }
-    }
-    None
+    files.iter().find(|file| wanted == Some(file_name(file)))
 }
 
 /// Returns why a deck with several printers is rejected if no argument names one.

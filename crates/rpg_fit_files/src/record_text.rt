@@ -1,8 +1,8 @@
 //! A whole record, as fields of at most 256 columns.
 
-use rpg_fit_deck::{Card, Editor, View, Word};
+use rpg_fit_deck::{Editor, View, Word};
 use rpg_fit_terms::address_after;
-use rpg_fit_words::{Done, FreshNames, List, NewCard, RecordType, RuleStop, put_cards};
+use rpg_fit_words::{Done, FreshNames, List, NewCard, Outcome, RecordType, put_cards};
 
 /// The most columns of a text.
 const LONGEST: usize = 256;
@@ -23,7 +23,7 @@ pub(crate) struct RecordText {
 
 impl RecordText {
     /// Returns fields that no card has, for records of a length.
-    pub fn of(view: &View, length: usize, card: usize) -> Result<RecordText, RuleStop> {
+    pub fn of(view: &View, length: usize, card: usize) -> Outcome<RecordText> {
         let mut names = FreshNames::of(b"REC#", 6);
         let mut parts = List::new(view.alloc);
         let mut last: usize = 0;
@@ -45,30 +45,18 @@ impl RecordText {
         let number = kind.head.number;
         let mut cards = List::new(view.alloc);
         for part in self.parts.as_slice() {
-            let card = NewCard {
-                card: Card::of_form(b'I').with(53, 58, part.field.text()),
-                number,
-            };
-            cards.push(
-                card.with_number(44, 47, part.first)
-                    .with_number(48, 51, part.last),
-            );
+            let card = NewCard::of_form(b'I', number).with(53, 58, part.field.text());
+            let card = card.with_number(44, 47, part.first);
+            cards.push(card.with_number(48, 51, part.last));
         }
-        put_cards(
-            editor,
-            address_after(view, kind.last().at),
-            cards.checked()?,
-            with,
-        )
+        let following = address_after(view, kind.last().at);
+        put_cards(editor, following, cards.checked()?, with)
     }
 
     /// Appends the fields as those of a line, derived from a card.
     pub fn push_fields(&self, cards: &mut List<NewCard>, number: usize) {
         for part in self.parts.as_slice() {
-            let card = NewCard {
-                card: Card::of_form(b'O').with(32, 37, part.field.text()),
-                number,
-            };
+            let card = NewCard::of_form(b'O', number).with(32, 37, part.field.text());
             cards.push(card.with_number(40, 43, part.last));
         }
     }

@@ -1,14 +1,15 @@
 //! Combined files, and files that are updated in place: their records go to a new file.
 
+use crate::end_of_file::may_leave_records;
 use crate::joined_line::{check_joined, join_lines};
 use crate::record_text::RecordText;
 use crate::updated_line::write_lines;
-use rpg_fit_deck::{Card, Editor, Seen, Sentence, View, Word};
+use rpg_fit_deck::{Editor, Seen, Sentence, View, Word};
 use rpg_fit_terms::address_after;
 use rpg_fit_words::{
     Conjunction, DeckLines, Done, FileTypes, FreeIndicators, Indicator, IndicatorUse, Line, List,
-    NewCard, RuleStop, UseKind, file_name, files_read, indicator_uses, is_card, is_put_first,
-    name_files, name_types, printer_of, put_cards, record_length, record_types,
+    NewCard, RuleStop, UseKind, file_card, file_name, files_read, indicator_uses, is_put_first,
+    name_files, name_types, put_cards, record_length, record_types,
 };
 
 /// LR, which ends the job.
@@ -57,7 +58,7 @@ pub(crate) struct Updated {
 fn fresh_file(view: &View) -> Word {
     let mut name = Word::of(b"NEW");
     for number in 1..99 {
-        if !is_file(view, name.text()) {
+        if file_card(view, name.text()).is_none() {
             return name;
         }
         name = Word::of(b"NEW").and(Word::of_number(number).text());
@@ -65,20 +66,14 @@ fn fresh_file(view: &View) -> Word {
     name
 }
 
-/// Whether a deck has a file with a name.
-fn is_file(view: &View, name: &[u8]) -> bool {
-    for seen in &view.cards {
-        if is_card(seen, b'F') && file_name(seen) == name {
-            return true;
-        }
-    }
-    false
-}
-
 /// Rejects a file with keys or new records, and a deck that ends the job before the last record.
 fn check_file(view: &View, file: &Seen) -> Done {
     if !file.card.is_blank(28, 32) || !file.card.is_blank(66, 66) {
         return Err(RuleStop::because(file.number, "keys, or records are added (66)"));
+    }
+    if may_leave_records(view, file)? {
+        let why = "another file ends the job (E in 17), and the records after it would be missing";
+        return Err(RuleStop::because(file.number, why));
     }
     let uses = indicator_uses(view);
     for one in uses.checked()? {
@@ -126,6 +121,7 @@ fn write_back(editor: &mut Editor, free: &mut FreeIndicators, file: &Seen) -> Do
     updated.check_indicators()?;
     let lines = updated.lines();
     lines.check()?;
+    updated.check_lines(lines.as_slice())?;
     put_back(editor, free, &updated, lines.as_slice(), length)
 }
 
@@ -137,7 +133,6 @@ fn put_back(
     lines: &[&Line],
     length: usize,
 ) -> Done {
-    updated.check_lines(lines)?;
     let puts = puts_of(updated, lines);
     let puts = puts.checked()?;
     let both = updated.both(puts);
@@ -177,21 +172,10 @@ impl Updated {
         found
     }
 
-    /// Returns the overflow indicator of the deck, which may be blank.
-    pub fn overflow(&self) -> Indicator {
-        match printer_of(&self.deck.view) {
-            Some(printer) => printer.overflow,
-            None => Indicator::BLANK,
-        }
-    }
-
     /// Returns the card of a detail line for the new file, derived from the card with a number.
     pub fn new_line(&self, number: usize) -> NewCard {
-        let card = Card::of_form(b'O').with(7, 14, self.new.text());
-        NewCard {
-            card: card.with(15, 15, b"D"),
-            number,
-        }
+        let card = NewCard::of_form(b'O', number).with(7, 14, self.new.text());
+        card.with(15, 15, b"D")
     }
 
     /// Rejects an indicator of its types that anything else turns on or off.
@@ -255,13 +239,9 @@ impl Updated {
 
     /// Whether a condition wants another one of its types than this one.
     fn wants_other(&self, condition: &Conjunction, own: Indicator) -> bool {
-        for term in condition.terms() {
-            let is_type = !term.is_off && self.types.has(term.indicator);
-            if is_type && term.indicator != own {
-                return true;
-            }
-        }
-        false
+        condition.terms().iter().any(|term| {
+            !term.is_off && term.indicator != own && self.types.has(term.indicator)
+        })
     }
 
     /// Whether two conditions never hold together.
@@ -289,12 +269,9 @@ impl Updated {
 
     /// Returns the first alternative of another line that may hold together with one.
     fn earlier<'a>(&self, before: &'a [Put], put: &Put) -> Option<&'a Put> {
-        for other in before {
-            if other.line != put.line && !self.excludes(&put.condition, &other.condition) {
-                return Some(other);
-            }
-        }
-        None
+        before.iter().find(|other| {
+            other.line != put.line && !self.excludes(&put.condition, &other.condition)
+        })
     }
 
     /// Makes an input file of it, with the whole record in each type, and inserts the new file.
@@ -305,18 +282,10 @@ impl Updated {
                 self.record.read(editor, &self.deck.view, kind, number)?;
             }
         }
-        let new = NewCard {
-            card: Card::of_form(b'F')
-                .with(7, 14, self.new.text())
-                .with(15, 15, b"O"),
-            number,
-        };
-        let new = new
-            .with(19, 19, b"F")
-            .with_number(24, 27, length)
-            .with(40, 46, b"DISK");
+        let new = NewCard::of_form(b'F', number).with(7, 14, self.new.text());
+        let new = new.with(15, 19, b"O   F").with_number(24, 27, length);
         let following = address_after(&self.deck.view, self.file.at);
-        put_cards(editor, following, &[new], number)?;
+        put_cards(editor, following, &[new.with(40, 46, b"DISK")], number)?;
         editor.change(self.file.at, self.file.card.with(15, 15, b"I"), number);
         name_files(editor, self.deck.lines.as_slice(), number);
         Ok(())

@@ -1,11 +1,11 @@
 //! Lines that each write a record of their own to the new file, and those that no line changes.
 
 use crate::updated::{Put, Updated};
-use rpg_fit_deck::{Address, Editor, Seen, Sentence, View, Word};
+use rpg_fit_deck::{Editor, Seen, Sentence, Word};
 use rpg_fit_terms::address_after;
 use rpg_fit_words::{
-    Apart, Conjunction, Done, Indicator, Line, List, RuleStop, Term, is_card, push_conditions,
-    put_cards,
+    Apart, Conjunction, Done, Indicator, Line, List, Outcome, Term, before_output, overflow_of,
+    push_conditions, put_cards,
 };
 
 /// Writes each line of a file to the new one, after the whole record, and the records that no line changes.
@@ -43,9 +43,9 @@ fn remark(updated: &Updated, rest: usize) -> Sentence {
 }
 
 /// Returns the conditions for records that no line changes.
-fn unchanged(updated: &Updated, puts: &[Put]) -> Result<List<Conjunction>, RuleStop> {
+fn unchanged(updated: &Updated, puts: &[Put]) -> Outcome<List<Conjunction>> {
     let apart = Apart {
-        overflow: updated.overflow(),
+        overflow: overflow_of(&updated.deck.view),
         card: updated.file.number,
     };
     let mut found = List::new(updated.deck.view.alloc);
@@ -71,7 +71,7 @@ fn left_of(
     apart: &Apart,
     puts: &[Put],
     indicator: Indicator,
-) -> Result<List<Conjunction>, RuleStop> {
+) -> Outcome<List<Conjunction>> {
     let alloc = updated.deck.view.alloc;
     let own = Conjunction::on(indicator);
     let mut left = List::new(alloc);
@@ -119,20 +119,7 @@ fn write_rest(
     put_cards(editor, following, cards.checked()?, number)
 }
 
-/// Returns the last card of a line.
 fn last_card(line: &Line) -> &Seen {
-    match line.fields.last() {
-        Some(field) => field,
-        None => line.more.last().unwrap_or(&line.head),
-    }
-}
-
-/// Returns the address of the first output card, or that after all cards.
-fn before_output(view: &View) -> Address {
-    for seen in &view.cards {
-        if is_card(seen, b'O') {
-            return seen.at;
-        }
-    }
-    view.cards_end
+    let more = line.more.last().unwrap_or(&line.head);
+    line.fields.last().unwrap_or(more)
 }

@@ -80,19 +80,12 @@ fn word_of(code: u8, form: Form) -> Constant {
             word.push(b',');
         }
     }
-    push_all(&mut word, b"$0.");
-    push_all(&mut word, b"         ".get(..decimals).unwrap_or(&[]));
+    let places = b"         ".get(..decimals).unwrap_or(&[]);
+    let word = word.and(b"$0.").and(places);
     match code {
-        b'J' | b'L' => push_all(&mut word, b"-"),
-        b'A' | b'C' => push_all(&mut word, b"CR"),
-        _ => {}
-    }
-    word
-}
-
-fn push_all(word: &mut Constant, text: &[u8]) {
-    for character in text {
-        word.push(*character);
+        b'J' | b'L' => word.and(b"-"),
+        b'A' | b'C' => word.and(b"CR"),
+        _ => word,
     }
 }
 

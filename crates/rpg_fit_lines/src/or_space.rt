@@ -2,21 +2,23 @@
 
 use rpg_fit_deck::{Editor, Seen, Sentence, Word};
 use rpg_fit_words::{
-    Alternative, Apart, Conjunction, DeckLines, Done, Indicator, Line, List, NewCard, RuleStop,
-    Term, Time, name_files, printer_of, put_cards,
+    Alternative, Apart, Conjunction, DeckLines, Done, Line, List, NewCard, Outcome, Term, Time,
+    name_files, overflow_of, put_cards,
 };
+use std::alloc::Global;
+
+/// Conditions of which one must hold.
+type Conditions = Outcome<List<Conjunction>>;
 
 /// Replaces each line whose alternatives have different spaces or skips by several lines. No two of these are printed together.
 pub fn or_spaces(editor: &mut Editor) -> Done {
     let deck = DeckLines::of(editor)?;
-    let overflow = match printer_of(&deck.view) {
-        Some(printer) => printer.overflow,
-        None => Indicator::BLANK,
-    };
+    let overflow = overflow_of(&deck.view);
     let mut are_named = false;
     for line in deck.lines.iter() {
         if let Some(card) = own_spaces(line) {
-            let split = Split::of(line, overflow, card);
+            let apart = Apart { overflow, card };
+            let split = Split { line, apart };
             if split.has_one_run() {
                 blank_spaces(editor, line.more.as_slice());
                 continue;
@@ -39,12 +41,8 @@ fn has_spaces(seen: &Seen) -> bool {
 
 /// Returns the number of a line's first OR card with spaces or skips of its own.
 fn own_spaces(line: &Line) -> Option<usize> {
-    for seen in line.more.iter() {
-        if has_spaces(seen) {
-            return Some(seen.number);
-        }
-    }
-    None
+    let seen = line.more.iter().find(|seen| has_spaces(seen))?;
+    Some(seen.number)
 }
 
 /// Blanks the spaces and skips of OR cards, which are the same as their line's.
@@ -60,57 +58,34 @@ fn blank_spaces(editor: &mut Editor, cards: &[Seen]) {
 /// Returns the sentence about `lines` lines that replace one.
 fn remark(lines: usize) -> Sentence {
     let alone = "one line is left: its other alternatives never hold without an earlier one";
-    match lines {
-        1 => Sentence::of(alone),
-        _ => Sentence::about("% lines in place of one", Word::of_number(lines)),
-    }
+    Sentence::counted(alone, "% lines in place of one", lines)
 }
 
 /// A line whose alternatives have spaces or skips of their own.
 #[derive(Clone, Copy)]
 struct Split<'a> {
     line: &'a Line,
-    /// The deck's overflow indicator, which may be blank.
-    overflow: Indicator,
-    /// The card that the change is reported for.
-    card: usize,
+    /// The deck's overflow indicator, and the card that the change is reported for.
+    apart: Apart,
 }
 
-impl<'a> Split<'a> {
-    fn of(line: &'a Line, overflow: Indicator, card: usize) -> Split<'a> {
-        Split {
-            line,
-            overflow,
-            card,
-        }
-    }
-
-    fn apart(&self) -> Apart {
-        Apart {
-            overflow: self.overflow,
-            card: self.card,
-        }
-    }
-
+impl Split<'_> {
     /// Replaces the line by a line for each run of alternatives with the same spaces and skips.
     fn make_lines(&self, editor: &mut Editor) -> Done {
         let mut cards = List::new(editor.alloc());
         let lines = self.push_lines(editor, &mut cards)?;
-        put_cards(editor, self.line.head.at, cards.checked()?, self.card)?;
-        self.line.remove(editor, self.card);
-        editor.report(self.card, remark(lines));
+        put_cards(editor, self.line.head.at, cards.checked()?, self.apart.card)?;
+        self.line.remove(editor, self.apart.card);
+        editor.report(self.apart.card, remark(lines));
         Ok(())
     }
 
     /// Returns the spaces and skips of an alternative: those of its line if it has none of its own.
     fn spaces_of(&self, alternative: &Alternative) -> Word {
-        let own = alternative.card.card.columns(17, 22);
-        let is_blank = alternative.card.card.is_blank(17, 22);
-        Word::of(if is_blank {
-            self.line.head.card.columns(17, 22)
-        } else {
-            own
-        })
+        let own = &alternative.card.card;
+        let is_blank = own.is_blank(17, 22);
+        let card = if is_blank { &self.line.head.card } else { own };
+        Word::of(card.columns(17, 22))
     }
 
     fn are_alike(&self, one: &Alternative, next: &Alternative) -> bool {
@@ -120,23 +95,20 @@ impl<'a> Split<'a> {
     /// Whether all alternatives have the same spaces and skips.
     fn has_one_run(&self) -> bool {
         let spaces = self.line.head.card.columns(17, 22);
-        for alternative in self.line.alternatives.iter() {
-            if self.spaces_of(alternative).text() != spaces {
-                return false;
-            }
-        }
-        true
+        self.line
+            .alternatives
+            .iter()
+            .all(|alternative| self.spaces_of(alternative).text() == spaces)
     }
 
     /// Appends a line for each run, unless it is never printed, and returns how many lines there are.
-    fn push_lines(&self, editor: &Editor, cards: &mut List<NewCard>) -> Result<usize, RuleStop> {
+    fn push_lines(&self, editor: &Editor, cards: &mut List<NewCard>) -> Outcome<usize> {
         let all = self.line.alternatives.as_slice();
         let mut lines: usize = 0;
         let mut first: usize = 0;
         for run in all.chunk_by(|one, next| self.are_alike(one, next)) {
-            let mut apart = List::new(editor.alloc());
             let earlier = all.get(..first).unwrap_or(&[]);
-            self.push_all_apart(editor, &mut apart, run, earlier)?;
+            let apart = self.all_apart(editor.alloc(), run, earlier)?;
             lines = lines.saturating_add(self.push_line(cards, run, apart.checked()?)?);
             first = first.saturating_add(run.len());
         }
@@ -149,7 +121,7 @@ impl<'a> Split<'a> {
         cards: &mut List<NewCard>,
         run: &[Alternative],
         conditions: &[Conjunction],
-    ) -> Result<usize, RuleStop> {
+    ) -> Outcome<usize> {
         match run {
             [first, ..] if !conditions.is_empty() => {
                 let spaces = self.spaces_of(first);
@@ -161,46 +133,33 @@ impl<'a> Split<'a> {
         }
     }
 
-    /// Whether a condition is for overflow output.
     fn is_overflow(&self, condition: &Conjunction) -> bool {
         self.line.time != Time::Exception
-            && !self.overflow.is_blank()
-            && condition.has(Term::on(self.overflow))
+            && !self.apart.overflow.is_blank()
+            && condition.has(Term::on(self.apart.overflow))
     }
 
-    /// Appends conditions that hold if an alternative of a run does and no earlier one for the same output.
-    fn push_all_apart(
-        &self,
-        editor: &Editor,
-        apart: &mut List<Conjunction>,
-        run: &[Alternative],
-        earlier: &[Alternative],
-    ) -> Done {
+    /// Returns conditions that hold if an alternative of a run does and no earlier one for the same output.
+    fn all_apart(&self, alloc: Global, run: &[Alternative], earlier: &[Alternative]) -> Conditions {
+        let mut apart = List::new(alloc);
         for alternative in run {
-            self.push_apart(editor, apart, alternative.condition, earlier)?;
+            apart.append(&self.apart_of(alloc, alternative.condition, earlier)?);
         }
-        Ok(())
+        Ok(apart)
     }
 
-    /// Appends conditions that hold if a condition does and no earlier alternative for the same output.
-    fn push_apart(
-        &self,
-        editor: &Editor,
-        apart: &mut List<Conjunction>,
-        condition: Conjunction,
-        earlier: &[Alternative],
-    ) -> Done {
-        let mut left = List::new(editor.alloc());
-        left.push(condition);
+    /// Returns conditions that hold if a condition does and no earlier alternative for the same output.
+    fn apart_of(&self, alloc: Global, own: Conjunction, earlier: &[Alternative]) -> Conditions {
+        let mut left = List::new(alloc);
+        left.push(own);
         for other in earlier {
-            if self.is_overflow(&other.condition) == self.is_overflow(&condition) {
-                let mut still = List::new(editor.alloc());
-                self.apart()
+            if self.is_overflow(&other.condition) == self.is_overflow(&own) {
+                let mut still = List::new(alloc);
+                self.apart
                     .push_without(&mut still, left.checked()?, &other.condition)?;
                 left = still;
             }
         }
-        apart.append(&left);
-        Ok(())
+        Ok(left)
     }
 }

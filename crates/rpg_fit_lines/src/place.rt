@@ -2,7 +2,7 @@
 
 use crate::field::{end_on, name_on};
 use rpg_fit_deck::{Editor, Seen, Sentence, Word};
-use rpg_fit_words::{Conjunction, DeckLines, Done, List, NewCard, RuleStop, put_cards};
+use rpg_fit_words::{Conjunction, DeckLines, Done, List, NewCard, Outcome, RuleStop, put_cards};
 
 /// Replaces each *PLACE by copies of the fields above the first one, moved to the right so that they end where it ends.
 pub fn places(editor: &mut Editor) -> Done {
@@ -15,14 +15,8 @@ pub fn places(editor: &mut Editor) -> Done {
 
 /// Returns how many fields stand above the first *PLACE.
 fn fields_above(fields: &[Seen]) -> usize {
-    let mut count: usize = 0;
-    for field in fields {
-        if is_place(field) {
-            return count;
-        }
-        count = count.saturating_add(1);
-    }
-    count
+    let place = fields.iter().position(|field| is_place(field));
+    place.unwrap_or(fields.len())
 }
 
 fn is_place(field: &Seen) -> bool {
@@ -57,7 +51,10 @@ fn repeat_fields(editor: &mut Editor, fields: &[Seen]) -> Done {
 
 /// Rejects *PLACE if it would count pages twice, or if the copies don't begin after what the line has before them.
 fn check_place(place: &Seen, group: &[Seen], least: usize) -> Done {
-    if has_page(group) {
+    if group
+        .iter()
+        .any(|field| matches!(name_on(&field.card), b"PAGE"))
+    {
         return Err(RuleStop::because(place.number, "PAGE stands before *PLACE"));
     }
     if end_on(&place.card) < least {
@@ -81,18 +78,8 @@ fn repeat(editor: &mut Editor, group: &[Seen], highest: usize, place: &Seen) -> 
     Ok(())
 }
 
-/// Whether PAGE is one of some fields.
-fn has_page(fields: &[Seen]) -> bool {
-    for field in fields {
-        if name_on(&field.card) == b"PAGE".as_slice() {
-            return true;
-        }
-    }
-    false
-}
-
 /// Returns a copy of a field, moved to the right, under the conditions of *PLACE and its own, without blank after.
-fn moved(field: NewCard, place: &Seen, further: usize) -> Result<NewCard, RuleStop> {
+fn moved(field: NewCard, place: &Seen, further: usize) -> Outcome<NewCard> {
     let own = Conjunction::at(&field.card, 23);
     let together = Conjunction::at(&place.card, 23).and_missing(&own);
     if together.cards() > 1 {

@@ -2,7 +2,9 @@
 
 use crate::field::{end_on, name_on, width_on};
 use rpg_fit_deck::{Editor, Seen, Sentence, View, Word};
-use rpg_fit_words::{Array, DeckLines, Done, List, NewCard, RuleStop, array_of, entry, with_room};
+use rpg_fit_words::{
+    Array, DeckLines, Done, List, NewCard, Outcome, RuleStop, ShortNames, array_of, entry,
+};
 
 /// The most fields of a line.
 const MOST_FIELDS: usize = 200;
@@ -10,25 +12,28 @@ const MOST_FIELDS: usize = 200;
 /// Columns of a line: where they end, and how many there are.
 type Span = (usize, usize);
 
-/// The old and the present name of an array.
-type Renamed = (Word, Word);
+/// The arrays that are renamed.
+#[derive(Drop)]
+struct Renamed {
+    /// The old and the present name of each.
+    names: List<(Word, Word)>,
+    short: ShortNames,
+}
 
 /// Replaces each whole array by a field for each entry.
 pub fn whole_outputs(editor: &mut Editor) -> Done {
     let deck = DeckLines::of(editor)?;
-    let mut renamed = List::new(editor.alloc());
+    let mut renamed = Renamed {
+        names: List::new(editor.alloc()),
+        short: ShortNames::new(editor.alloc()),
+    };
     for line in deck.lines.iter() {
         spread_fields(editor, &deck.view, &mut renamed, line.fields.as_slice())?;
     }
-    renamed.check()
+    renamed.names.check()
 }
 
-fn spread_fields(
-    editor: &mut Editor,
-    view: &View,
-    renamed: &mut List<Renamed>,
-    fields: &[Seen],
-) -> Done {
+fn spread_fields(editor: &mut Editor, view: &View, renamed: &mut Renamed, fields: &[Seen]) -> Done {
     let mut before: List<Span> = List::new(editor.alloc());
     for field in fields {
         let name = name_on(&field.card);
@@ -37,7 +42,7 @@ fn spread_fields(
                 let row = Row::of(view, field, array);
                 row.check(before.as_slice(), field.number)?;
                 before.push((row.end, row.width()));
-                let name = name_for(editor, renamed, field, array)?;
+                let name = renamed.name_for(editor, field, array)?;
                 row.put(editor, field, name);
             }
             _ if name == b"*PLACE".as_slice() => {}
@@ -138,33 +143,31 @@ impl Row {
     }
 }
 
-/// Returns a name for an array with room for the index of its last entry. Reports the field's change, by the array's present name.
-fn name_for(
-    editor: &mut Editor,
-    renamed: &mut List<Renamed>,
-    field: &Seen,
-    array: Array,
-) -> Result<Word, RuleStop> {
-    let entries = Word::of_number(array.entries);
-    let name = name_now(renamed.as_slice(), array.name);
-    let new = with_room(editor, name.text(), entries)?;
-    if new.text() != name.text() {
-        renamed.push((array.name, new));
-    }
-    let remark = match array.entries {
-        1 => "%: % field",
-        _ => "%: % fields",
-    };
-    editor.report(field.number, Sentence::of_two(remark, name, entries));
-    Ok(new)
-}
-
-/// Returns the present name of an array.
-fn name_now(renamed: &[Renamed], name: Word) -> Word {
-    for (old, new) in renamed {
-        if old.text() == name.text() {
-            return *new;
+impl Renamed {
+    /// Returns a name for an array with room for the index of its last entry. Reports the field's change, by the array's present name.
+    fn name_for(&mut self, editor: &mut Editor, field: &Seen, array: Array) -> Outcome<Word> {
+        let entries = Word::of_number(array.entries);
+        let name = self.name_now(array.name);
+        let new = self.short.with_room(editor, name.text(), entries)?;
+        if new.text() != name.text() {
+            self.names.push((array.name, new));
         }
+        let remark = if array.entries == 1 {
+            "%: % field"
+        } else {
+            "%: % fields"
+        };
+        editor.report(field.number, Sentence::of_two(remark, name, entries));
+        Ok(new)
     }
-    name
+
+    /// Returns the present name of an array.
+    fn name_now(&self, name: Word) -> Word {
+        for (old, new) in self.names.as_slice() {
+            if old.text() == name.text() {
+                return *new;
+            }
+        }
+        name
+    }
 }

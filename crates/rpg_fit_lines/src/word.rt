@@ -3,7 +3,7 @@
 use crate::field::{name_on, worded};
 use rpg_fit_deck::{Editor, Seen, Sentence, Word};
 use rpg_fit_words::{
-    DeckLines, Done, Group, Line, List, NewCard, Operand, Place, Printer, RuleStop, Time,
+    DeckLines, Done, Group, Line, List, NewCard, Operand, Outcome, Place, Printer, RuleStop, Time,
     calculation, fresh_name, groups_now, has_overflow, insert_at, is_card, is_date_part,
     is_field_put_first, is_total_skipped_late, printer_of,
 };
@@ -133,12 +133,9 @@ impl Widening<'_> {
 
     /// Whether a name has a value before any calculation: part of the date, or data in the deck.
     fn has_early_value(&self, name: &[u8]) -> bool {
-        for seen in self.deck.view.cards.iter() {
-            if has_data(seen, name) {
-                return true;
-            }
-        }
-        name == b"UDATE".as_slice() || is_date_part(name)
+        self.deck.view.cards.iter().any(|seen| has_data(seen, name))
+            || name == b"UDATE".as_slice()
+            || is_date_part(name)
     }
 
     /// Whether a field may be printed before any calculation.
@@ -185,24 +182,9 @@ fn places_of(word: &[u8]) -> usize {
     blanks.saturating_add(stop)
 }
 
-/// Whether a line blanks a field, or an entry of an array, after printing it.
-fn blanks(line: &Line, name: &[u8]) -> bool {
-    for field in line.fields.iter() {
-        if field.card.column(39) == b'B' && Operand::of(name_on(&field.card)).name == name {
-            return true;
-        }
-    }
-    false
-}
-
 /// Whether one of some lines, of this time if one is given, blanks a field.
 fn any_blanks(lines: &[Line], name: &[u8], time: Option<Time>) -> bool {
-    for line in lines {
-        if is_same_time(line.time, time.unwrap_or(line.time)) && blanks(line, name) {
-            return true;
-        }
-    }
-    false
+    lines.iter().any(|line| is_same_time(line.time, time.unwrap_or(line.time)) && line.blanks(name))
 }
 
 /// Whether lines of two times are printed without calculations between them.
@@ -217,7 +199,7 @@ fn field_for(
     number: &ShortNumber,
     time: Time,
     at_overflow: bool,
-) -> Result<Word, RuleStop> {
+) -> Outcome<Word> {
     let name = match find(wide.as_slice(), number) {
         Some(name) => name,
         None => define(editor, number, time)?,
@@ -243,33 +225,21 @@ fn field_for(
 
 /// Returns the name of the existing field for a number.
 fn find(wide: &[WideField], number: &ShortNumber) -> Option<Word> {
-    for field in wide {
-        if field.number.text() == number.name.text() && field.places == number.places {
-            return Some(field.name);
-        }
-    }
-    None
+    let found = wide.iter().find(|field| {
+        field.number.text() == number.name.text() && field.places == number.places
+    })?;
+    Some(found.name)
 }
 
 /// Returns a name for the field of a number. If no EXCPT prints its line, a calculation that is never done defines its length.
-fn define(editor: &mut Editor, number: &ShortNumber, time: Time) -> Result<Word, RuleStop> {
+fn define(editor: &mut Editor, number: &ShortNumber, time: Time) -> Outcome<Word> {
     let card = number.field.number;
     let name = fresh_name(&editor.view()?, b"W#", card)?;
-    if time == Time::Exception && !has_exception(groups_now(editor)?.as_slice()) {
+    if time == Time::Exception && !groups_now(editor)?.iter().any(|group| is_exception(group)) {
         let never = number.sized(calculation(b"NL0||Z-ADD|0|%", &[name], card));
         insert_at(editor, Place::DetailFront, &[never], card)?;
     }
     Ok(name)
-}
-
-/// Whether one of some calculations is an EXCPT.
-fn has_exception(groups: &[Group]) -> bool {
-    for group in groups {
-        if is_exception(group) {
-            return true;
-        }
-    }
-    false
 }
 
 fn is_exception(group: &Group) -> bool {
@@ -278,12 +248,7 @@ fn is_exception(group: &Group) -> bool {
 
 /// Whether a number is already copied to a field at a point in the cycle.
 fn is_copied(wide: &[WideField], name: Word, moment: Moment) -> bool {
-    for done in wide {
-        if done.copied == Some(moment) && done.name.text() == name.text() {
-            return true;
-        }
-    }
-    false
+    wide.iter().any(|done| done.copied == Some(moment) && done.name.text() == name.text())
 }
 
 /// Copies a number to a field at a point in the cycle, unless it is copied then.

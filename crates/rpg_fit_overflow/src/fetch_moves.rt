@@ -3,7 +3,7 @@
 use crate::overflow::{Overflow, Part, fetches};
 use rpg_fit_deck::{Address, Editor, Sentence, View, Word};
 use rpg_fit_words::{
-    Conjunction, Done, FreeIndicators, Indicator, Line, List, NewCard, RuleStop, Term, calculation,
+    Conjunction, Done, FreeIndicators, Indicator, Line, List, NewCard, Outcome, Term, calculation,
     insert_at, is_card, name_files, push_conditioned, put_cards,
 };
 
@@ -56,7 +56,7 @@ impl Moves<'_> {
         self.put_tail(editor, &made)
     }
 
-    fn begin(&self) -> Result<Made, RuleStop> {
+    fn begin(&self) -> Outcome<Made> {
         let mut free = FreeIndicators::new();
         let at_overflow = free.take(self.view, self.card)?;
         Ok(Made {
@@ -86,19 +86,10 @@ impl Moves<'_> {
         self.push_exception(made, made.at_overflow, line, conditions.checked()?)
     }
 
-    /// Whether a line of a time fetches overflow output.
-    fn fetches_at(&self, part: Part) -> bool {
-        for line in self.lines {
-            if part.has(line.time) && fetches(line) {
-                return true;
-            }
-        }
-        false
-    }
-
     /// Moves the lines of a time, if some of them fetch overflow output.
     fn move_part(&self, editor: &mut Editor, made: &mut Made, part: Part) -> Done {
-        if !self.fetches_at(part) {
+        let mut lines = self.lines.iter();
+        if !lines.any(|line| part.has(line.time) && fetches(line)) {
             return Ok(());
         }
         let mut steps = Steps {
@@ -167,7 +158,7 @@ impl Moves<'_> {
     }
 
     /// Returns the indicator under which a line is printed.
-    fn flag(&self, made: &mut Made, steps: &mut Steps, line: &Line) -> Result<Indicator, RuleStop> {
+    fn flag(&self, made: &mut Made, steps: &mut Steps, line: &Line) -> Outcome<Indicator> {
         match steps.flag {
             Some(flag) => Ok(flag),
             None => {

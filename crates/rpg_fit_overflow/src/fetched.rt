@@ -55,7 +55,9 @@ fn check_times(lines: &[Line]) -> Done {
 
 /// Rejects heading and detail lines that fetch overflow if the first output may reach it.
 fn check_first(moves: &Moves) -> Done {
-    if fetches_detail(moves.lines) && reaches_overflow(moves.overflow.printer, moves.lines) {
+    let mut lines = moves.lines.iter();
+    let is_fetched = lines.any(|line| line.time.is_detail() && fetches(line));
+    if is_fetched && reaches_overflow(moves.overflow.printer, moves.lines) {
         let why = "fetch on a detail line, and the first output may reach overflow";
         return Err(RuleStop::because(moves.card, why));
     }
@@ -83,32 +85,13 @@ fn is_alternative(lines: &[Line], one: IndicatorUse) -> bool {
     }
 }
 
-/// Whether a heading or detail line fetches overflow output.
-fn fetches_detail(lines: &[Line]) -> bool {
-    for line in lines {
-        if line.time.is_detail() && fetches(line) {
-            return true;
-        }
-    }
-    false
-}
-
 /// Returns the card of a line's alternatives at an address.
 fn card_at(lines: &[Line], at: Address) -> Option<Seen> {
     for line in lines {
         if line.head.at == at {
             return Some(line.head);
         }
-        if let Some(seen) = seen_at(line.more.as_slice(), at) {
-            return Some(seen);
-        }
-    }
-    None
-}
-
-fn seen_at(cards: &[Seen], at: Address) -> Option<Seen> {
-    for seen in cards {
-        if seen.at == at {
+        if let Some(seen) = line.more.iter().find(|seen| seen.at == at) {
             return Some(*seen);
         }
     }

@@ -55,12 +55,8 @@ pub(crate) fn fetches(line: &Line) -> bool {
 
 /// Returns the number of the first line's card that fetches overflow output.
 pub(crate) fn first_fetching(lines: &[Line]) -> Option<usize> {
-    for line in lines {
-        if fetches(line) {
-            return Some(line.head.number);
-        }
-    }
-    None
+    let line = lines.iter().find(|line| fetches(line))?;
+    Some(line.head.number)
 }
 
 /// What a deck does at overflow.
@@ -120,13 +116,10 @@ impl Overflow {
 
     /// Whether a line may be printed other than at overflow and at the first output.
     pub fn is_put_later(&self, line: &Line) -> bool {
-        for alternative in line.alternatives.iter() {
+        line.alternatives.iter().any(|alternative| {
             let condition = &alternative.condition;
-            if !self.is_output(line, condition) && !condition.has(Term::on(Indicator::FIRST_PAGE)) {
-                return true;
-            }
-        }
-        false
+            !self.is_output(line, condition) && !condition.has(Term::on(Indicator::FIRST_PAGE))
+        })
     }
 
     /// Whether a condition tests the overflow indicator.

@@ -19,12 +19,8 @@ pub(crate) fn is_page(field: &Seen) -> bool {
 
 /// Returns the number of a line's first card that prints PAGE.
 pub(crate) fn page_card(line: &Line) -> Option<usize> {
-    for field in line.fields.iter() {
-        if is_page(field) {
-            return Some(field.number);
-        }
-    }
-    None
+    let field = line.fields.iter().find(|field| is_page(field))?;
+    Some(field.number)
 }
 
 /// Whether calculations reset PAGE for an alternative: it may hold, and not only at the first output, before which there are none.
@@ -70,19 +66,10 @@ fn without_overflow(overflow: Overflow, kind: Kind, condition: &Conjunction) -> 
     }
 }
 
-/// Whether a condition is one of some.
-fn is_among(conditions: &[Conjunction], condition: &Conjunction) -> bool {
-    for other in conditions {
-        if other.is_same(condition) {
-            return true;
-        }
-    }
-    false
-}
-
 /// Appends a condition, unless it is there.
 fn push_new(found: &mut List<Conjunction>, condition: Conjunction) {
-    if !is_among(found.as_slice(), &condition) {
+    let mut others = found.as_slice().iter();
+    if !others.any(|other| other.is_same(&condition)) {
         found.push(condition);
     }
 }

@@ -102,10 +102,12 @@ impl Deck<'_> {
         if page.line.time == Time::Exception {
             return refused(page, "PAGE under conditions on a line of time E");
         }
-        if pages_in(page.line) > 1 {
+        let pages = page.line.fields.iter().filter(|field| is_page(field));
+        if pages.count() > 1 {
             return refused(page, "PAGE twice in a line");
         }
-        if is_page_read(self.view) {
+        let mut cards = self.view.cards.iter();
+        if cards.any(|seen| is_card(seen, b'I') && matches!(seen.card.value(53, 58), b"PAGE")) {
             return refused(page, "PAGE under conditions, and on an I card");
         }
         if self.tests_normally(page.line) || self.overflow.is_tested(&page.own()) {
@@ -116,13 +118,10 @@ impl Deck<'_> {
 
     /// Whether an alternative of a line, other than for overflow, tests overflow.
     fn tests_normally(&self, line: &Line) -> bool {
-        for alternative in line.alternatives.iter() {
+        line.alternatives.iter().any(|alternative| {
             let condition = &alternative.condition;
-            if !self.overflow.is_output(line, condition) && self.overflow.is_tested(condition) {
-                return true;
-            }
-        }
-        false
+            !self.overflow.is_output(line, condition) && self.overflow.is_tested(condition)
+        })
     }
 
     /// Rejects PAGE if an earlier line prints it at the same time: it would be reset before that line.
@@ -130,7 +129,7 @@ impl Deck<'_> {
         for line in earlier {
             if let Some(card) = page_card(line) {
                 if page.part().has(line.time) {
-                    self.check_earlier_line(page, line, card, is_reset)?;
+                    self.check_before(page, line, card, is_reset)?;
                 }
             }
         }
@@ -138,13 +137,7 @@ impl Deck<'_> {
     }
 
     /// Rejects PAGE if a line of its time that also prints it may be printed after the first output, or at it like its own.
-    fn check_earlier_line(
-        &self,
-        page: PageField,
-        line: &Line,
-        card: usize,
-        is_reset: bool,
-    ) -> Done {
+    fn check_before(&self, page: PageField, line: &Line, card: usize, is_reset: bool) -> Done {
         let printer = self.overflow.printer;
         if is_reset && self.overflow.is_put_later(line) {
             let why = "a line before it (card %) prints PAGE at the same time";
@@ -213,27 +206,6 @@ impl Deck<'_> {
         editor.rewrite(field, field.card.with(23, 31, &[]), remark);
         Ok(())
     }
-}
-
-/// Counts the fields of a line that print PAGE.
-fn pages_in(line: &Line) -> usize {
-    let mut count: usize = 0;
-    for field in line.fields.iter() {
-        if is_page(field) {
-            count = count.saturating_add(1);
-        }
-    }
-    count
-}
-
-/// Whether an I card reads PAGE.
-fn is_page_read(view: &View) -> bool {
-    for seen in view.cards.iter() {
-        if is_card(seen, b'I') && seen.card.value(53, 58) == b"PAGE".as_slice() {
-            return true;
-        }
-    }
-    false
 }
 
 /// Returns the conditions of a field, trimmed of blanks.

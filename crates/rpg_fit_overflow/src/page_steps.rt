@@ -3,7 +3,7 @@
 use crate::overflow::Part;
 use rpg_fit_deck::{Editor, View, Word};
 use rpg_fit_words::{
-    Conjunction, Done, FreeIndicators, FreshNames, Indicator, List, NewCard, Place, RuleStop,
+    Conjunction, Done, FreeIndicators, FreshNames, Indicator, List, NewCard, Outcome, Place,
     calculation, insert_at, push_conditioned,
 };
 
@@ -15,15 +15,10 @@ pub(crate) struct Marks {
 }
 
 /// Resets PAGE before the lines of a time are printed, if one of the conditions holds.
-pub(crate) fn reset(
-    editor: &mut Editor,
-    part: Part,
-    conditions: &[Conjunction],
-    card: usize,
-) -> Done {
+pub(crate) fn reset(editor: &mut Editor, part: Part, when: &[Conjunction], card: usize) -> Done {
     let reset = calculation(b"||Z-ADD|0|PAGE", &[], card);
     let mut cards = List::new(editor.alloc());
-    push_conditioned(&mut cards, part.level(), conditions, reset)?;
+    push_conditioned(&mut cards, part.level(), when, reset)?;
     insert_at(editor, part.end(), cards.checked()?, card)
 }
 
@@ -49,7 +44,7 @@ impl Marks {
         }
     }
 
-    fn saving(&mut self, view: &View, card: usize) -> Result<Saving, RuleStop> {
+    fn saving(&mut self, view: &View, card: usize) -> Outcome<Saving> {
         let flag = self.indicators.take(view, card)?.word();
         let saved = self.names.take(view, card)?;
         let at_zero = self.indicators.take(view, card)?.word();

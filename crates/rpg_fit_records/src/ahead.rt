@@ -3,9 +3,9 @@
 use rpg_fit_deck::{Card, Editor, Seen, Sentence, View, Word};
 use rpg_fit_terms::address_after;
 use rpg_fit_words::{
-    Columns, Conjunction, Done, FileTypes, Indicator, IndicatorUse, Line, List, NewCard, Operand,
-    RecordType, RuleStop, array_of, file_name, files_read, groups, indicator_uses, is_card, lines,
-    put_cards, record_length, record_types, remove_cards, with_record_length,
+    Columns, Conjunction, Done, FileTypes, Line, List, NewCard, Operand, Outcome, RecordType,
+    RuleStop, array_of, file_card, files_read, groups, indicator_uses, lines, put_cards,
+    record_length, record_types, remove_cards, with_record_length,
 };
 
 /// The longest record.
@@ -21,20 +21,11 @@ pub fn look_ahead(editor: &mut Editor) -> Done {
     for _ in 0..count {
         let view = editor.view()?;
         let types = record_types(&view)?;
-        if let Some(place) = first_ahead(types.as_slice()) {
+        if let Some(place) = types.iter().position(|kind| kind.is_looked_ahead()) {
             rewrite(editor, &view, types.as_slice(), place)?;
         }
     }
     Ok(())
-}
-
-fn first_ahead(types: &[RecordType]) -> Option<usize> {
-    for (place, kind) in types.iter().enumerate() {
-        if kind.is_looked_ahead() {
-            return Some(place);
-        }
-    }
-    None
 }
 
 /// The columns that are looked ahead, of records of a length.
@@ -90,24 +81,8 @@ fn base_of(field: &Seen) -> &[u8] {
     Operand::of(field.card.value(53, 58)).name
 }
 
-/// Whether a name is that of a type's field.
 fn has_field(kind: &RecordType, name: &[u8]) -> bool {
-    for field in kind.fields.iter() {
-        if base_of(field) == name {
-            return true;
-        }
-    }
-    false
-}
-
-/// Returns the card of a type's file.
-fn file_of<'a>(view: &'a View, kind: &RecordType) -> Option<&'a Seen> {
-    for seen in &view.cards {
-        if is_card(seen, b'F') && file_name(seen) == kind.file.text() {
-            return Some(seen);
-        }
-    }
-    None
+    kind.fields.iter().any(|field| base_of(field) == name)
 }
 
 /// Moves the fields of a type that looks ahead into the other types of its file.
@@ -118,7 +93,7 @@ fn rewrite(editor: &mut Editor, view: &View, all: &[RecordType], place: usize) -
     check_names(view, all, kind)?;
     check_uses(view, kind)?;
     check_forms(kind)?;
-    let Some(file) = file_of(view, kind) else {
+    let Some(file) = file_card(view, kind.file.text()) else {
         return Ok(());
     };
     let Some(ahead) = Ahead::of(kind.fields.as_slice(), &file.card) else {
@@ -134,10 +109,9 @@ fn rewrite(editor: &mut Editor, view: &View, all: &[RecordType], place: usize) -
 
 /// Rejects arrays, and fields that other types have too.
 fn check_names(view: &View, all: &[RecordType], kind: &RecordType) -> Done {
-    for field in kind.fields.iter() {
-        if array_of(view, base_of(field)).is_some() {
-            return Err(RuleStop::because(kind.head.number, "an array that is looked ahead"));
-        }
+    let mut fields = kind.fields.iter();
+    if fields.any(|field| array_of(view, base_of(field)).is_some()) {
+        return Err(RuleStop::because(kind.head.number, "an array that is looked ahead"));
     }
     for other in all {
         if other.head.at != kind.head.at {
@@ -190,12 +164,14 @@ fn check_uses(view: &View, kind: &RecordType) -> Done {
 }
 
 /// Returns the types of a file, with those indicators alone that nothing else turns on or off.
-fn own_types(view: &View, kind: &RecordType) -> Result<FileTypes, RuleStop> {
+fn own_types(view: &View, kind: &RecordType) -> Outcome<FileTypes> {
     let mut types = FileTypes::of(view, kind.file)?;
     let uses = indicator_uses(view);
     let mut own = List::new(view.alloc);
     for indicator in types.indicators.as_slice() {
-        if !indicator.is_blank() && !is_changed(&types, uses.checked()?, *indicator) {
+        let mut others = uses.checked()?.iter();
+        let is_changed = others.any(|one| one.indicator == *indicator && types.is_changed(one));
+        if !indicator.is_blank() && !is_changed {
             own.push(*indicator);
         }
     }
@@ -204,23 +180,11 @@ fn own_types(view: &View, kind: &RecordType) -> Result<FileTypes, RuleStop> {
     Ok(types)
 }
 
-fn is_changed(types: &FileTypes, uses: &[IndicatorUse], indicator: Indicator) -> bool {
-    for one in uses {
-        if one.indicator == indicator && types.is_changed(one) {
-            return true;
-        }
-    }
-    false
-}
-
 fn is_operand(card: &Card, kind: &RecordType) -> bool {
-    for columns in Columns::ALL {
+    Columns::ALL.iter().any(|columns| {
         let name = Operand::of(columns.value(card)).name;
-        if !name.is_empty() && has_field(kind, name) {
-            return true;
-        }
-    }
-    false
+        !name.is_empty() && has_field(kind, name)
+    })
 }
 
 /// Whether a calculation has one of the fields, and is done without a record of the file.
@@ -236,12 +200,7 @@ fn is_done_alone(cards: &[Seen], kind: &RecordType, types: &FileTypes) -> bool {
 
 /// Whether a line is put out only for a record of the file.
 fn is_for_record(line: &Line, types: &FileTypes) -> bool {
-    for alternative in line.alternatives.iter() {
-        if types.type_in(&alternative.condition).is_none() {
-            return false;
-        }
-    }
-    true
+    line.alternatives.iter().all(|alternative| types.type_in(&alternative.condition).is_some())
 }
 
 /// Rejects the fields of a line that need no record of the file.

@@ -3,7 +3,7 @@
 use crate::structure::{Span, Structure, Subfield, reads};
 use rpg_fit_deck::{Editor, Sentence, Word};
 use rpg_fit_words::{
-    Done, FreshNames, List, NewCard, Place, RuleStop, array_of, calculation, insert_at,
+    Done, FreshNames, List, NewCard, Outcome, Place, RuleStop, array_of, calculation, insert_at,
     is_structure,
 };
 
@@ -66,17 +66,12 @@ fn whole_of(structure: &Structure) -> Option<Whole> {
 }
 
 /// Rejects a piece that is changed, that shares columns with another one, or that isn't always there.
-fn check_piece(
-    structure: &Structure,
-    whole: &Whole,
-    pieces: &[Subfield],
-    piece: &Subfield,
-) -> Done {
+fn check_piece(structure: &Structure, whole: &Whole, all: &[Subfield], piece: &Subfield) -> Done {
     let (card, name) = (piece.seen.number, piece.name);
     structure.check_unchanged(structure.number(), name)?;
     if array_of(&structure.view, name.text()).is_some()
         || !whole.span.has(piece.span)
-        || is_overlaid(pieces, piece)
+        || is_overlaid(all, piece)
     {
         let why = Sentence::of_two("% isn't a piece of % of its own", name, whole.name);
         return Err(RuleStop::refused(card, why));
@@ -90,25 +85,17 @@ fn check_piece(
 
 /// Whether another piece that begins no later ends within a piece, or after it.
 fn is_overlaid(pieces: &[Subfield], piece: &Subfield) -> bool {
-    for other in pieces {
+    pieces.iter().any(|other| {
         let is_other = other.name.text() != piece.name.text();
-        if is_other && other.span.first <= piece.span.first && other.span.last >= piece.span.first {
-            return true;
-        }
-    }
-    false
+        is_other && other.span.first <= piece.span.first && other.span.last >= piece.span.first
+    })
 }
 
 /// Whether each record type reads a field.
 fn is_always_read(structure: &Structure, name: Word) -> bool {
-    for kind in structure.types.iter() {
-        let head = &kind.head.card;
-        let is_type = !is_structure(head) && !matches!(head.columns(19, 20), b"**");
-        if is_type && !reads(kind, name.text()) {
-            return false;
-        }
-    }
-    true
+    structure.types.iter().all(|kind| {
+        is_structure(&kind.head.card) || kind.is_looked_ahead() || reads(kind, name.text())
+    })
 }
 
 /// Returns the first piece after a column.
@@ -127,11 +114,7 @@ fn next_piece(pieces: &[Subfield], column: usize) -> Option<&Subfield> {
 }
 
 /// Returns the calculations that make the whole: each piece is moved to the end of what is there so far.
-fn moves_of(
-    structure: &Structure,
-    whole: &Whole,
-    pieces: &[Subfield],
-) -> Result<List<NewCard>, RuleStop> {
+fn moves_of(structure: &Structure, whole: &Whole, pieces: &[Subfield]) -> Outcome<List<NewCard>> {
     let number = structure.number();
     let mut names = FreshNames::of(b"DS#", 6);
     let mut cards = List::new(structure.view.alloc);
@@ -140,7 +123,8 @@ fn moves_of(
     for _ in pieces {
         if let Some(piece) = next_piece(pieces, last) {
             last = piece.span.last;
-            let into = if last == whole.span.last {
+            let is_whole = last == whole.span.last;
+            let into = if is_whole {
                 whole.name
             } else {
                 names.take(&structure.view, number)?

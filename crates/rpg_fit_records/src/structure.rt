@@ -5,8 +5,8 @@ use crate::taken_apart::TakenApart;
 use rpg_fit_deck::{Editor, Seen, Sentence, View, Word};
 use rpg_fit_terms::is_name_on;
 use rpg_fit_words::{
-    Done, Line, List, Operand, RecordType, RuleStop, is_card, is_structure, lines, record_types,
-    remove_cards,
+    Done, Line, List, Operand, Outcome, RecordType, RuleStop, is_card, is_structure, lines,
+    record_types, remove_cards,
 };
 
 /// Replaces each data structure: its subfields are read from the columns of the field that fills it.
@@ -85,35 +85,14 @@ fn name_on(field: &Seen) -> &[u8] {
 
 /// Whether a calculation changes a field.
 fn is_calculated(view: &View, name: &[u8]) -> bool {
-    for seen in &view.cards {
-        if is_card(seen, b'C') && Operand::of(seen.card.value(43, 48)).name == name {
-            return true;
-        }
-    }
-    false
-}
-
-/// Whether a line blanks a field after it is printed.
-fn is_blanked(lines: &[Line], name: &[u8]) -> bool {
-    for line in lines {
-        for field in line.fields.iter() {
-            let card = &field.card;
-            if card.column(39) == b'B' && Operand::of(card.value(32, 37)).name == name {
-                return true;
-            }
-        }
-    }
-    false
+    view.cards.iter().any(|seen| is_card(seen, b'C')
+        && Operand::of(seen.card.value(43, 48)).name == name)
 }
 
 /// Whether a calculation or an output field has a name.
 fn is_used(view: &View, name: &[u8]) -> bool {
-    for seen in &view.cards {
-        if matches!(seen.card.form(), b'C' | b'O') && is_name_on(&seen.card, name) {
-            return true;
-        }
-    }
-    false
+    view.cards.iter().any(|seen| matches!(seen.card.form(), b'C' | b'O')
+        && is_name_on(&seen.card, name))
 }
 
 impl Structure<'_> {
@@ -143,18 +122,15 @@ impl Structure<'_> {
 
     /// Whether a record type reads a field.
     pub fn is_read(&self, name: &[u8]) -> bool {
-        for kind in self.types.iter() {
-            if !is_structure(&kind.head.card) && reads(kind, name) {
-                return true;
-            }
-        }
-        false
+        self.types
+            .iter()
+            .any(|kind| !is_structure(&kind.head.card) && reads(kind, name))
     }
 
     /// Rejects a field that is changed.
     pub fn check_unchanged(&self, card: usize, name: Word) -> Done {
         if is_calculated(&self.view, name.text())
-            || is_blanked(self.lines.as_slice(), name.text())
+            || self.lines.iter().any(|line| line.blanks(name.text()))
         {
             let why = "% is changed, and with it what stands at its place";
             return Err(RuleStop::about(card, why, name));
@@ -189,7 +165,6 @@ impl Structure<'_> {
         found
     }
 
-    /// Whether its own name is used.
     fn is_name_used(&self) -> bool {
         self.name.len() > 0 && is_used(&self.view, self.name.text())
     }
@@ -204,12 +179,7 @@ impl Structure<'_> {
 
 /// Whether a type has a field with a name.
 pub(crate) fn reads(kind: &RecordType, name: &[u8]) -> bool {
-    for field in kind.fields.iter() {
-        if name_on(field) == name {
-            return true;
-        }
-    }
-    false
+    kind.fields.iter().any(|field| name_on(field) == name)
 }
 
 /// Appends a type's fields with a name.
@@ -221,24 +191,15 @@ fn push_named(found: &mut List<Seen>, kind: &RecordType, name: &[u8]) {
     }
 }
 
-/// Whether a name is that of one of some subfields.
-fn is_named(subfields: &[Subfield], name: &[u8]) -> bool {
-    for subfield in subfields {
-        if subfield.name.text() == name {
-            return true;
-        }
-    }
-    false
-}
-
 /// Returns the subfields of a structure; None if the columns of one can't be read.
-fn subfields_of(view: &View, kind: &RecordType) -> Result<Option<List<Subfield>>, RuleStop> {
-    let mut found = List::new(view.alloc);
+fn subfields_of(view: &View, kind: &RecordType) -> Outcome<Option<List<Subfield>>> {
+    let mut found: List<Subfield> = List::new(view.alloc);
     for field in kind.fields.iter() {
         let Some(span) = Span::of(field) else {
             return Ok(None);
         };
-        if is_named(found.as_slice(), name_on(field)) {
+        let mut others = found.as_slice().iter();
+        if others.any(|other| other.name.text() == name_on(field)) {
             return Err(RuleStop::because(kind.head.number, "a subfield stands twice"));
         }
         found.push(Subfield {

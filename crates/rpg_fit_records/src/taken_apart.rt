@@ -3,7 +3,7 @@
 use crate::structure::{Span, Structure, Subfield};
 use rpg_fit_deck::{Editor, Seen, Sentence, Word};
 use rpg_fit_terms::address_after;
-use rpg_fit_words::{Done, List, NewCard, RuleStop, array_of, put_cards};
+use rpg_fit_words::{Done, List, NewCard, Outcome, RuleStop, array_of, put_cards};
 
 /// A structure that one input field fills.
 #[derive(Clone, Copy)]
@@ -28,15 +28,13 @@ impl TakenApart<'_> {
         self.structure
             .check_inputs(self.parent, self.span, self.decimals)?;
         let count = self.put_fields(editor)?;
-        let (one, several) = (
-            "a data structure: % field is read from the columns of %",
-            "a data structure: % fields are read from the columns of %",
-        );
-        let text = if count == 1 { one } else { several };
-        editor.report(
-            number,
-            Sentence::of_two(text, Word::of_number(count), self.parent),
-        );
+        let text = if count == 1 {
+            "a data structure: % field is read from the columns of %"
+        } else {
+            "a data structure: % fields are read from the columns of %"
+        };
+        let sentence = Sentence::of_two(text, Word::of_number(count), self.parent);
+        editor.report(number, sentence);
         self.structure.remove(editor);
         Ok(())
     }
@@ -71,18 +69,14 @@ impl TakenApart<'_> {
     }
 
     /// Inserts the subfields after each card that reads the field, and returns how many there are.
-    fn put_fields(&self, editor: &mut Editor) -> Result<usize, RuleStop> {
+    fn put_fields(&self, editor: &mut Editor) -> Outcome<usize> {
         let inputs = self.structure.inputs(self.parent.text());
         let mut count = 0;
         for input in inputs.checked()? {
             let fields = self.fields_at(input);
             let following = address_after(&self.structure.view, input.at);
-            put_cards(
-                editor,
-                following,
-                fields.checked()?,
-                self.structure.number(),
-            )?;
+            let number = self.structure.number();
+            put_cards(editor, following, fields.checked()?, number)?;
             count = fields.as_slice().len();
         }
         Ok(count)
@@ -96,13 +90,11 @@ impl TakenApart<'_> {
             if !self.is_parent(subfield) {
                 let before = subfield.span.first.saturating_sub(self.span.first);
                 let first = begin.saturating_add(before);
-                let last = first
-                    .saturating_add(subfield.span.length())
-                    .saturating_sub(1);
+                let past = first.saturating_add(subfield.span.length());
                 let card = NewCard::copy(&subfield.seen)
                     .with(43, 43, &[])
                     .with_number(44, 47, first)
-                    .with_number(48, 51, last)
+                    .with_number(48, 51, past.saturating_sub(1))
                     .with(59, 74, &[])
                     .with_columns(63, 64, &input.card);
                 fields.push(card);

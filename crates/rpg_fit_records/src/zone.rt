@@ -28,14 +28,9 @@ const DIGITS: [&[u8]; 16] = [
     b"\"?|",
 ];
 
-/// Returns the group that has a character.
 fn group_with(groups: &[&'static [u8]], character: u8) -> Option<&'static [u8]> {
-    for group in groups {
-        if group.contains(&character) {
-            return Some(group);
-        }
-    }
-    None
+    let group = groups.iter().find(|group| group.contains(&character))?;
+    Some(*group)
 }
 
 /// Returns the characters with the zone of a character; None for a sign, whose zone a card reader doesn't tell.

@@ -1,11 +1,11 @@
 //! Codes by zone or digit: replaced by codes for the characters that have it.
 
 use crate::zone::{same_digit, same_zone};
-use rpg_fit_deck::{Card, Editor, MOST_CARDS, Seen, Sentence, View, Word};
+use rpg_fit_deck::{Editor, MOST_CARDS, Seen, Sentence, View, Word};
 use rpg_fit_terms::address_after;
 use rpg_fit_words::{
-    Constant, Done, Indicator, List, NewCard, RecordType, RuleStop, is_or, put_cards, record_types,
-    remove_cards,
+    Constant, Done, Indicator, List, NewCard, Outcome, RecordType, RuleStop, is_or, put_cards,
+    record_types, remove_cards,
 };
 use std::alloc::Global;
 
@@ -54,7 +54,7 @@ struct Code {
 
 impl Code {
     /// Returns the code in the columns of a card.
-    fn of(seen: &Seen, column: usize) -> Result<Code, RuleStop> {
+    fn of(seen: &Seen, column: usize) -> Outcome<Code> {
         let kind = seen.card.column(column.saturating_add(5));
         let character = seen.card.column(column.saturating_add(6));
         let found = match kind {
@@ -74,11 +74,10 @@ impl Code {
             } else {
                 kind
             },
-            characters: constant_of(found.unwrap_or(&[character])),
+            characters: Constant::empty().and(found.unwrap_or(&[character])),
         })
     }
 
-    /// Returns how many alternatives it makes.
     fn alternatives(&self) -> usize {
         if self.is_not {
             1
@@ -88,16 +87,7 @@ impl Code {
     }
 }
 
-fn constant_of(text: &[u8]) -> Constant {
-    let mut constant = Constant::empty();
-    for character in text {
-        constant.push(*character);
-    }
-    constant
-}
-
-/// Returns the codes of an alternative.
-fn codes_of(alloc: Global, cards: &[Seen]) -> Result<List<Code>, RuleStop> {
+fn codes_of(alloc: Global, cards: &[Seen]) -> Outcome<List<Code>> {
     let mut codes = List::new(alloc);
     for seen in cards {
         for column in CODES {
@@ -150,18 +140,14 @@ impl Punch {
     /// Appends a code for one character.
     fn push(&mut self, code: &Code, character: u8) {
         if self.held == CODES.len() {
-            let and = NewCard {
-                card: Card::of_form(b'I').with(14, 16, b"AND"),
-                number: self.last.number,
-            };
-            self.begin(and);
+            let and = NewCard::of_form(b'I', self.last.number);
+            self.begin(and.with(14, 16, b"AND"));
         }
         let not = if code.is_not { b"N" } else { b" " };
         let text = code.position.and(not).and(&[code.kind, character]);
         let column = self.held.saturating_mul(7).saturating_add(21);
-        self.last = self
-            .last
-            .with(column, column.saturating_add(6), text.text());
+        let end = column.saturating_add(6);
+        self.last = self.last.with(column, end, text.text());
         self.held = self.held.saturating_add(1);
     }
 
@@ -175,10 +161,8 @@ impl Punch {
                 let choices = code.alternatives().max(1);
                 left = (left / choices).max(1);
                 let chosen = number / left % choices;
-                self.push(
-                    code,
-                    code.characters.text().get(chosen).copied().unwrap_or(b' '),
-                );
+                let character = code.characters.text().get(chosen).copied();
+                self.push(code, character.unwrap_or(b' '));
             }
         }
     }
@@ -255,10 +239,8 @@ fn put_codes(editor: &mut Editor, view: &View, kind: &RecordType, rewriting: &Re
         "codes by zone or digit: % alternative of characters",
         "codes by zone or digit: % alternatives of characters",
     );
-    editor.report(
-        head.number,
-        Sentence::counted(one, several, rewriting.count),
-    );
+    let sentence = Sentence::counted(one, several, rewriting.count);
+    editor.report(head.number, sentence);
     let Punch { cards, last, .. } = &rewriting.punch;
     let following = address_after(view, head.at);
     match cards.checked()? {

@@ -17,7 +17,7 @@ indicator_starts form =
 
 -- an indicator has two columns
 abbrev pub stands_at : Indicator → Card → ℕ → Bool
-stands_at indicator card column = (column_of card column == indicator.first) && (column_of card (column + 1) == indicator.second)
+stands_at indicator card column = (column_of card column == indicator.0) && (column_of card (column + 1) == indicator.1)
 
 -- some of a card's columns have an indicator
 abbrev pub stands_in : Indicator → Card → List ℕ → Bool
@@ -33,11 +33,11 @@ is_indicator_used view indicator = list_any (λ seen. is_indicator_on indicator 
 
 -- the indicators 01 to 99, and H1 to H9
 abbrev pub numbered : ℕ → Indicator
-numbered n = record { first = 48 + n / 10 % 10; second = 48 + n % 10 }
+numbered n = record { 0 = 48 + n / 10 % 10; 1 = 48 + n % 10 }
 
 -- H0 to H9
 abbrev pub halt : ℕ → Indicator
-halt n = record { first = 72; second = 48 + n % 10 }
+halt n = record { 0 = 72; 1 = 48 + n % 10 }
 
 -- the number of the greatest indicator that wasn't tried
 abbrev pub greatest_untried : FreeIndicators → ℕ

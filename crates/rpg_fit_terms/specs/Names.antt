@@ -21,7 +21,7 @@ index_in operand = after_first ends_name operand
 
 -- the columns from first to last
 abbrev pub columns_between : ℕ → ℕ → Columns
-columns_between first last = record { first = first; last = last }
+columns_between first last = record { 0 = first; 1 = last }
 
 -- where cards of a form have operands: E (69), I (73), C (67) and O (79)
 abbrev pub operand_columns : ℕ → List Columns
@@ -41,7 +41,7 @@ is_prefix_in prefix operand = starts_with nat_eq (name_in operand) prefix || sta
 
 -- some of a card's columns have an operand that passes a test
 abbrev pub has_operand_in : (List ℕ → Bool) → Card → List Columns → Bool
-has_operand_in test card places = list_any (λ c. test (value_in_columns card c.first c.last)) places
+has_operand_in test card places = list_any (λ c. test (value_in_columns card c.0 c.1)) places
 
 -- so do those of a card that isn't a comment
 abbrev pub card_has_operand : (List ℕ → Bool) → Card → Bool

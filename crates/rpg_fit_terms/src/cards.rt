@@ -19,6 +19,14 @@ impl NewCard {
         }
     }
 
+    /// Returns a card that is blank except for its form, derived from the card with a number.
+    pub fn of_form(form: u8, number: usize) -> NewCard {
+        NewCard {
+            card: Card::of_form(form),
+            number,
+        }
+    }
+
     /// Returns this card with columns of another one.
     pub fn with_columns(self, first: usize, last: usize, other: &Card) -> NewCard {
         self.with(first, last, other.columns(first, last))
@@ -47,12 +55,8 @@ pub fn is_card(seen: &Seen, form: u8) -> bool {
     seen.card.form() == form && !seen.card.is_comment()
 }
 
-/// Inserts cards before another one, as part of the change of the card `with`.
-///
-/// # Errors
-///
-/// The deck already has more cards than a deck may have; or it gets more than twice as many, so that it keeps too many even if all others
-/// are removed.
+/// Inserts cards before another one, as part of the change of the card `with`. Stops if the deck already has more cards than a deck may
+/// have; or if it gets more than twice as many, so that it keeps too many even if all others are removed.
 pub fn put_cards(editor: &mut Editor, before: Address, cards: &[NewCard], with: usize) -> Done {
     if editor.cards() > MOST_CARDS {
         return Err(RuleStop::TooMany);

@@ -104,10 +104,6 @@ impl Conjunction {
     }
 
     /// Rejects more than 60 terms, for a card.
-    ///
-    /// # Errors
-    ///
-    /// There were more.
     pub fn check(&self, card: usize) -> Done {
         if self.is_too_long {
             return Err(RuleStop::refused(card, Sentence::of("more than 60 conditions together")));
@@ -165,32 +161,17 @@ impl Conjunction {
 
     /// Whether it has a term.
     pub fn has(&self, term: Term) -> bool {
-        for one in self.terms() {
-            if *one == term {
-                return true;
-            }
-        }
-        false
+        self.terms().iter().any(|one| *one == term)
     }
 
     /// Whether it tests an indicator, on or off.
     pub fn tests(&self, indicator: Indicator) -> bool {
-        for one in self.terms() {
-            if one.indicator == indicator {
-                return true;
-            }
-        }
-        false
+        self.terms().iter().any(|one| one.indicator == indicator)
     }
 
     /// Whether it has the opposite of a term of another condition.
     fn is_against(&self, other: &Conjunction) -> bool {
-        for one in self.terms() {
-            if other.has(one.opposite()) {
-                return true;
-            }
-        }
-        false
+        self.terms().iter().any(|one| other.has(one.opposite()))
     }
 
     /// Whether it never holds together with another one: an indicator would have to be on and off.
@@ -205,12 +186,7 @@ impl Conjunction {
 
     /// Whether it holds at the first output, when only L0 and 1P are on.
     pub fn holds_first(&self) -> bool {
-        for one in self.terms() {
-            if !one.holds_first() {
-                return false;
-            }
-        }
-        true
+        self.terms().iter().all(|one| one.holds_first())
     }
 
     /// Returns how many cards its terms need, at least one.

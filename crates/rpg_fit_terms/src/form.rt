@@ -119,12 +119,10 @@ fn field_form(view: &View, name: &[u8]) -> Option<Form> {
 
 /// Returns the length of UDATE and PAGE, whatever the cards say.
 fn fixed_length(name: &[u8]) -> Option<usize> {
-    if name == b"UDATE".as_slice() {
-        Some(6)
-    } else if name == b"PAGE".as_slice() {
-        Some(4)
-    } else {
-        None
+    match name {
+        b"UDATE" => Some(6),
+        b"PAGE" => Some(4),
+        _ => None,
     }
 }
 

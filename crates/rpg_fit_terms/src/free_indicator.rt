@@ -45,7 +45,6 @@ fn indicator_columns(form: u8) -> &'static [u8]
     }
 }
 
-/// Whether one of these columns has an indicator.
 fn stands_in(card: &Card, columns: &[u8], indicator: Indicator) -> bool
     ensures { result ≡ stands_in indicator card.now columns.now }
 {
@@ -91,11 +90,7 @@ impl FreeIndicators {
         FreeIndicators { left: GREATEST }
     }
 
-    /// Returns the greatest indicator that no card has, below those already taken.
-    ///
-    /// # Errors
-    ///
-    /// All are in use: the deck is rejected for a card.
+    /// Returns the greatest indicator that no card has, below those already taken. Rejects the deck, for a card, if all are in use.
     pub fn take(&mut self, view: &View, card: usize) -> Result<Indicator, RuleStop>
         ensures unused { IfOk result (λ indicator. is_indicator_used view.now indicator ≡ false) }
         ensures of_number { IfOk result (λ indicator. indicator ≡ numbered (greatest_untried self.new + 1)) }
@@ -117,11 +112,7 @@ impl FreeIndicators {
     }
 }
 
-/// Returns the highest of H9 to H1 that no card has.
-///
-/// # Errors
-///
-/// All are in use: the deck is rejected for a card.
+/// Returns the highest of H9 to H1 that no card has. Rejects the deck, for a card, if all are in use.
 pub fn free_halt(view: &View, card: usize) -> Result<Indicator, RuleStop>
     ensures unused { IfOk result (λ indicator. is_indicator_used view.now indicator ≡ false) }
     ensures all_used { OnErr result ((n : ℕ) → 0 < n → n ≤ 9 → is_indicator_used view.now (halt n) ≡ true) }

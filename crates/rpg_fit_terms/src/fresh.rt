@@ -6,7 +6,7 @@ ghost use Rattle.rpg_fit_terms.specs.Fresh.{AllTaken, AreNew, AreTaken, IsTaken,
 ghost use Rattle.rpg_fit_terms.specs.Names.{is_prefix_used};
 
 use crate::name::{is_name_used, is_prefix_used, is_reserved};
-use crate::stop::RuleStop;
+use crate::stop::{Outcome, RuleStop};
 use rpg_fit_deck::{Sentence, View, Word};
 
 /// The most names that are tried: the stem, and the stem with 1 to 9,999.
@@ -22,13 +22,6 @@ pub struct FreshNames {
     /// The most characters of a name.
     room: usize,
     /// The number of the next one, 0 for the stem alone.
-    next: usize,
-}
-
-/// An unused name, and the number of the next one to try.
-#[derive(Clone, Copy)]
-struct FreeName {
-    name: Word,
     next: usize,
 }
 
@@ -78,6 +71,11 @@ fn is_taken(view: &View, name: &[u8]) -> bool
 }
 
 impl FreshNames {
+    /// Whether these are names of a stem, of at most `room` characters.
+    pub(crate) fn is_of(&self, stem: &[u8], room: usize) -> bool {
+        self.room == room && self.stem.text() == stem
+    }
+
     /// Starts with a stem, for names of at most `room` characters.
     pub fn of(stem: &[u8], room: usize) -> FreshNames
         ensures { AreNew stem.now room result }
@@ -116,41 +114,27 @@ impl FreshNames {
         Some(name)
     }
 
-    /// Returns the next name that no card of the deck has, or None if all are in use.
-    fn next_free(&self, view: &View) -> Option<FreeName>
-        ensures free { IfSome result (λ found. is_taken view.now (word_text found.name) ≡ false) }
-        ensures none_free { IfNone result (AreTaken view.now self.now) }
-    {
-        for number in self.next..MOST_NAMES {
-            match self.free_name(view, number) {
-                Some(name) => {
-                    return Some(FreeName {
-                        name,
-                        next: number + 1,
-                    });
-                }
-                None => {}
-            }
-        }
-        None
-    }
-
     /// Returns the next name that no card of the deck has, and doesn't return it again; None if all are in use.
     pub fn find(&mut self, view: &View) -> Option<Word>
         ensures free { IfSome result (λ name. is_taken view.now (word_text name) ≡ false) }
         ensures none_free { IfNone result (AreTaken view.now self.old) }
     {
-        let found = self.next_free(view)?;
-        self.next = found.next;
-        Some(found.name)
+        let names = *self;
+        for number in names.next..MOST_NAMES {
+            match names.free_name(view, number) {
+                Some(name) => {
+                    self.next = number + 1;
+                    return Some(name);
+                }
+                None => {}
+            }
+        }
+        self.next = MOST_NAMES;
+        None
     }
 
-    /// Returns the next name that no card of the deck has, and doesn't return it again.
-    ///
-    /// # Errors
-    ///
-    /// All names are in use: the deck is rejected for a card.
-    pub fn take(&mut self, view: &View, card: usize) -> Result<Word, RuleStop>
+    /// Returns the next name that no card of the deck has, and doesn't return it again. Rejects the deck, for a card, if all are in use.
+    pub fn take(&mut self, view: &View, card: usize) -> Outcome<Word>
         ensures free { IfOk result (λ name. is_taken view.now (word_text name) ≡ false) }
         ensures none_free { OnErr result (AreTaken view.now self.old) }
     {
@@ -161,12 +145,8 @@ impl FreshNames {
     }
 }
 
-/// Returns a name of at most 6 characters that no card of the deck has.
-///
-/// # Errors
-///
-/// All names are in use: the deck is rejected for a card.
-pub fn fresh_name(view: &View, stem: &[u8], card: usize) -> Result<Word, RuleStop>
+/// Returns a name of at most 6 characters that no card of the deck has. Rejects the deck, for a card, if all are in use.
+pub fn fresh_name(view: &View, stem: &[u8], card: usize) -> Outcome<Word>
     ensures free { IfOk result (λ name. is_taken view.now (word_text name) ≡ false) }
     ensures none_free { OnErr result (AllTaken view.now (cut stem.now) 6 0) }
 {

@@ -7,42 +7,24 @@ use rpg_fit_deck::{Card, Word};
 
 /// An indicator: two characters of a card, which may be blank.
 #[derive(Clone, Copy, PartialEq, Eq)]
-pub struct Indicator {
-    first: u8,
-    second: u8,
-}
+pub struct Indicator(u8, u8);
 
 impl Indicator {
     /// No indicator.
-    pub const BLANK: Indicator = Indicator {
-        first: b' ',
-        second: b' ',
-    };
+    pub const BLANK: Indicator = Indicator(b' ', b' ');
 
     /// L0, which is always on.
-    pub const ALWAYS: Indicator = Indicator {
-        first: b'L',
-        second: b'0',
-    };
+    pub const ALWAYS: Indicator = Indicator(b'L', b'0');
 
     /// 1P, which is on only at the first output.
-    pub const FIRST_PAGE: Indicator = Indicator {
-        first: b'1',
-        second: b'P',
-    };
+    pub const FIRST_PAGE: Indicator = Indicator(b'1', b'P');
 
     /// SR, in columns 7 to 8 of a subroutine's calculations.
-    pub const SUBROUTINE: Indicator = Indicator {
-        first: b'S',
-        second: b'R',
-    };
+    pub const SUBROUTINE: Indicator = Indicator(b'S', b'R');
 
     /// Returns the characters in a column and the next one.
     pub fn at(card: &Card, column: usize) -> Indicator {
-        Indicator {
-            first: card.column(column),
-            second: card.column(column.saturating_add(1)),
-        }
+        Indicator(card.column(column), card.column(column.saturating_add(1)))
     }
 
     /// Whether a card has it in a column and the next one.
@@ -50,27 +32,21 @@ impl Indicator {
         ensures { result ≡ stands_at self card.now column }
     {
         let first = usize::from(column);
-        card.column(first) == self.first && card.column(first + 1) == self.second
+        card.column(first) == self.0 && card.column(first + 1) == self.1
     }
 
     /// Returns the indicator with a number below 100.
     pub fn of_number(number: u8) -> Indicator
         ensures { result ≡ numbered number }
     {
-        Indicator {
-            first: b'0' + number / 10 % 10,
-            second: b'0' + number % 10,
-        }
+        Indicator(b'0' + number / 10 % 10, b'0' + number % 10)
     }
 
     /// Returns the halt indicator with a number below 10.
     pub fn halt(number: u8) -> Indicator
         ensures { result ≡ halt number }
     {
-        Indicator {
-            first: b'H',
-            second: b'0' + number % 10,
-        }
+        Indicator(b'H', b'0' + number % 10)
     }
 
     /// Whether it is blank.
@@ -80,11 +56,11 @@ impl Indicator {
 
     /// Whether it is one of 00 to 99.
     pub fn is_number(self) -> bool {
-        self.first.is_ascii_digit() && self.second.is_ascii_digit()
+        self.0.is_ascii_digit() && self.1.is_ascii_digit()
     }
 
     /// Returns its characters.
     pub fn word(self) -> Word {
-        Word::of(&[self.first, self.second])
+        Word::of(&[self.0, self.1])
     }
 }

@@ -21,5 +21,5 @@ pub use fresh::{FreshNames, fresh_name, unused_prefix};
 pub use indicator::Indicator;
 pub use name::{is_date_part, is_name_on, is_name_used};
 pub use operand::{Operand, entry};
-pub use renaming::{rename, with_room};
-pub use stop::{Done, Reason, RuleStop, settle};
+pub use renaming::{ShortNames, rename};
+pub use stop::{Done, Outcome, Reason, RuleStop, settle};

@@ -7,52 +7,21 @@ ghost use Rattle.rpg_fit_terms.specs.Names.{card_has_operand, has_operand_in, is
 use crate::operand::Operand;
 use rpg_fit_deck::{Card, View};
 
-/// Columns of a card.
+/// Columns of a card: the first and the last.
 #[derive(Clone, Copy)]
-pub(crate) struct Columns {
-    pub first: usize,
-    pub last: usize,
-}
+pub(crate) struct Columns(pub usize, pub usize);
 
 /// The columns of an E card's names.
-const TABLE_NAMES: &[Columns] = &[
-    Columns {
-        first: 27,
-        last: 32,
-    },
-    Columns {
-        first: 46,
-        last: 51,
-    },
-];
+const TABLE_NAMES: &[Columns] = &[Columns(27, 32), Columns(46, 51)];
 
 /// The columns of an I card's name.
-const INPUT_NAMES: &[Columns] = &[Columns {
-    first: 53,
-    last: 58,
-}];
+const INPUT_NAMES: &[Columns] = &[Columns(53, 58)];
 
 /// The columns of a C card's names.
-const CALCULATION_NAMES: &[Columns] = &[
-    Columns {
-        first: 18,
-        last: 27,
-    },
-    Columns {
-        first: 33,
-        last: 42,
-    },
-    Columns {
-        first: 43,
-        last: 48,
-    },
-];
+const CALCULATION_NAMES: &[Columns] = &[Columns(18, 27), Columns(33, 42), Columns(43, 48)];
 
 /// The columns of an O card's name.
-const OUTPUT_NAMES: &[Columns] = &[Columns {
-    first: 32,
-    last: 37,
-}];
+const OUTPUT_NAMES: &[Columns] = &[Columns(32, 37)];
 
 /// Returns the columns of names on cards of a form.
 pub(crate) fn name_columns(form: u8) -> &'static [Columns]
@@ -75,11 +44,10 @@ fn is_name_in(operand: &[u8], name: &[u8]) -> bool
     found.name == name || found.index == name
 }
 
-/// Whether one of these columns has a name.
 fn has_name_in(card: &Card, places: &[Columns], name: &[u8]) -> bool
     ensures { result ≡ has_operand_in (is_name_in name.now) card.now places.now }
 {
-    places.iter().any(|columns| is_name_in(card.value(columns.first, columns.last), name))
+    places.iter().any(|columns| is_name_in(card.value(columns.0, columns.1), name))
 }
 
 /// Whether a card has a name.
@@ -97,7 +65,6 @@ pub fn is_name_used(view: &View, name: &[u8]) -> bool
     view.cards.iter().any(|seen| is_name_on(&seen.card, name))
 }
 
-/// Whether a text begins with another one.
 fn begins_with(text: &[u8], prefix: &[u8]) -> bool
     ensures { result ≡ starts_with nat_eq text.now prefix.now }
 {
@@ -116,7 +83,7 @@ fn is_prefix_in(operand: &[u8], prefix: &[u8]) -> bool
 fn has_prefix_in(card: &Card, places: &[Columns], prefix: &[u8]) -> bool
     ensures { result ≡ has_operand_in (is_prefix_in prefix.now) card.now places.now }
 {
-    places.iter().any(|columns| is_prefix_in(card.value(columns.first, columns.last), prefix))
+    places.iter().any(|columns| is_prefix_in(card.value(columns.0, columns.1), prefix))
 }
 
 /// Whether a card has a name that begins with a prefix.

@@ -37,12 +37,10 @@ impl<'a> Operand<'a> {
 
     /// Whether its index is a field's name.
     pub fn has_index_field(&self) -> bool {
-        for character in self.index {
-            if !character.is_ascii_digit() {
-                return true;
-            }
-        }
-        false
+        !self
+            .index
+            .iter()
+            .all(|character| character.is_ascii_digit())
     }
 }
 

@@ -4,35 +4,28 @@ use crate::cards::is_card;
 use crate::fresh::FreshNames;
 use crate::name::{Columns, name_columns};
 use crate::operand::Operand;
-use crate::stop::RuleStop;
+use crate::stop::{Outcome, RuleStop};
 use rpg_fit_deck::{Card, Editor, Sentence, View, Word};
+use std::alloc::Global;
 
 /// The most characters of a result.
 const RESULT: usize = 6;
 
-/// Operations that name labels or subroutines, which aren't fields.
-const LABELLED: [&[u8]; 5] = [b"GOTO", b"EXSR", b"TAG", b"BEGSR", b"ENDSR"];
-
 /// Whether a calculation names labels or subroutines, which aren't fields.
 fn names_labels(card: &Card) -> bool {
     let operation = card.value(28, 32);
-    for word in &LABELLED {
-        if *word == operation {
-            return true;
-        }
-    }
-    false
+    matches!(operation, b"GOTO" | b"EXSR") || matches!(operation, b"TAG" | b"BEGSR" | b"ENDSR")
 }
 
 /// Returns a card with the new name in columns that have the old one, or None if they don't.
 fn renamed_in(card: Card, columns: &Columns, old: &[u8], new: &[u8]) -> Option<Card> {
-    let text = card.value(columns.first, columns.last);
+    let text = card.value(columns.0, columns.1);
     if Operand::of(text).name != old {
         return None;
     }
     let index = text.get(old.len()..).unwrap_or(&[]);
     let renamed = Word::of(new).and(index);
-    Some(card.with(columns.first, columns.last, renamed.text()))
+    Some(card.with(columns.0, columns.1, renamed.text()))
 }
 
 /// Returns a card with the new name wherever it has the old one, or None if it doesn't have it.
@@ -72,34 +65,59 @@ fn card_of(view: &View, name: &[u8]) -> usize {
     0
 }
 
-/// Returns a name that no card has, of at most `room` characters, with the same beginning if possible.
-fn shorter_name(view: &View, name: &[u8], room: usize, card: usize) -> Result<Word, RuleStop> {
-    let stem = name.get(..room).unwrap_or(name);
-    match FreshNames::of(stem, room).find(view) {
-        Some(new) => Ok(new),
-        None => FreshNames::of(b"#", room).take(view, card),
-    }
+/// Hands out names for arrays whose own are too long. The names of a stem are tried once, not anew for each array.
+#[derive(Drop)]
+pub struct ShortNames {
+    stems: Vec<FreshNames>,
 }
 
-/// Returns an array's name with room for a comma and an index in a result. If its own is too long, it is renamed on all cards, and its
-/// card gets a sentence about that.
-///
-/// # Errors
-///
-/// No name is free, or memory runs out.
-pub fn with_room(editor: &mut Editor, name: &[u8], index: Word) -> Result<Word, RuleStop> {
-    let old = Word::of(name);
-    let room = RESULT.saturating_sub(index.len().saturating_add(1));
-    if old.len() <= room {
-        return Ok(old);
+impl ShortNames {
+    /// Starts with all that no card has.
+    pub fn new(alloc: Global) -> ShortNames {
+        ShortNames {
+            stems: Vec::new(alloc),
+        }
     }
-    let view = editor.view()?;
-    let card = card_of(&view, name);
-    let new = shorter_name(&view, name, room, card)?;
-    editor.report(
-        card,
-        Sentence::of_two("% is called %, so that an index has room", old, new),
-    );
-    rename(editor, &view, name, new.text(), card);
-    Ok(new)
+
+    /// Returns the next name of a stem that no card has, of at most `room` characters, or None if all are in use.
+    fn find(&mut self, view: &View, stem: &[u8], room: usize) -> Outcome<Option<Word>> {
+        for names in &mut self.stems {
+            if names.is_of(stem, room) {
+                return Ok(names.find(view));
+            }
+        }
+        let mut names = FreshNames::of(stem, room);
+        let found = names.find(view);
+        self.stems.push(names)?;
+        Ok(found)
+    }
+
+    /// Returns a name that no card has, of at most `room` characters, with the same beginning if possible.
+    fn shorter(&mut self, view: &View, name: &[u8], room: usize, card: usize) -> Outcome<Word> {
+        let stem = name.get(..room).unwrap_or(name);
+        if let Some(new) = self.find(view, stem, room)? {
+            return Ok(new);
+        }
+        match self.find(view, b"#", room)? {
+            Some(new) => Ok(new),
+            None => Err(RuleStop::because(card, "no name is free")),
+        }
+    }
+
+    /// Returns an array's name with room for a comma and an index in a result. If its own is too long, it is renamed on all cards, and its
+    /// card gets a sentence about that. Rejects the deck if no name is free.
+    pub fn with_room(&mut self, editor: &mut Editor, name: &[u8], index: Word) -> Outcome<Word> {
+        let old = Word::of(name);
+        let room = RESULT.saturating_sub(index.len().saturating_add(1));
+        if old.len() <= room {
+            return Ok(old);
+        }
+        let view = editor.view()?;
+        let card = card_of(&view, name);
+        let new = self.shorter(&view, name, room, card)?;
+        let remark = "% is called %, so that an index has room";
+        editor.report(card, Sentence::of_two(remark, old, new));
+        rename(editor, &view, name, new.text(), card);
+        Ok(new)
+    }
 }

@@ -22,8 +22,11 @@ pub enum RuleStop {
     Refused(Reason),
 }
 
+/// The outcome of a step of a rule.
+pub type Outcome<T> = Result<T, RuleStop>;
+
 /// The outcome of a rule, or of a step of it.
-pub type Done = Result<(), RuleStop>;
+pub type Done = Outcome<()>;
 
 impl RuleStop {
     /// Rejects the deck for a card.

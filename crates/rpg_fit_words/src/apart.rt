@@ -16,11 +16,7 @@ pub struct Apart {
 }
 
 impl Apart {
-    /// Appends conditions that hold if one of some does and another one doesn't.
-    ///
-    /// # Errors
-    ///
-    /// One would test overflow, or there are more than 2,000.
+    /// Appends conditions that hold if one of some does and another one doesn't. Rejects one that would test overflow, and more than 2,000.
     pub fn push_without(
         &self,
         left: &mut List<Conjunction>,

@@ -14,31 +14,24 @@ impl Columns {
     /// The columns of all three operands, in order.
     pub const ALL: [Columns; 3] = [Columns::Factor1, Columns::Factor2, Columns::Result];
 
-    /// Returns the first column.
-    fn first(self) -> usize {
+    /// Returns the first and the last column.
+    fn span(self) -> (usize, usize) {
         match self {
-            Columns::Factor1 => 18,
-            Columns::Factor2 => 33,
-            Columns::Result => 43,
-        }
-    }
-
-    /// Returns the last column.
-    fn last(self) -> usize {
-        match self {
-            Columns::Factor1 => 27,
-            Columns::Factor2 => 42,
-            Columns::Result => 48,
+            Columns::Factor1 => (18, 27),
+            Columns::Factor2 => (33, 42),
+            Columns::Result => (43, 48),
         }
     }
 
     /// Returns the text in them, trimmed of blanks.
     pub fn value(self, card: &Card) -> &[u8] {
-        card.value(self.first(), self.last())
+        let (first, last) = self.span();
+        card.value(first, last)
     }
 
     /// Returns a card with a text in them.
     pub fn put(self, card: Card, text: &[u8]) -> Card {
-        card.with(self.first(), self.last(), text)
+        let (first, last) = self.span();
+        card.with(first, last, text)
     }
 }

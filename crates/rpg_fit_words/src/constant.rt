@@ -42,6 +42,14 @@ impl Constant {
         }
     }
 
+    /// Returns this constant, followed by as much of a text as fits.
+    pub fn and(mut self, text: &[u8]) -> Constant {
+        for character in text {
+            self.push(*character);
+        }
+        self
+    }
+
     /// Returns its characters.
     pub fn text(&self) -> &[u8] {
         self.characters.get(..self.length).unwrap_or(&[])

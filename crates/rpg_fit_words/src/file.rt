@@ -4,7 +4,7 @@ use crate::indicator_use::{IndicatorUse, UseKind};
 use crate::list::List;
 use crate::record_type::{RecordType, record_types};
 use rpg_fit_deck::{Card, Seen, View, Word};
-use rpg_fit_terms::{Conjunction, Indicator, RuleStop, is_card};
+use rpg_fit_terms::{Conjunction, Indicator, Outcome, is_card};
 use std::alloc::Global;
 
 /// Returns the name of an F card's file.
@@ -26,6 +26,12 @@ pub fn files_read(view: &View) -> List<Seen> {
         }
     }
     found
+}
+
+/// Returns the card of the file with a name.
+pub fn file_card<'a>(view: &'a View, name: &[u8]) -> Option<&'a Seen> {
+    let mut cards = view.cards.iter();
+    cards.find(|seen| is_card(*seen, b'F') && file_name(*seen) == name)
 }
 
 /// Returns the length of a file's records.
@@ -56,11 +62,7 @@ pub struct FileTypes {
 
 impl FileTypes {
     /// Returns those of a deck, for a file.
-    ///
-    /// # Errors
-    ///
-    /// Memory runs out.
-    pub fn of(view: &View, file: Word) -> Result<FileTypes, RuleStop> {
+    pub fn of(view: &View, file: Word) -> Outcome<FileTypes> {
         let all = record_types(view)?;
         let indicators = indicators_of(view.alloc, all.as_slice(), file.text());
         indicators.check()?;
@@ -73,16 +75,13 @@ impl FileTypes {
 
     /// Returns how many types the file has.
     pub fn count(&self) -> usize {
-        let mut count: usize = 0;
-        for kind in self.all.iter() {
-            count = count.saturating_add(usize::from(kind.is_of(self.file.text())));
-        }
-        count
+        let all = self.all.iter();
+        all.filter(|kind| kind.is_of(self.file.text())).count()
     }
 
     /// Whether an indicator is one of its types'.
     pub fn has(&self, indicator: Indicator) -> bool {
-        is_among(self.indicators.as_slice(), indicator)
+        self.indicators.as_slice().contains(&indicator)
     }
 
     /// Whether a card turns an indicator on or off, other than as that of the file's types.
@@ -96,22 +95,14 @@ impl FileTypes {
 
     /// Whether an indicator stands on the card of one of the file's types.
     fn is_own(&self, one: &IndicatorUse) -> bool {
-        for kind in self.all.iter() {
-            if kind.is_of(self.file.text()) && kind.head.at == one.at {
-                return true;
-            }
-        }
-        false
+        self.all.iter().any(|kind| kind.is_of(self.file.text()) && kind.head.at == one.at)
     }
 
     /// Returns the first indicator of its types that a condition wants on.
     pub fn type_in(&self, condition: &Conjunction) -> Option<Indicator> {
-        for term in condition.terms() {
-            if !term.is_off && self.has(term.indicator) {
-                return Some(term.indicator);
-            }
-        }
-        None
+        let mut terms = condition.terms().iter();
+        let term = terms.find(|term| !term.is_off && self.has(term.indicator))?;
+        Some(term.indicator)
     }
 }
 
@@ -120,18 +111,9 @@ fn indicators_of(alloc: Global, types: &[RecordType], file: &[u8]) -> List<Indic
     let mut found = List::new(alloc);
     for kind in types {
         let indicator = Indicator::at(&kind.head.card, 19);
-        if kind.is_of(file) && !is_among(found.as_slice(), indicator) {
+        if kind.is_of(file) && !found.as_slice().contains(&indicator) {
             found.push(indicator);
         }
     }
     found
-}
-
-fn is_among(indicators: &[Indicator], one: Indicator) -> bool {
-    for indicator in indicators {
-        if *indicator == one {
-            return true;
-        }
-    }
-    false
 }

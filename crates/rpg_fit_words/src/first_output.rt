@@ -6,9 +6,6 @@ use crate::record_type::{RecordType, record_types};
 use rpg_fit_deck::{Card, Seen, View};
 use rpg_fit_terms::{Conjunction, RuleStop};
 
-/// The first line of a page that counts as overflow.
-const OVERFLOW_LINE: usize = 60;
-
 /// Whether a line is printed at overflow under a condition.
 pub fn is_overflow(printer: Option<Printer>, line: &Line, condition: &Conjunction) -> bool {
     match printer {
@@ -52,28 +49,40 @@ fn spaces(card: &Card) -> usize {
         .saturating_add(card.number(18, 18).unwrap_or(0))
 }
 
+/// Returns the line that two columns skip to: A0 to A9 are 100 to 109, and B0 to B2 are 110 to 112.
+fn skip(card: &Card, column: usize) -> usize {
+    let last = column.saturating_add(1);
+    let (hundred, first) = match card.column(column) {
+        b'A' => (100, last),
+        b'B' => (110, last),
+        _ => (0, column),
+    };
+    card.number(first, last)
+        .unwrap_or(0)
+        .saturating_add(hundred)
+}
+
 /// Returns the last line of the page that printing a line's card may reach, from line `at`.
 fn line_following(at: usize, card: &Card) -> usize {
     let spaces = spaces(card);
     let moved = if card.is_blank(17, 22) { 1 } else { spaces };
-    let before = card.number(19, 20).unwrap_or(0).saturating_add(spaces);
-    let after = card.number(21, 22).unwrap_or(0).saturating_add(spaces);
+    let before = skip(card, 19).saturating_add(spaces);
+    let after = skip(card, 21).saturating_add(spaces);
     at.saturating_add(moved).max(before).max(after)
 }
 
 /// Whether the first output may reach the overflow line.
 pub fn reaches_overflow(printer: Option<Printer>, lines: &[Line]) -> bool {
+    let Some(there) = printer else {
+        return false;
+    };
     let mut at = 1;
     for line in lines {
-        let is_printed = match printer {
-            Some(printer) => printer.has(line),
-            None => false,
-        };
-        if is_printed && is_put_first(printer, line) {
+        if there.has(line) && is_put_first(printer, line) {
             at = line_following(at, &line.head.card);
         }
     }
-    at >= OVERFLOW_LINE
+    at >= there.overflow_line
 }
 
 /// Whether a type has control fields.

@@ -5,7 +5,7 @@ use crate::line::push_copies;
 use crate::list::List;
 use crate::template::calculation;
 use rpg_fit_deck::{View, Word};
-use rpg_fit_terms::{Conjunction, Done, FreeIndicators, Indicator, NewCard, RuleStop};
+use rpg_fit_terms::{Conjunction, Done, FreeIndicators, Indicator, NewCard, Outcome};
 
 /// The conditions of calculations that replace another one.
 #[derive(Drop)]
@@ -34,16 +34,12 @@ fn flag_cards(view: &View, group: &Group, level: Indicator, flag: Indicator) -> 
 
 /// Returns the conditions of calculations that replace a calculation: its own if one card has them, otherwise, or if `always`, a
 /// free indicator.
-///
-/// # Errors
-///
-/// No indicator is free.
 pub fn under_flag(
     view: &View,
     group: &Group,
     free: &mut FreeIndicators,
     always: bool,
-) -> Result<Flagged, RuleStop> {
+) -> Outcome<Flagged> {
     if group.leading.is_empty() && !always {
         return Ok(Flagged {
             before: List::new(view.alloc),
@@ -77,25 +73,16 @@ fn push_alternative(
     let last = condition.cards().saturating_sub(1);
     for part in 0..condition.cards() {
         let level = if part == 0 { lead } else { Word::of(b"AN") };
-        let card = if part == last { end } else { blank(end.number) };
-        cards.push(
-            card.with(7, 8, level.text())
-                .with(9, 17, condition.columns(part).text()),
-        );
+        let blank = NewCard::of_form(b'C', end.number);
+        let card = if part == last { end } else { blank };
+        let leveled = card.with(7, 8, level.text());
+        cards.push(leveled.with(9, 17, condition.columns(part).text()));
     }
     Ok(())
 }
 
-/// Returns a calculation's card with nothing on it.
-fn blank(number: usize) -> NewCard {
-    calculation(b"", &[], number)
-}
-
-/// Appends the cards of a calculation that is done if one of the alternatives holds. Columns 7 to 17 of `last` are blank.
-///
-/// # Errors
-///
-/// An alternative has more than 60 conditions.
+/// Appends the cards of a calculation that is done if one of the alternatives, of at most 60 conditions, holds. Columns 7 to 17 of `last` are
+/// blank.
 pub fn push_conditioned(
     cards: &mut List<NewCard>,
     level: Indicator,
@@ -104,11 +91,9 @@ pub fn push_conditioned(
 ) -> Done {
     let mut lead = level.word();
     for (place, condition) in alternatives.iter().enumerate() {
-        let end = if place.saturating_add(1) == alternatives.len() {
-            last
-        } else {
-            blank(last.number)
-        };
+        let is_last = place.saturating_add(1) == alternatives.len();
+        let blank = NewCard::of_form(b'C', last.number);
+        let end = if is_last { last } else { blank };
         push_alternative(cards, lead, condition, end)?;
         lead = Word::of(b"OR");
     }

@@ -1,7 +1,7 @@
 //! Calculations with their AN and OR cards.
 
 use rpg_fit_deck::{Address, Card, Editor, Seen, View};
-use rpg_fit_terms::{Done, Indicator, RuleStop, is_card};
+use rpg_fit_terms::{Done, Indicator, Outcome, is_card};
 use std::alloc::Global;
 
 /// The part of the cycle that a calculation belongs to.
@@ -45,10 +45,7 @@ pub struct Group {
 impl Group {
     /// Returns its first card.
     pub fn first(&self) -> &Seen {
-        match self.leading.first() {
-            Some(first) => first,
-            None => &self.last,
-        }
+        self.leading.first().unwrap_or(&self.last)
     }
 
     /// Returns the section of its first card.
@@ -104,20 +101,12 @@ pub(crate) fn is_in_detail(view: &View, at: Address) -> bool {
 }
 
 /// Returns the calculations of a deck in its present form, in order.
-///
-/// # Errors
-///
-/// Memory runs out.
-pub fn groups_now(editor: &Editor) -> Result<Vec<Group>, RuleStop> {
+pub fn groups_now(editor: &Editor) -> Outcome<Vec<Group>> {
     groups(&editor.view()?)
 }
 
 /// Returns the calculations of a deck, in order.
-///
-/// # Errors
-///
-/// Memory runs out.
-pub fn groups(view: &View) -> Result<Vec<Group>, RuleStop> {
+pub fn groups(view: &View) -> Outcome<Vec<Group>> {
     let mut found = Vec::new(view.alloc);
     for seen in view.cards.iter() {
         if is_card(seen, b'C') {

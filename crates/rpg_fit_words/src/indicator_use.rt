@@ -66,7 +66,6 @@ fn push_input(found: &mut List<IndicatorUse>, seen: &Seen) {
     }
 }
 
-/// Appends the indicators of a card.
 fn push_card(found: &mut List<IndicatorUse>, seen: &Seen) {
     match seen.card.form() {
         b'I' => push_input(found, seen),
@@ -103,10 +102,6 @@ fn is_set_elsewhere(view: &View, one: &IndicatorUse) -> bool {
 /// Rejects the deck, for a card, if an indicator that a rule tests at the start of detail may have been turned on or off by anything
 /// but its record types: by an input field, or outside detail calculations. Detail calculations change it only for the next record,
 /// which turns it off.
-///
-/// # Errors
-///
-/// It may have been, or memory runs out.
 pub fn check_only_type(view: &View, indicator: Indicator, card: usize) -> Done {
     let uses = indicator_uses(view);
     for one in uses.checked()? {

@@ -20,7 +20,7 @@ mod template;
 pub use apart::Apart;
 pub use columns::Columns;
 pub use constant::Constant;
-pub use file::{FileTypes, file_name, files_read, record_length, with_record_length};
+pub use file::{FileTypes, file_card, file_name, files_read, record_length, with_record_length};
 pub use first_output::{
     has_overflow, is_field_put_first, is_overflow, is_put_first, is_total_skipped_late,
     reaches_overflow,
@@ -32,12 +32,12 @@ pub use line::{
     Alternative, DeckLines, Line, Time, lines, name_files, push_conditions, remove_cards,
 };
 pub use list::List;
-pub use place::{Place, insert_at};
-pub use printer::{Printer, printer_of};
+pub use place::{Place, before_output, insert_at};
+pub use printer::{Printer, overflow_of, printer_of};
 pub use record_type::{RecordType, is_or, is_structure, name_types, record_types};
 pub use rpg_fit_terms::{
     Array, Conjunction, Done, Form, FreeIndicators, FreshNames, Indicator, NewCard, Operand,
-    RuleStop, Term, array_of, entry, form_of, fresh_name, is_card, is_date_part, is_name_used,
-    put_cards, unused_prefix, with_room,
+    Outcome, RuleStop, ShortNames, Term, array_of, entry, form_of, fresh_name, is_card,
+    is_date_part, is_name_used, put_cards, unused_prefix,
 };
 pub use template::calculation;

@@ -1,8 +1,9 @@
 //! Output lines.
 
 use crate::list::List;
-use rpg_fit_deck::{Card, Editor, Seen, View, Word};
-use rpg_fit_terms::{Conjunction, Done, NewCard, RuleStop, is_card};
+use crate::record_type::is_or;
+use rpg_fit_deck::{Editor, Seen, View, Word};
+use rpg_fit_terms::{Conjunction, Done, NewCard, Operand, Outcome, is_card};
 use std::alloc::Global;
 
 /// When a line is printed.
@@ -18,7 +19,6 @@ pub enum Time {
 }
 
 impl Time {
-    /// Returns the time of a letter.
     fn of(letter: u8) -> Time {
         match letter {
             b'H' => Time::Heading,
@@ -63,13 +63,8 @@ pub struct Line {
 }
 
 /// Whether a card continues the conditions of a line: AND or OR in 14 to 16.
-fn continues(card: &Card) -> bool {
-    card.is_blank(7, 13) && (matches!(card.columns(14, 16), b"AND") || is_or(card))
-}
-
-/// Whether a card of a line begins another alternative.
-fn is_or(card: &Card) -> bool {
-    matches!(card.columns(14, 15), b"OR")
+fn continues(seen: &Seen) -> bool {
+    seen.card.is_blank(7, 13) && (matches!(seen.card.columns(14, 16), b"AND") || is_or(seen))
 }
 
 fn alternative_at(seen: &Seen) -> Alternative {
@@ -81,7 +76,7 @@ fn alternative_at(seen: &Seen) -> Alternative {
 
 impl Line {
     /// Begins a line with only its record card.
-    fn begin(alloc: Global, head: &Seen, file: Word) -> Result<Line, RuleStop> {
+    fn begin(alloc: Global, head: &Seen, file: Word) -> Outcome<Line> {
         let mut alternatives = Vec::new(alloc);
         alternatives.push(alternative_at(head))?;
         Ok(Line {
@@ -97,9 +92,8 @@ impl Line {
     /// Appends an AND or OR card.
     fn push_more(&mut self, seen: &Seen) -> Done {
         self.more.push(*seen)?;
-        if is_or(&seen.card) {
-            self.alternatives.push(alternative_at(seen))?;
-            return Ok(());
+        if is_or(seen) {
+            return Ok(self.alternatives.push(alternative_at(seen))?);
         }
         match self.alternatives.last_mut() {
             Some(last) => last.push_card(seen),
@@ -114,16 +108,19 @@ impl Line {
         remove_cards(editor, self.fields.as_slice(), with);
     }
 
+    /// Whether it blanks a field, or an entry of an array, after printing it.
+    pub fn blanks(&self, name: &[u8]) -> bool {
+        self.fields.iter().any(|field| {
+            field.card.column(39) == b'B' && Operand::of(field.card.value(32, 37)).name == name
+        })
+    }
+
     /// Returns a copy of its record card, with its file's name on it.
     pub fn new_head(&self) -> NewCard {
         NewCard::copy(&self.head).with(7, 14, self.file.text())
     }
 
-    /// Appends a copy of this line with another record card and other alternatives, at least one.
-    ///
-    /// # Errors
-    ///
-    /// An alternative has more than 60 conditions.
+    /// Appends a copy of this line with another record card and other alternatives, at least one, of at most 60 conditions.
     pub fn push_copy(
         &self,
         cards: &mut List<NewCard>,
@@ -136,11 +133,7 @@ impl Line {
     }
 }
 
-/// Appends a record card with alternatives, at least one.
-///
-/// # Errors
-///
-/// An alternative has more than 60 conditions.
+/// Appends a record card with alternatives, at least one, of at most 60 conditions.
 pub fn push_conditions(
     cards: &mut List<NewCard>,
     head: NewCard,
@@ -158,10 +151,7 @@ pub fn push_conditions(
 
 /// Returns an AND or OR card without conditions.
 fn condition_card(word: &[u8], number: usize) -> NewCard {
-    NewCard {
-        card: Card::of_form(b'O').with(14, 16, word),
-        number,
-    }
+    NewCard::of_form(b'O', number).with(14, 16, word)
 }
 
 /// Appends the AND cards that an alternative needs after its first card.
@@ -188,34 +178,26 @@ pub fn remove_cards(editor: &mut Editor, cards: &[Seen], with: usize) {
 /// Appends a card to the line that it belongs to.
 fn push_to_last(found: &mut Vec<Line>, seen: &Seen) -> Done {
     match found.last_mut() {
-        Some(line) if continues(&seen.card) => line.push_more(seen),
-        Some(line) => {
-            line.fields.push(*seen)?;
-            Ok(())
-        }
+        Some(line) if continues(seen) => line.push_more(seen),
+        Some(line) => Ok(line.fields.push(*seen)?),
         None => Ok(()),
     }
 }
 
 /// Appends a card to the line that it belongs to, or the line that it begins. `file`: that of the previous line.
 fn push_card(alloc: Global, found: &mut Vec<Line>, file: &mut Word, seen: &Seen) -> Done {
-    if continues(&seen.card) || seen.card.is_blank(7, 16) {
+    if continues(seen) || seen.card.is_blank(7, 16) {
         return push_to_last(found, seen);
     }
     if !seen.card.is_blank(7, 14) {
         *file = Word::of(seen.card.value(7, 14));
     }
-    let line = Line::begin(alloc, seen, *file)?;
-    found.push(line)?;
+    found.push(Line::begin(alloc, seen, *file)?)?;
     Ok(())
 }
 
-/// Returns the lines of a deck, in order, each with the name of its file.
-///
-/// # Errors
-///
-/// An alternative has more than 60 conditions, or memory runs out.
-pub fn lines(view: &View) -> Result<Vec<Line>, RuleStop> {
+/// Returns the lines of a deck, in order, each with the name of its file. No alternative may have more than 60 conditions.
+pub fn lines(view: &View) -> Outcome<Vec<Line>> {
     let mut found = Vec::new(view.alloc);
     let mut file = Word::empty();
     for seen in view.cards.iter() {
@@ -235,11 +217,7 @@ pub struct DeckLines {
 
 impl DeckLines {
     /// Returns those of a deck in its present form.
-    ///
-    /// # Errors
-    ///
-    /// An alternative has more than 60 conditions, or memory runs out.
-    pub fn of(editor: &Editor) -> Result<DeckLines, RuleStop> {
+    pub fn of(editor: &Editor) -> Outcome<DeckLines> {
         let view = editor.view()?;
         let lines = lines(&view)?;
         Ok(DeckLines { view, lines })

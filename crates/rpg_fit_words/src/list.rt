@@ -1,6 +1,6 @@
 //! Lists that rules fill.
 
-use rpg_fit_terms::{Done, RuleStop};
+use rpg_fit_terms::{Done, Outcome, RuleStop};
 use std::alloc::Global;
 
 /// A list of values. If memory runs out for one, it remembers that, so that only `check` and `checked` return an error.
@@ -49,25 +49,14 @@ impl<T: Copy> List<T> {
         self.values.is_empty()
     }
 
-    /// Checks that all values are there.
-    ///
-    /// # Errors
-    ///
-    /// Memory ran out for one of them.
+    /// Checks that memory ran out for none of the values.
     pub fn check(&self) -> Done {
-        if self.ran_out {
-            Err(RuleStop::NoMemory)
-        } else {
-            Ok(())
-        }
+        self.checked()?;
+        Ok(())
     }
 
-    /// Returns all values, in place.
-    ///
-    /// # Errors
-    ///
-    /// Memory ran out for one of them.
-    pub fn checked(&self) -> Result<&[T], RuleStop> {
+    /// Returns all values, in place, unless memory ran out for one of them.
+    pub fn checked(&self) -> Outcome<&[T]> {
         if self.ran_out {
             Err(RuleStop::NoMemory)
         } else {

@@ -17,8 +17,8 @@ pub enum Place {
     TotalEnd,
 }
 
-/// Returns where calculations go in a deck that has none: before its output cards.
-fn before_output(view: &View) -> Address {
+/// Returns the address of the first output card, or that after all cards.
+pub fn before_output(view: &View) -> Address {
     for seen in view.cards.iter() {
         if is_card(seen, b'O') {
             return seen.at;
@@ -53,10 +53,6 @@ fn address_of(view: &View, groups: &[Group], place: Place) -> Address {
 
 /// Inserts calculations at a place of the deck in its present form, as part of the change of the
 /// card `with`.
-///
-/// # Errors
-///
-/// The deck has too many cards, or memory runs out.
 pub fn insert_at(editor: &mut Editor, place: Place, cards: &[NewCard], with: usize) -> Done {
     let view = editor.view()?;
     let groups = groups(&view)?;

@@ -12,6 +12,21 @@ pub struct Printer {
     pub file: Word,
     /// Its overflow indicator, which may be blank.
     pub overflow: Indicator,
+    /// The first line of a page that counts as overflow.
+    pub overflow_line: usize,
+}
+
+/// The overflow line of a form without an L card.
+const OVERFLOW_LINE: usize = 60;
+
+/// Returns the overflow line of a printer: that of the first L card with its name.
+fn overflow_line_of(view: &View, file: &[u8]) -> usize {
+    for seen in view.cards.iter() {
+        if is_card(seen, b'L') && seen.card.value(7, 14) == file {
+            return seen.card.number(20, 22).unwrap_or(OVERFLOW_LINE);
+        }
+    }
+    OVERFLOW_LINE
 }
 
 /// Returns the first printer of a deck.
@@ -22,10 +37,19 @@ pub fn printer_of(view: &View) -> Option<Printer> {
                 number: seen.number,
                 file: Word::of(seen.card.value(7, 14)),
                 overflow: Indicator::at(&seen.card, 33),
+                overflow_line: overflow_line_of(view, seen.card.value(7, 14)),
             });
         }
     }
     None
+}
+
+/// Returns the overflow indicator of a deck, which may be blank.
+pub fn overflow_of(view: &View) -> Indicator {
+    match printer_of(view) {
+        Some(printer) => printer.overflow,
+        None => Indicator::BLANK,
+    }
 }
 
 impl Printer {

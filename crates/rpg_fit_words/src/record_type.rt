@@ -2,7 +2,7 @@
 
 use crate::list::List;
 use rpg_fit_deck::{Card, Editor, Seen, View, Word};
-use rpg_fit_terms::{Done, RuleStop, is_card};
+use rpg_fit_terms::{Done, Outcome, is_card};
 use std::alloc::Global;
 
 /// A record type, or a data structure, whose file is empty.
@@ -43,7 +43,7 @@ impl RecordType {
     }
 }
 
-/// Whether a card of a type begins another alternative.
+/// Whether a card of a type or a line begins another alternative.
 pub fn is_or(seen: &Seen) -> bool {
     matches!(seen.card.columns(14, 15), b"OR")
 }
@@ -90,11 +90,7 @@ fn push_card(alloc: Global, found: &mut Vec<RecordType>, file: &mut Word, seen: 
 }
 
 /// Returns the record types of a deck, in order, each with the name of its file.
-///
-/// # Errors
-///
-/// Memory runs out.
-pub fn record_types(view: &View) -> Result<Vec<RecordType>, RuleStop> {
+pub fn record_types(view: &View) -> Outcome<Vec<RecordType>> {
     let mut found = Vec::new(view.alloc);
     let mut file = Word::empty();
     for seen in view.cards.iter() {

@@ -1,6 +1,6 @@
 use Rattle.std.proofs.Common.{ℕ, ◌≤◌, below_more}
 use Rattle.rpg_fit_terms.specs.Fresh.{IsTaken}
-use Rattle.rpg_fit_terms.proofs.fresh.FreshNames.next_free.Goals as goal
+use Rattle.rpg_fit_terms.proofs.fresh.FreshNames.find.Goals as goal
 
 pub loop-number-preserved : goal.loop-number-preserved
 loop-number-preserved c =
