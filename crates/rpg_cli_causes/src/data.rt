@@ -60,7 +60,7 @@ pub(crate) fn write_data(out: &mut TextWriter, spot: Spot<'_>, cause: &DataCause
         }
         DataCause::OtherCards { need, there } => {
             write_need(out, *need);
-            out.fill_two("{} {} there", *there, noun(*there, "stands", "stand"));
+            out.fill_two("{} {} there", *there, noun(*there, "is", "are"));
         }
         DataCause::Entry(entry) => write_entry(out, spot, entry),
         DataCause::Spare { deck, wanted } => {

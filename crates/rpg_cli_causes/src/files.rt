@@ -25,8 +25,9 @@ const MORE_PRINTERS: &str =
 const MORE_DISKS: &str =
     "; more than one disk file isn't supported (rpg2 fit makes one of several: A21)";
 
-const ENDS_APART: &str =
-    "one of the two input files has E in 17: the old job ends with that file, and rpg2 reads both to their end (rpg2 fit rewrites E on the last file alone: A24)";
+const SECOND_FORM: &str = "card {} is an L card already: only the printer has one";
+
+const OVERFLOW_PAST: &str = "overflow line {}, and a page has {} lines";
 
 /// Writes which rule rewrites the device of a file, if it is another name for a printer.
 fn write_printer_rule(out: &mut TextWriter, device: &[u8]) {
@@ -65,6 +66,7 @@ const fn user_names(user: FileUser) -> (&'static str, &'static str) {
     match user {
         FileUser::RecordType => ("record type", "output"),
         FileUser::Line => ("line", "input"),
+        FileUser::Form => ("L card", "input or disk"),
     }
 }
 
@@ -76,7 +78,6 @@ pub(crate) fn write_file(out: &mut TextWriter, spot: Spot<'_>, cause: &FileCause
             file.card,
         ),
         FileCause::Second { name, first } => write_second(out, spot, name.as_slice(), first),
-        FileCause::EndsApart => out.write_str(ENDS_APART),
         FileCause::Length { serves_as, length } => {
             let sentence = match serves_as {
                 FileUse::Printer => LINE_LENGTH,
@@ -97,6 +98,8 @@ pub(crate) fn write_file(out: &mut TextWriter, spot: Spot<'_>, cause: &FileCause
             out.fill_two("{} (card {}) ", file.name.as_slice(), file.card);
             out.fill_two("is an {} file, and has no {}", other_use, of_whom);
         }
+        FileCause::SecondForm { card } => out.fill_one(SECOND_FORM, *card),
+        FileCause::OverflowPast { line, lines } => out.fill_two(OVERFLOW_PAST, *line, *lines),
     }
 }
 

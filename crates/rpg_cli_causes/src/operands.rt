@@ -168,9 +168,7 @@ pub(crate) fn write_editing(out: &mut TextWriter, cause: &EditingCause) {
             write_digits(out, name, length, decimals);
         }
         Mismatch::Word { places: None, .. } => {
-            out.write_str(
-                ": the word's $ stands right before its stop (rpg2 fit rewrites it: A18)",
-            );
+            out.write_str(": the word's $ is right before its stop (rpg2 fit rewrites it: A18)");
         }
         Mismatch::Word {
             places: Some(places),

@@ -44,7 +44,7 @@ pub(crate) fn write_order(out: &mut TextWriter, spot: Spot<'_>, cause: &OrderCau
             *card,
         ),
         OrderCause::OutsideSection { .. } => out.fill_one(
-            "{} stands on a card without SR in 7-8",
+            "{} is on a card without SR in 7-8",
             spot.operation(),
         ),
         OrderCause::NoBegsr(None) => out.write_str("this ENDSR has no BEGSR"),

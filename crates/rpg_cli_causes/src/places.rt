@@ -1,6 +1,5 @@
 //! F16: columns of records and of lines, control fields and match fields.
 
-use crate::forms::noun;
 use crate::spot::{Spot, text_at};
 use rpg_cli_text::{Piece, TextWriter};
 use rpg_faults::{FileOnCard, JoinCause, PlaceCause};
@@ -20,7 +19,9 @@ const NO_POSITION: &str = "position {}: columns of a record are counted from 1";
 
 const TURNED_ROUND: &str = "the last column, {}, comes before the first, {}";
 
-/// F16 of a card's own columns: what is outside the record or the line.
+const SKIP_PAST: &str = "a skip to line {}, and a page has {} lines";
+
+/// F16 of a card's own columns: what is outside the record, the line or the page.
 pub(crate) fn write_outside(out: &mut TextWriter, spot: Spot<'_>, cause: &PlaceCause) {
     match cause {
         PlaceCause::NoPosition(at) => out.fill_one(NO_POSITION, position(spot, *at)),
@@ -40,16 +41,19 @@ pub(crate) fn write_outside(out: &mut TextWriter, spot: Spot<'_>, cause: &PlaceC
             write_length(out, "lines", file);
         }
         PlaceCause::Wider { places, end } => write_width(out, spot, *places, *end),
+        PlaceCause::SkipPast { line, lines, .. } => out.fill_two(SKIP_PAST, *line, *lines),
     }
 }
+
+const WIDER: &str =
+    " has {} characters and ends at position {}, so it would begin before position 1";
 
 fn write_width(out: &mut TextWriter, spot: Spot<'_>, width: usize, end: u16) {
     match spot.card.output_field() {
         Some(field) if field.operand.is_some() => out.write_shown(text_at(spot.line, 32, 37)),
         _ => out.write_str("the constant"),
     }
-    let of_places = noun(width, "place", "places");
-    out.fill_three(" takes {} {}, and ends in place {}", width, of_places, end);
+    out.fill_two(WIDER, width, end);
 }
 
 const LONG_LEVEL: &str =
@@ -98,7 +102,7 @@ pub(crate) fn write_join(out: &mut TextWriter, cause: JoinCause) {
         }
         JoinCause::LongMatches { columns } => out.fill_one(LONG_MATCHES, u64::from(columns)),
         JoinCause::MatchedTwice { level, card } => out.fill_two(
-            "M{} stands on card {} of this type already",
+            "M{} is on card {} of this type already",
             level,
             card,
         ),

@@ -10,6 +10,7 @@ pub(crate) enum CardKind {
     Extension,
     /// An E card without an alternating table.
     ExtensionAlone,
+    Form,
     RecordType,
     RecordCodes,
     InputField,
@@ -58,6 +59,7 @@ impl CardKind {
             Some(b'F') => CardKind::File,
             Some(b'E') if is_blank(columns(line, 46, 51)) => CardKind::ExtensionAlone,
             Some(b'E') => CardKind::Extension,
+            Some(b'L') => CardKind::Form,
             Some(b'I') => input_kind(line),
             Some(b'C') => CardKind::Calculation,
             Some(b'O') => output_kind(line),

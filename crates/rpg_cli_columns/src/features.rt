@@ -16,8 +16,6 @@ pub(crate) const FEATURES: &str =
  / 07-07 /SPACE
 /COPY isn't read|put the cards that it names in its place
  / 07-07 /COPY
-line counter cards (L) aren't read|a page has 66 lines; take the card out if each form begins with a skip (rpg2 fit rewrites it: A4)
- ? 06-06 L&
 telecommunications cards (T) aren't read
  ? 06-06 T&
 !06-06 a D card is RPG IV, which rpg2 doesn't read: it reads RPG II
@@ -70,9 +68,7 @@ the number of areas isn't read|blank column 32, nothing depends on it (rpg2 fit 
 keys and record addresses aren't supported|sort the records beforehand (docs/OLD_PROGRAMS.md)
  F 28-32
  F 35-38
-line counter cards (L) aren't read|blank column 39 if each form begins with a skip; a page has 66 lines (rpg2 fit rewrites it: A4)
- F 39-39 L
-the extension code isn't read|blank column 39, a deck with tables needs none
+E isn't read|blank column 39, a deck with tables needs none
  F 39-39 E
 symbolic devices and labels aren't read|blank 47-53, nothing depends on them (rpg2 fit rewrites it: A2)
  F 47-53
@@ -144,7 +140,7 @@ command keys (KA to KZ) aren't supported|put parameters in a first record of its
  O 23-31 .K&
  A 23-31 .K&
  D 23-31 .K&
-!26-35 {} in columns 26-35 is RPG IV, which rpg2 doesn't read: an operation stands in 28-32
+!26-35 {} in columns 26-35 is RPG IV, which rpg2 doesn't read: an operation belongs in 28-32
  C 18-27 ________EVAL_ ________MONITOR_ ________CALLP_ ________DOW_ ________IF_ ________ELSE_ ________ENDIF_
  C 18-27 ________ENDDO_ ________SELECT_ ________WHEN_
 figurative constants aren't supported|MOVE a text of blanks as long as the result, as '   ' (rpg2 fit rewrites it: A10)

@@ -40,7 +40,7 @@ pub fn write_form_type(draft: &mut Draft<'_>, line: &[u8]) {
         return;
     }
     let out = &mut draft.message;
-    out.write_str("a form type is H, F, E, I, C or O");
+    out.write_str("a form type is H, F, E, L, I, C or O");
     if form.is_ascii_lowercase() {
         out.write_str(CAPITALS);
     }

@@ -12,7 +12,8 @@ const FILE: &str = "07-14 N the file name
 18-18 : the sequence: A or blank
 19-19 : the file format: F, records of one length
 24-27 # the record length
-33-34 : the overflow indicator: OA to OG or OV with O in column 15, or blank";
+33-34 : the overflow indicator: OA to OG or OV with O in column 15, or blank
+39-39 : the extension code: L on the printer's card, or blank";
 
 const EXTENSION: &str = "27-32 N the table's name
 33-35 B the entries a card
@@ -26,6 +27,12 @@ const ALTERNATING: &str = "46-51 N the second table's name
 52-54 # the length of its entries
 56-56 D the decimals of its entries
 57-57 : the sequence of its entries: A or blank";
+
+const FORM: &str = "07-14 N the file name
+15-17 : the page length: 3 to 112 lines, right-aligned
+18-19 : the form length code: FL
+20-22 : the overflow line: 1 to 112, right-aligned
+23-24 : the overflow line code: OL";
 
 const RECORD_TYPE: &str = "07-14 N the file name
 15-16 : the sequence: two letters
@@ -66,8 +73,8 @@ const LINE: &str = "07-14 N the file name
 15-15 : the type of the line: H, D, T or E
 17-17 : the space before: 0 to 3, or blank
 18-18 : the space after: 0 to 3, or blank
-19-20 : the skip before: two digits from 01 to 66, or blank
-21-22 : the skip after: two digits from 01 to 66, or blank";
+19-20 : the skip before: 01 to 99, A0 to A9 for 100 to 109, B0 to B2 for 110 to 112, or blank
+21-22 : the skip after: 01 to 99, A0 to A9 for 100 to 109, B0 to B2 for 110 to 112, or blank";
 
 /// The ranges that output cards of all kinds have.
 const CONDITIONS: &str = "23-25 C the first condition
@@ -87,6 +94,7 @@ pub(crate) fn sheet_of(kind: CardKind) -> (u8, [&'static str; 2]) {
         CardKind::File => (b'F', [FILE, ""]),
         CardKind::Extension => (b'E', [EXTENSION, ALTERNATING]),
         CardKind::ExtensionAlone => (b'E', [EXTENSION, ""]),
+        CardKind::Form => (b'L', [FORM, ""]),
         CardKind::RecordType => (b'T', [RECORD_TYPE, RECORD_CODES]),
         CardKind::RecordCodes => (b'T', [AND_CARD, RECORD_CODES]),
         CardKind::InputField => (b'I', [INPUT_FIELD, ""]),

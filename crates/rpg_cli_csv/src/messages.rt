@@ -19,7 +19,7 @@ pub(crate) fn card_diagnostic(
     let out = &mut draft.message;
     match fault {
         Fault::Twice { name, card } => out.fill_two(
-            "{} stands twice in the type of card {}: a row has one value for it",
+            "{} occurs twice in the type of card {}: a row has one value for it",
             name.as_slice(),
             card,
         ),
@@ -83,7 +83,7 @@ fn write_raw_fault(out: &mut TextWriter, fault: RowFault) {
         RawFault::StrayMark => "cell {} has a quotation mark and doesn't begin with one",
         RawFault::AfterMark => "cell {} goes on after its closing quotation mark",
         RawFault::OpenMark => "a quotation mark isn't closed",
-        RawFault::LoneReturn => "a carriage return stands alone",
+        RawFault::LoneReturn => "a carriage return has no line feed after it",
     };
     out.fill_one(sentence, fault.cell);
 }

@@ -14,7 +14,7 @@ fn cause_of(text: &[u8]) -> Option<&'static str> {
         [b'\t', ..] => Some("a tab: `expand` turns tabs into blanks"),
         [0x1a, ..] => Some("the end-of-file mark of DOS (1a): `tr -d '\\032'` takes it away"),
         [b'\r', ..] => Some(
-            "a carriage return that no line feed follows: `tr '\\r' '\\n'` where lines end with it, `tr -d '\\r'` where it stands alone",
+            "a carriage return that no line feed follows: `tr '\\r' '\\n'` where lines end with it, `tr -d '\\r'` where it is alone",
         ),
         [0xef, 0xbb, 0xbf, ..] => {
             Some("a byte order mark (ef bb bf): `tail -c +4` takes it away")

@@ -41,7 +41,7 @@ pub(crate) fn write_order(out: &mut TextWriter, later: Option<LaterCard>) {
         Some(LaterCard { card, form }) => {
             out.fill_two("card {} is of a later sheet, {}", card, [form].as_slice());
         }
-        None => out.write_str("a card of a later sheet stands before this one"),
+        None => out.write_str("a card of a later sheet comes before this one"),
     }
-    out.write_str(": the sheets come in the order H, F, E, I, C, O");
+    out.write_str(": the sheets come in the order H, F, E, L, I, C, O");
 }

@@ -13,14 +13,14 @@ use rpg_sheet::MOST_CARDS;
 use std::alloc::{AllocError, Global};
 
 /// The form types of sheets.
-const SHEETS: &[u8; 6] = b"HFEICO";
+const SHEETS: &[u8; 7] = b"HFELICO";
 
 /// What the cards that can't be read may be, if there are any.
 #[derive(Clone, Copy)]
 pub struct Unread {
     is_any: bool,
     /// For each sheet whether one of them may be of it.
-    sheets: [bool; 6],
+    sheets: [bool; 7],
     /// Whether one of them begins data.
     begins_data: bool,
     /// Whether one of them is data.
@@ -30,7 +30,7 @@ pub struct Unread {
 impl Unread {
     const NONE: Unread = Unread {
         is_any: false,
-        sheets: [false; 6],
+        sheets: [false; 7],
         begins_data: false,
         is_data: false,
     };
@@ -77,14 +77,14 @@ impl Unread {
 
     /// Whether most faults of the others are known.
     pub fn leaves_all(self) -> bool {
-        !self.begins_data && !self.is_data && !self.has_any("FEIC")
+        !self.begins_data && !self.is_data && !self.has_any("FELIC")
     }
 
     /// Writes which faults aren't known yet, if there may be some.
     pub(crate) fn write_left_out(self, out: &mut TextWriter, is_one: bool) {
         let mut count = 0usize;
         let mut last = "";
-        for sheet in ["F", "E", "I", "C"] {
+        for sheet in ["F", "E", "L", "I", "C"] {
             if self.has_any(sheet) {
                 count = count.saturating_add(1);
                 last = sheet;
@@ -111,6 +111,7 @@ fn sheets_of(cause: &Cause) -> &'static str {
         Cause::RedefinedName(_) | Cause::Size(_) | Cause::Twice(_) => "",
         Cause::Limit(limit) => group_of(*limit),
         Cause::File(FileCause::Unnamed(_) | FileCause::WrongUse { .. }) => "FIO",
+        Cause::File(FileCause::SecondForm { .. } | FileCause::OverflowPast { .. }) => "",
         Cause::File(_) => "F",
         Cause::Indicator(fault) if matches!(fault.cause, IndicatorCause::NoMatchFields) => "FI",
         Cause::Indicator(_) => "F",
@@ -123,6 +124,7 @@ fn sheets_of(cause: &Cause) -> &'static str {
         Cause::Stray(_) => "CIO",
         Cause::Outside(PlaceCause::PastLine { .. }) => "FIO",
         Cause::Outside(PlaceCause::Wider { .. }) => "FEIC",
+        Cause::Outside(PlaceCause::SkipPast { .. }) => "FLO",
         Cause::Outside(_) | Cause::Join(_) => "FI",
         Cause::Data(_) => "E",
     }

@@ -64,7 +64,7 @@ fn form_column(line: &[u8]) -> Option<usize> {
 fn slip_of(line: &[u8]) -> Option<Slip> {
     if matches!(
         character_at(line, FORM_TYPE),
-        b'h' | b'f' | b'e' | b'i' | b'c' | b'o'
+        b'h' | b'f' | b'e' | b'l' | b'i' | b'c' | b'o'
     ) {
         return Some(Slip::SmallLetters);
     }
@@ -73,7 +73,7 @@ fn slip_of(line: &[u8]) -> Option<Slip> {
     }
     let column = form_column(line)?;
     match character_at(line, column) {
-        b'H' | b'F' | b'E' | b'I' | b'C' | b'O' => Some(Slip::Moved { column }),
+        b'H' | b'F' | b'E' | b'L' | b'I' | b'C' | b'O' => Some(Slip::Moved { column }),
         _ => None,
     }
 }
@@ -149,7 +149,7 @@ impl DeckSlip {
     pub fn write(self, draft: &mut Draft<'_>) {
         let sentence = match self.slip {
             Slip::Moved { .. } => {
-                "on all {} cards the form type stands in column {}: it belongs in column 6"
+                "on all {} cards the form type is in column {}: it belongs in column 6"
             }
             Slip::SmallLetters => "all {} cards are in small letters: rpg2 reads capitals",
             Slip::Free => "this is RPG IV (**FREE), which rpg2 doesn't read: it reads RPG II",

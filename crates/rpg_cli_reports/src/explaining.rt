@@ -102,7 +102,7 @@ fn text_of(alloc: Global, request: &Request) -> Result<Option<String>, AllocErro
 }
 
 const CODES: &str =
-    "codes are S1 to S6, F1 to F18, W1 to W13, V1 to V26, B1 to B7, A1 to A30, and halt 1 to halt 8";
+    "codes are S1 to S6, F1 to F18, W1 to W15, V1 to V26, B1 to B7, A1 to A30, and halt 1 to halt 8";
 
 /// Prints the pages of codes.
 pub fn explain<L: Listener>(

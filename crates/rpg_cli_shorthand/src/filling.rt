@@ -136,9 +136,11 @@ impl Columns {
 /// Whether a line is shorthand of a card, with one item at least.
 pub fn is_shorthand(line: &[u8]) -> bool {
     match line {
-        [b'H' | b'F' | b'E' | b'I' | b'C' | b'O', b' ', items @ ..] => {
-            !is_blank(items) && Columns::of(line).is_ok()
-        }
+        [
+            b'H' | b'F' | b'E' | b'L' | b'I' | b'C' | b'O',
+            b' ',
+            items @ ..,
+        ] => { !is_blank(items) && Columns::of(line).is_ok() }
         _ => false,
     }
 }

@@ -162,7 +162,7 @@ pub fn are_cards(source: &[u8]) -> bool {
         };
         if !is_blank(line) && !is_comment(line) {
             let form = line.get(FORM_TYPE);
-            return matches!(form, Some(b'H' | b'F' | b'E' | b'I' | b'C' | b'O'))
+            return matches!(form, Some(b'H' | b'F' | b'E' | b'L' | b'I' | b'C' | b'O'))
                 && !is_shorthand(line);
         }
         rest = more;

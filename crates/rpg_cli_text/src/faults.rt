@@ -26,10 +26,11 @@ pub(crate) const FAULTS: &str = "\
     %- the 1,001st calculation card; the field with which all fields have more than 65,535 bytes; the\n  101st subroutine\
     %- at most 1,000 calculation cards; 4,000 names, and 4,000 fields with the constants; 65,535\n  bytes of fields, a byte a digit or character of each entry; 9,999 entries; 100 subroutines;\n  200 record types, each with 100 codes, 100 control fields and 500 fields; 1,000 lines, each\n  with 50 alternatives of 60 conditions and with 200 fields\
     %the card that passes the limit has the fault. Make two programs of it, or shorten a\ntable\
-    @F7%a file is unknown, given twice, of the wrong use or length, or there is no input file%\
-    %- a file that no F card has, a second primary file, a printer of more than 132 places:\n\n     FOTHER   IP  F      80            READ40\n     FPRINT   O   F     133            PRINTER\n     OPRNT    D        01\
-    %- one primary file, and at most one secondary file, one printer and one disk file; record types\n  name the input files and lines the others, the first of each by its name:\n\n     FPRINT   O   F     132            PRINTER\n     OPRINT   D        01\
-    %compare the name with the F cards. Card 0 means that no F card is a primary file, as\nin an empty source. Of two input files both have E in 17 or neither\
+    @F7%a file or a form is unknown, given twice, of the wrong use or length, or there is no input file%\
+    %- a file that no F card has, a second primary file, a printer of more than 132 places:\n\n     FOTHER   IP  F      80            READ40\n     FPRINT   O   F     133            PRINTER\n     OPRNT    D        01\n\n\
+    - an L card that isn't the printer's, a second one, an overflow line past the page's last line:\n\n     LPRINT   033FL034OL\
+    %- one primary file, and at most one secondary file, one printer and one disk file; record types\n  name the input files and lines the others, the first of each by its name:\n\n     FPRINT   O   F     132            PRINTER\n     OPRINT   D        01\n\n- one L card at most, for the printer:\n\n     LPRINT   033FL030OL\
+    %compare the name with the F cards. Card 0 means that no F card is a primary file, as\nin an empty source\
     @F8%an indicator isn't allowed%cards\
     %- a record type that turns on L0, a result that turns on 1P, a line that tests MR where no field\n  has a match level:\n\n     IINPUT   AA  L0\n     C                     ADD  AMT       TOT        1P\n     OPRINT   D        MR\
     %- record types turn on 01 to 99, L1 to L9, LR or H1 to H9, calculations all but L0, 1P and MR;\n  calculations test all but 1P, lines all, MR where a field has a match level (M1 to M9):\n\n     IINPUT   AA  01\n     C                     ADD  AMT       TOT        LR\n     OPRINT   D        1P\
@@ -62,10 +63,10 @@ pub(crate) const FAULTS: &str = "\
     %- H beside an operation that is not rounded; MVR after a DIV with H, or after anything else:\n\n     C           AMT       DIV  3         TOT       H\n     C                     MVR            REM     30\
     %- H beside ADD, SUB, MULT, DIV, Z-ADD, Z-SUB and XFOOT; MVR on the calculation card right after\n  a DIV without H:\n\n     C           AMT       DIV  3         TOT\n     C                     MVR            REM     30\
     %take the H away, or put MVR right after its DIV\
-    @F16%a column is outside the record or the line, a field is wider than its end, or control or match fields don't agree%cards\
-    %- with records of 80 columns and lines of 120 places: columns past the record, an end past the\n  line, a field of 5 digits that ends at place 4:\n\n     I                                       79  810AMT\n     O                         TOT      121\n     O                         TOT        4\
-    %     I                                       78  800AMT\n     O                         TOT      120\n     O                         TOT        5\
-    %look at the record length (24-27) on the F card first: of the input file for I\ncards, of the printer for O cards. A number takes a place for each digit, and what its edit code\nor word adds. Control fields of one level have the same length in all record types, and so have\nmatch fields, of which each type has the same levels or none, a level once, 256 columns in all\
+    @F16%a column is outside the record or the line, a skip is past the page, a field is wider than its end, or control or match fields don't agree%cards\
+    %- with records of 80 columns and lines of 120 places: columns past the record, an end past the\n  line, a field of 5 digits that ends at place 4, a skip to line 67 of a page of 66:\n\n     I                                       79  810AMT\n     OPRINT   D   67   01\n     O                         TOT      121\n     O                         TOT        4\
+    %     I                                       78  800AMT\n     OPRINT   D   66   01\n     O                         TOT      120\n     O                         TOT        5\
+    %look at the record length (24-27) on the F card first: of the input file for I\ncards, of the printer for O cards. A page has 66 lines, or those of the L card. A number takes a\nplace for each digit, and what its edit code or word adds. Control fields of one level have the same\nlength in all record types, and so have match fields, of which each type has the same levels or\nnone, a level once, 256 columns in all\
     @F17%an edit code or an edit word doesn't fit%cards\
     %- code Y on a number that doesn't have 6 digits, a fill beside Y, an edit word of 3 places for 5\n  digits:\n\n     O                         TOT   Y   10\n     O                         TOT       10 '   '\
     %- an edit word has a blank, 0 or * for each digit, and no $ right before its stop:\n\n     O                         UDATE Y   10\n     O                         TOT       10 '     '\

@@ -14,10 +14,10 @@ pub(crate) const REWRITINGS: &str = "\
     %     C   U1      TOT       ADD  AMT       TOT\n     O                NU1      TOT       20\
     %     C   L0      TOT       ADD  AMT       TOT\n     O                NL0      TOT       20\
     %give the switches with --switches, here 10000000, and make a deck for each setting that\nthe job was run with. A card that turns a switch on is rejected, and so is an input file that is off\
-    @A4%an L card is taken out%\
+    @A4%blank columns of an L card are filled%\
+    %     FPRINT   O   F     132     OF    LPRINTER\n     LPRINT\
     %     FPRINT   O   F     132     OF    LPRINTER\n     LPRINT   066FL060OL\
-    %     FPRINT   O   F     132     OF     PRINTER\
-    %if no form gets more lines than its L card has, say so with --forms. A form of other lines\nis rejected if a card tests overflow or no line skips: count its lines in calculations, and skip\
+    %see whether the old form had other lines. L cards are read since this version: those\nthat have both numbers stay as they are, and --forms has no effect\
     @A5%the records of a table file become data%\
     %     FRATES   IT  F      20           EDISK\n     E    RATES           TABK    2   4  2   TABV    3 1\
     %     E                    TABK    2   4  2   TABV    3 1\n**\nAA010AB020\nBA030\
@@ -94,11 +94,11 @@ pub(crate) const REWRITINGS: &str = "\
     %     FLIST    O   F     132     OF     PRINTER\n     FERRORS  O   F     132     OG     PRINTR2\n     OLIST    D  1     01\n     O                         AMT       30\n     OERRORS  D  1     01 30\n     O                         AMT       40\
     %     FLIST    O   F     132     OF     PRINTER\n     OLIST    D  1     01\n     O                         AMT       30\
     %give --printer LIST, then --printer ERRORS, and run both decks. If the lines of the\nother printer count pages or blank fields for others, it becomes a disk file, whose records are\nthrown away. Rejected is a card that asks for the other printer's overflow indicator\
-    @A24%E in 17 of the last file alone is blanked%\
+    @A24%E in 17 stays, and is alike on files that are merged%\
     %     FDATE    IP  F      80            READ40\n     FMASTER  ISE F      80            TAPE\
-    %     FDATE    IP  F      80            READ40\n     FMASTER  IS  F      80            TAPE\
-    %nothing: the last file is read last. Where files are matched, or the last one has no E,\nthe old job ends with records left: take these out of the data, and put E on all files or on none\
-    @A25%three and more input files become two, the secondary ones merged%\
+    %     FDATE    IP  F      80            READ40\n     FMASTER  ISE F      80            TAPE\
+    %nothing: E in 17 of one file ends the job. Rejected are several secondary files of which\nonly some have it, since A25 makes one file of them\
+    @A25%three or more input files become two, the secondary ones merged%\
     %     FONHAND  IP  F      80            READ40\n     FISSUES  IS  F      80            DISK\n     FRECPTS  IS  F      80            DISK\n     IONHAND  AA  01   1 CH\n     I                                        2   6 ITEM    M1\n     IISSUES  BB  02   1 CI\n     I                                        2   6 ITEM    M1\n     IRECPTS  CC  03\n     I                                        2   6 ITEM    M1\
     %     FONHAND  IP  F      80            READ40\n     FISSUES  IS  F      81            DISK\n     IONHAND  AA  01   1 CH\n     I                                        2   6 ITEM    M1\n     IISSUES  BB  02   2 CI   1 CA\n     I                                        3   7 ITEM    M1\n     IISSUES  CC  03   1 CB\n     I                                        3   7 ITEM    M1\
     %merge the files: `rpg2 records --merge OLD.rpg OUT ISSUES=FILE RECPTS=FILE` takes the least\nmatch value first, as the old job did, and puts a letter in front of each record. Packed fields are\nunpacked first, by rpg2 records --by. Rejected are a sequence by number and look ahead in these\nfiles, and files that are written too\

@@ -23,12 +23,12 @@ pub(crate) const RULES: &str = "\
     @V7%an indicator of an input field can't be set, or a text has one for plus or minus%rows\
     %- field 2, a text, with an indicator for plus\
     %- field 2 with an indicator for blanks; field 1 with all three\
-    @V8%a line spaces more than 3 lines or skips past line 66, or spaces or skips on the disk file%rows\
-    %- space before 4; skip before 67; a line for the disk file that spaces\
+    @V8%a line spaces more than 3 lines or skips past the page's last line, or spaces or skips on the disk file%rows\
+    %- space before 4; on a page of 66 lines skip before 67; a line for the disk file that spaces\
     %- space before 3; skip before 66\
     @V9%an alternative is conditioned by MR%rows\
     %- in a program of version 1, an alternative that asks MR\
-    %- an alternative that asks H9; in version 2, one that asks MR\
+    %- an alternative that asks H9; in versions 2 and 3, one that asks MR\
     @V10%what a line outputs isn't there or has a bad index, or PAGE isn't a plain number of 4 digits without decimals%rows\
     %- field 3, an array, without an index; field 9, which is not there; PAGE of field 1\
     %- entry 5 of field 3; field 4, whose current entry is output\
@@ -46,7 +46,7 @@ pub(crate) const RULES: &str = "\
     %- field 1 with blank after\
     @V15%a field is conditioned by MR%rows\
     %- in a program of version 1, a field that is output where MR is on\
-    %- a field that is output where H9 is on; in version 2, one where MR is on\
+    %- a field that is output where H9 is on; in versions 2 and 3, one where MR is on\
     @V16%an operand isn't there, or has a bad index or none that it needs%rows\
     %- ADD with field 9, which is not there; ADD with field 3, an array, without an index; entry 6 of\n  field 3\
     %- ADD with entry 5 of field 3\

@@ -1,4 +1,4 @@
-//! The pages of W1 to W13.
+//! The pages of W1 to W15.
 
 /// The pages, in the order of their codes, each as [`crate::page::Page`] reads it.
 pub(crate) const WARNINGS: &str = "\
@@ -49,8 +49,16 @@ pub(crate) const WARNINGS: &str = "\
     @W12%the printer has no overflow indicator, and the first page alone has a heading%cards\
     %- 33-34 of the F card are blank, and the heading is on 1P:\n\n     FPRINT   O   F      60            PRINTER\n     OPRINT   H  2     1P\n     OPRINT   D  1     01\
     %- an overflow indicator, which the heading has as well:\n\n     FPRINT   O   F      60     OF     PRINTER\n     OPRINT   H  201   1P\n     O       OR        OF\n\n- a list without a heading; forms whose own lines skip (19-20)\
-    %write OF into 33-34 of the F card, and OR OF after the heading, which skips (19-20). OF turns\non when the paper reaches line 60 or below. Without it the lines go on over the fold, and the second\npage has no heading\
+    %write OF into 33-34 of the F card, and OR OF after the heading, which skips (19-20). OF turns\non when the paper reaches the overflow line: that of the L card, or 60. Without it the lines go on\nover the fold, and the second page has no heading\
     @W13%a device looks like the printer, and is the disk file%cards\
     %- PRINTR2 in 40-46:\n\n     FPRINT   O   F      60            PRINTR2\
     %- PRINTER, and DISK for the disk file:\n\n     FPRINT   O   F      60            PRINTER\n     FOUT     O   F      60            DISK\
-    %write PRINTER. Each other device is the disk file, whose lines have no spaces or skips;\na program has one printer and one disk file";
+    %write PRINTER. Each other device is the disk file, whose lines have no spaces or skips;\na program has one printer and one disk file\
+    @W14%one of two input files ends the job, and records of the other are left out%cards\
+    %- E in 17 of one file alone; where no field has a match level, of the primary file:\n\n     FMEMBERS IPE F      80            DISK40\n     FDUESPD  IS  F      80            DISK40\
+    %- E on both files or on neither; where no field has a match level, on the secondary file alone:\n\n     FMEMBERS IPE F      80            DISK40\n     FDUESPD  ISE F      80            DISK40\
+    %put E into 17 of both files if the job is to read both to their end. With E on one of\nthem the other is read up to its first record with a greater match value than the last one of that\nfile. Without match levels the primary file comes first, and the job ends with it\
+    @W15%L in column 39 has no L card, or an L card has no L in column 39%cards\
+    %- L on the F card of the printer, and no L card; or an L card beside this F card:\n\n     FPRINT   O   F     120     OF     PRINTER\n     LPRINT   033FL030OL\
+    %- both, or neither:\n\n     FPRINT   O   F     120     OF    LPRINTER\n     LPRINT   033FL030OL\
+    %look for the L card, or write L into 39. Without an L card a page has 66 lines, and\noverflow is at line 60; an L card counts, whatever 39 has";

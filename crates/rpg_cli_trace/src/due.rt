@@ -23,7 +23,7 @@ impl Due {
     pub fn of(rows: &Rows, on: &Indicators) -> Due {
         let mut due = Due::NOTHING;
         for line in &rows.lines {
-            if is_due(rows.overflow, line, on) {
+            if is_due(rows.overflow.indicator, line, on) {
                 due.count(line.time);
             }
         }

@@ -98,7 +98,7 @@ const STATUSES: &str =
 /// The version, as in CHANGELOG.md; the formats of object programs; and the logic in which the program is proved. Several kits have the
 /// same logic.
 const VERSION: &str =
-    "1.0.0 (unreleased), object programs of versions 1 and 2, proved in Rattle's logic dac8208d650f15bf";
+    "1.0.0 (unreleased), object programs of versions 1, 2 and 3, proved in Rattle's logic dac8208d650f15bf";
 
 /// Builds the program's command, without its subcommands.
 fn root<'a>(alloc: Global) -> Command<'a> {

@@ -100,7 +100,7 @@ replace V=C Replaces each character that rpg2 doesn't have
 deck V=NEW!to Where to write the deck that reads the lines
 table W=NAME=FILE The records of a table file, by its name on the cards; may be given several times
 switches V=00000000 A digit for each of U1 to U8: 1 if the job was run with it on; without this all are off
-forms F No form gets more lines than its L card has
+forms F Has no effect: L cards are read
 printer V=NAME Of several printers the one whose deck NEW is
 list F!CODE Prints a line for each code
 source V=SRC The source of OBJ: shows its names and cards
@@ -128,12 +128,13 @@ const PAPERS: &[&str] = &["a4", "letter", "fanfold"];
 
 /// The codes of warnings that may be allowed.
 const WARNING_CODES: &[&str] = &[
-    "W1", "W2", "W3", "W4", "W5", "W6", "W7", "W8", "W9", "W10", "W11", "W12", "W13",
+    "W1", "W2", "W3", "W4", "W5", "W6", "W7", "W8", "W9", "W10", "W11", "W12", "W13", "W14", "W15",
 ];
 
 /// The codes of warnings that may be denied.
 const DENIED_CODES: &[&str] = &[
-    "all", "W1", "W2", "W3", "W4", "W5", "W6", "W7", "W8", "W9", "W10", "W11", "W12", "W13",
+    "all", "W1", "W2", "W3", "W4", "W5", "W6", "W7", "W8", "W9", "W10", "W11", "W12", "W13", "W14",
+    "W15",
 ];
 
 /// Splits a text at a mark. Without the mark the second part is empty.

@@ -132,8 +132,8 @@ pub struct Request<'a> {
     pub tables: Vec<TableArgument<'a>>,
     /// Eight digits: for each of U1 to U8 whether it is on. All are off by default.
     pub switches: Option<&'a str>,
-    /// Whether each form keeps at most the lines of its L card.
-    pub keeps_forms: bool,
+    /// Whether `--forms` is given, which has no effect: L cards are read.
+    pub gives_forms: bool,
     /// The file of the printer whose deck is wanted, if the deck has several.
     pub printer: Option<&'a str>,
     /// The codes, with the number of a halt as one of its own; if there are none, all are explained.
@@ -268,7 +268,7 @@ fn request_with<'a>(command: CommandName, given: &ArgMatches<'a>, lists: Lists<'
         forces: given.get_flag("force"),
         tables: lists.tables,
         switches: given.get_str("switches"),
-        keeps_forms: given.get_flag("forms"),
+        gives_forms: given.get_flag("forms"),
         printer: given.get_str("printer"),
         codes: lists.codes,
         lists: given.get_flag("list"),
