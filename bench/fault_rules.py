@@ -24,7 +24,7 @@ OPERATIONS = {
     "EXCPT": Operation(None, None, None, False, "none"),
 }
 LABELS = ("TAG", "BEGSR", "ENDSR")
-SHEETS = "HFEICO"
+SHEETS = "HFELICO"
 
 
 # ---- cards, as they are read
@@ -128,6 +128,11 @@ def cards_of(source):
 FREE = {"H": (7, 14), "F": (20, 23), "E": (58, 74), "C": (60, 74)}
 
 
+def has_form_elsewhere(text):
+    """L in 39 on the F card of another file than the printer."""
+    return text[5] == "F" and text[38] == "L" and (text[14] != "O" or text[39:46] != "PRINTER")
+
+
 def sheet_faults(source):
     found, latest, is_data = [], 0, False
     for at, line in enumerate(source):
@@ -143,7 +148,7 @@ def sheet_faults(source):
             code = "S3"
         elif on_sheet and place < latest:
             code = "S4"
-        elif on_sheet and "?" in text[6:74]:
+        elif on_sheet and ("?" in text[6:74] or has_form_elsewhere(text)):
             code = "S5"
         if code:
             found.append((at + 1, code))
@@ -408,10 +413,18 @@ class Rules:
         """The first file of a use."""
         return next((c for c in self.cards if c.sheet == "F" and self.use(c) == use), None)
 
-    def ends_otherwise(self, card):
-        """The later of the two input files' cards, where column 17 isn't the same on both."""
-        both = [it for it in (self.of_use("primary"), self.of_use("secondary")) if it]
-        return len(both) == 2 and both[0].part(17, 17) != both[1].part(17, 17) and card is max(both, key=lambda it: it.number)
+    def forms(self):
+        return [c for c in self.cards if c.sheet == "L"]
+
+    def page(self):
+        """The lines of a page: of the first L card that names the printer."""
+        printer = self.of_use("printer")
+        own = [c for c in self.forms() if printer and c.part(7, 14) == printer.part(7, 14)]
+        return own[0].value(15, 17) if own else 66
+
+    def bad_form(self, card):
+        file = self.files.get(card.part(7, 14))
+        return file is None or self.use(file) != "printer" or self.forms()[0] is not card or card.value(20, 22) > card.value(15, 17)
 
     def F7(self, at, card):
         if card.sheet == "F":
@@ -419,9 +432,10 @@ class Rules:
             most = 132 if self.use(card) == "printer" else 9999
             return (
                 any(c.part(7, 14) == card.part(7, 14) or self.use(c) == self.use(card) for c in before)
-                or self.ends_otherwise(card)
                 or not 1 <= card.value(24, 27) <= most
             )
+        if card.sheet == "L":
+            return self.bad_form(card)
         if card.sheet not in "IO" or card.is_field() or card.is_and() or (card.sheet == "O" and card.is_or()):
             return False
         name = card.part(7, 14)
@@ -625,10 +639,19 @@ class Rules:
             if card.is_field():
                 return self.bad_columns(card) or self.joins_too_long(card) or self.bad_match(card)
             return self.bad_codes(card) or (not card.is_and() and (self.has_other_lengths(card) or self.matches_otherwise(card)))
-        if card.sheet != "O" or not card.is_field():
+        if card.sheet != "O" or card.is_and() or card.is_or():
             return False
+        if not card.is_field():
+            return self.skips_past(card)
         end, length, width = card.value(40, 43), self.record_length(card), self.width(card)
         return end == 0 or (length is not None and end > length) or (width is not None and width > end)
+
+    def skips_past(self, card):
+        """A line of the printer that skips past the page."""
+        file = self.files.get(self.file_of[card.number])
+        skips = [it for it in (card.part(19, 20), card.part(21, 22)) if it]
+        lines = [int(it.replace("A", "10").replace("B", "11")) for it in skips]
+        return file is not None and self.use(file) == "printer" and any(it > self.page() for it in lines)
 
     def bad_columns(self, card):
         first, last, length = card.value(44, 47), card.value(48, 51), self.record_length(card)

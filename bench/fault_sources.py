@@ -49,6 +49,8 @@ class Source:
     def made(self):
         self.files()
         self.tables()
+        if self.form:
+            self.put("L", self.form)
         self.types()
         self.calculations()
         self.lines()
@@ -66,9 +68,11 @@ class Source:
         self.put("F", self.file("INPUT", "P", end))
         if self.has_secondary:
             self.put("F", self.file("SECOND", "S", self.mostly([end], ["E", " "])))
-        self.put("F", card("F", (7, "PRINT"), (15, "O"), (19, "F"), (24, " 120"), (40, "PRINTER")))
+        has_form = self.by.random() < 0.3
+        self.put("F", card("F", (7, "PRINT"), (15, "O"), (19, "F"), (24, " 120"), (39, self.mostly("L" if has_form else " ", "L ")), (40, "PRINTER")))
         if self.by.random() < 0.4:
             self.put("F", card("F", (7, "MASTER"), (15, "O"), (19, "F"), (24, "  32"), (40, "DISK45")))
+        self.form = card("L", (7, "PRINT"), (15, self.any("066FL060OL", "033FL030OL", "112FL105OL"))) if has_form else ""
 
     def file(self, name, use, end):
         length = right(self.any(30, 80, 300 if self.has_matches else 80), 4)
@@ -192,7 +196,7 @@ class Source:
                 "line",
                 card(
                     "O", (7, file), (15, self.any(*"HDTE")), (17, self.any("", "1", "")),
-                    (23, self.mostly(["", " 01", " LR"], CONDITIONS)),
+                    (19, self.mostly([""], ["", "30", "66", "A5"]) if file != "MASTER" else ""), (23, self.mostly(["", " 01", " LR"], CONDITIONS)),
                 ),
             )
             if self.by.random() < 0.2:
@@ -225,6 +229,7 @@ class Source:
             (27, 32, ["AR", "TABA", "QTY", "X", "UDATE"]), (33, 35, ["   ", "  0", "  1", " 50", "  3"]),
             (36, 39, ["   0", "   4", "  12"]), (40, 42, [" 16", "  3", "  9"]), (44, 44, [" ", "0", "9"]),
         ],
+        "L": [(7, 14, ["INPUT", "MASTER", "OTHER"]), (15, 17, ["003", " 12", "112"]), (20, 22, ["001", " 34", "112"])],
         "I": [
             (7, 14, ["INPUT", "PRINT", "OTHER", "SECOND", "        "]), (19, 20, ["L0", "1P", "LR", "H3", "OA"]),
             (21, 27, ["   0 CA", "  81 CA", "   5NC1"]),
@@ -250,7 +255,7 @@ class Source:
             (58, 59, MARKS[:-1] + ["  "]),
         ],
         "line": [
-            (7, 14, ["INPUT", "MASTER", "OTHER", "        "]), (17, 22, ["      ", "1     ", "  06  "]),
+            (7, 14, ["INPUT", "MASTER", "OTHER", "        "]), (17, 22, ["      ", "1     ", "  06  ", "  34  ", "    67", "  A0  "]),
             (23, 25, CONDITIONS),
         ],
         "or": [(23, 25, CONDITIONS[2:])],
@@ -291,7 +296,7 @@ def spoiled(by, source):
                 text + "A",
                 text[:9] + "\t" + text[10:],
                 text[:5] + by.choice("Xx ") + text[6:],
-                text[:5] + by.choice("FIO") + text[6:29] + "?" + text[30:],
+                text[:5] + by.choice("FLIO") + text[6:29] + "?" + text[30:],
                 text[: where - 1] + "?" + text[where:],
             ]
         )

@@ -8,7 +8,7 @@ It makes random sources and changes some columns and cards of each. The rules of
 one, each as the page has it, and the resulting pairs of a card and a code are compared with those reported on standard error, in
 their order, and with the number of faults. Nothing is shared with rpg2, neither its code nor its tables. Of F6 only the number of
 entries is tested, since no source is large enough for another limit. In one source of eight some cards can't be read: then only
-these are reported. The exit status is 1 if some source is reported otherwise.
+these are compared, and not which faults of the others are reported with them. The exit status is 1 if some source is reported otherwise.
 """
 
 import os
@@ -33,7 +33,7 @@ MOST_TOLD = 20
 def told_of(text):
     """The pairs that are reported one by one, and how many faults there are in all."""
     pairs = [(int(card or 0), code) for card, code in re.findall(r"^[^:\n]+:(\d+):\d+: error: .* \[([SF]\d+)\]$", text, re.M)]
-    last = re.search(r": note: (?:(\d+) faults?|(\d+) cards can't be read|(this card) can't be read)[^\n]*\n\Z", text)
+    last = re.search(r": note: (?:(\d+) faults?|(\d+) cards? can't be read|(this card) can't be read)[^\n]*\n\Z", text)
     count = 0 if last is None else 1 if last[3] else int(last[1] or last[2])
     return pairs, count
 
@@ -52,7 +52,12 @@ def compared(room, source, wanted):
     # a fault of no card is reported at line 1
     if line == "card 0: F7" and pairs:
         pairs[0] = (0, "F7")
-    same = pairs == wanted[:MOST_TOLD] and count == len(wanted) and (line == line_of(wanted) if wanted else ran.returncode == 0)
+    if wanted and wanted[0][1][0] == "S":
+        pairs = [it for it in pairs if it[1][0] == "S"]
+        wanted_pairs = wanted[: len(pairs)]
+    else:
+        wanted_pairs = wanted[:MOST_TOLD]
+    same = pairs == wanted_pairs and count == len(wanted) and (line == line_of(wanted) if wanted else ran.returncode == 0)
     if not same:
         print("\n".join(f"{at + 1:4} {it}" for at, it in enumerate(source)))
         print(f"told   {pairs} of {count}: {line}\nwanted {wanted[:MOST_TOLD]} of {len(wanted)}")

@@ -65,9 +65,10 @@ class Paper:
 
     def space(self, lines):
         if self.at + lines > self.length:
+            is_near = self.at < self.overflow_line
             self.page += 1
             self.at += lines - self.length
-            return False
+            return is_near
         self.at += lines
         return self.at >= self.overflow_line
 
@@ -106,8 +107,8 @@ class Records:
         """The file and the record that a cycle is for, or None for both."""
         for file in self.wanted:
             self.waiting[file] = self.take(file)
-        file = None if self.is_ended() else self.selected()
-        if file is None:
+        file = self.selected()
+        if file is None or self.is_left_out(self.waiting[file]):
             return None, None
         self.wanted = [file]
         self.counts[file] += 1
@@ -159,14 +160,15 @@ class Records:
         self.match[file] = value
         return value
 
-    def is_ended(self):
-        """Whether the job ends, since all files with E in 17 are read. The end of an empty one is noticed in its turn."""
+    def is_left_out(self, taken):
+        """Whether a record doesn't follow the last ones of the files with E in 17, which are read."""
         ending = [it for it in self.files if self.deck.files[it].ends] or self.files
-        for file in ending:
-            earlier = self.files[: self.files.index(file)]
-            if not self.all[file] and any(self.waiting[it] is not None for it in earlier):
-                return False
-        return not self.deck.has_match and all(self.waiting[it] is None for it in ending)
+        if len(ending) == len(self.files) or any(self.waiting[it] is not None for it in ending):
+            return False
+        values = [self.match[it] for it in ending if self.match[it] is not None]
+        if taken.match is None or not self.deck.has_match:
+            return not values and self.files[0] in ending
+        return not values or taken.match > max(values)
 
     def selected(self):
         """The file whose record is next: one without match fields at once, else the least value, the earlier file first."""

@@ -42,7 +42,7 @@ MORE_FEATURES = {
     "zone": "codes by zone or digit",
     "places": "several *PLACE in a line",
     "structure": "data structures",
-    "end": "E in 17 of the last input file alone",
+    "end": "E in 17 of some of the input files alone",
     "third": "a third input file",
     "ahead": "look ahead",
     "root": "SQRT",
@@ -103,7 +103,7 @@ class Source:
                 self.features = chosen | {it for it in FEATURES if more.random() < 0.06}
         self.halts = self.by.random() < 0.12
         self.has_secondary = self.by.random() < (0.5 if self.has("ahead") else 0.25) or self.has("end", "third")
-        self.has_match = self.has_secondary and not self.has("end") and (not self.has(*MORE_FEATURES) or self.chance(0.9))
+        self.has_match = self.has_secondary and (not self.has(*MORE_FEATURES) or self.chance(0.9))
         self.has_level_2 = self.by.random() < 0.5 and not self.has_secondary
         self.overflow = self.any("OF", "OV") if self.by.random() < 0.75 or self.has("fetch") else ""
         self.cards, self.data, self.table_rows, self.disks = [], [], None, []
@@ -145,6 +145,8 @@ class Source:
         self.card("H", c75="TEST", **options)
         self.put_files()
         self.put_tables()
+        if self.has("form"):
+            self.card("L", c7="OUT", c15=self.any("066FL060OL", "060FL055OL", "033FL033OL", "066FL055OL", "021FL018OL"))
         self.put_types()
         self.put_calculations()
         self.put_lines()
@@ -182,7 +184,7 @@ class Source:
         device = {"c47": "SYS005"} if self.has("columns") and self.chance(0.7) else {}
         if self.has("habits"):
             device.update(c32=self.any("1", "2"), c67=self.any("   ", " 02", "  1"))
-        ends = (" ", "E") if self.has("end") else ("E", "E")
+        ends = self.any((" ", "E"), ("E", " ")) if self.has("end") else ("E", "E")
         self.put_input("IN", "P" + ends[0], c20="  80  80", c40="MFCU1", **device)
         if self.has_secondary:
             self.put_input("IN2", "S" + ends[1], c24="  80", c40="DISK")
@@ -200,8 +202,6 @@ class Source:
             self.disks.append((f"DSK{number}", length))
             switch = {"c71": f"U{self.by.randint(1, 3)}"} if self.has("files") and self.chance(0.6) else {}
             self.card("F", c7=f"DSK{number}", c15="O", c19="F", c24=right(length, 4), c40="DISK45", **switch)
-        if self.has("form"):
-            self.card("L", c7="OUT", c15=self.any("066FL060OL", "060FL055OL", "066FL060OL", "066FL055OL", "050FL060OL"))
 
     def put_input(self, name, use, **columns):
         kind = self.any("C", "U") if self.has("combined") and not self.has("third") and self.chance(0.7) else "I"

@@ -21,7 +21,7 @@ usage: bench/sources.py KIND CARDS > SOURCE
     no-labels   jumps to labels that no card gives
     no-ends     subroutines without an end, each in the one before it
     FAULT-N     cards that have the fault with the code FN, for N from 1 to 18
-    SHEET-X     cards of the sheet X (H, F, E, I, C, O), or of data (D), as full as they can be, of which only the last can't be read
+    SHEET-X     cards of the sheet X (H, F, E, L, I, C, O), or of data (D), as full as they can be, of which only the last can't be read
 The sources with `no-` and `FAULT-` have a fault on nearly each card, except FAULT-6, where only the card that exceeds a limit has one, the others up to SHEET-X none.
 CARDS counts all cards of the source. A program has at most 4,000 fields and constants, 1,000 calculations, 100 subroutines, and 200 fields a line.
 """
@@ -228,6 +228,7 @@ FULL = {
     "H": [(7, "PROGRAM")],
     "F": [(7, "FILENAME"), (15, "O"), (18, "A"), (19, "F"), (24, "9999"), (33, "OF"), (40, "PRINTER")],
     "E": [(27, "TABLES"), (33, " 80"), (36, "9999"), (40, "  1"), (44, "0A"), (46, "OTHERS"), (52, "  1"), (56, "0A")],
+    "L": [(7, "FILENAME"), (15, "112FL112OL")],
     "I": [(44, "1234"), (48, "1248"), (52, "2"), (53, "AMOUNT"), (59, "L1"), (65, "010203")],
     "C": [(7, "L1"), (9, "N01N02N03"), (18, "ARRAYS,INX"), (28, "ADD"), (33, "-1234567.9"), (43, "RESULT"), (49, " 15"), (52, "9H"), (54, "010203")],
     "O": [(23, "N01N02N03"), (32, "AMOUNT"), (38, " B1234"), (45, "'  ,   ,   .  - *TEXTS'")],

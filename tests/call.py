@@ -22,7 +22,7 @@ class Call:
     line: str
     words: tuple[str, ...]
     answer: str | None
-    given: str = ""  # the card that stands, or where the form or the list of names begins
+    given: str = ""  # the card that stands, or what begins the form or the list of names, and where
 
     def told(self, came: str) -> Outcome:
         if came == self.answer:
@@ -47,7 +47,7 @@ def calls_in(path: Path) -> Iterator[Call]:
         said, equals, answer = f"{line} ".partition(" = ")
         words = tuple(bare(it) for it in TOKEN.findall(said))
         if words[0] in GIVEN:
-            given = words[1] if words[0] == "card" else f"{words[0]} {number}"
+            given = words[1] if words[0] == "card" else f"{' '.join(words)} {number}"
         yield Call(f"{path.name}, line {number}", line, words, answer.strip() if equals else None, given)
 
 

@@ -10,6 +10,11 @@ from outcome import Outcome
 NAMES = "NAMES\n  name    field  form                      defined on  set on      used on"
 
 
+def skip_word(line: int) -> str:
+    """A line as columns 19-20 have it: A0 to B2 stand for 100 to 112."""
+    return f"{'0123456789AB'[line // 10]}{line % 10}"
+
+
 @dataclass
 class FormLine:
     """A line of a form: the moves before it, its text, and the moves after it."""
@@ -23,7 +28,7 @@ class FormLine:
         line = card("O", _7="PRINT", _15="E", _18="0", _23=f" {number:02}")
         for call, space, skip in moves:
             is_space = call.words[0] == "space"
-            line = with_text(line, space if is_space else skip, call.words[1] if is_space else f"{int(call.words[1]):02}")
+            line = with_text(line, space if is_space else skip, call.words[1] if is_space else skip_word(int(call.words[1])))
         text = [card("O", _40=f"{len(self.text):4}", _45="'" + self.text + "'")] if self.text else []
         return [line, *text]
 
@@ -50,11 +55,16 @@ def lines_of_form(calls: list[Call]) -> list[FormLine]:
     return [*lines, *(FormLine([it]) for it in moves)]
 
 
-def form_source(lines: list[FormLine]) -> list[str]:
-    """A source that puts out the lines one after the other, and tells on the disk file at which of them overflow turned on."""
+def form_source(lines: list[FormLine], page: list[str]) -> list[str]:
+    """A source that puts out the lines one after the other, and tells on the disk file at which of them overflow turned on. A page is
+    its lines and its overflow line, or nothing where no card says them."""
     printer = with_text(PRINT, 33, "OF")
+    sizes = []
+    if page:
+        printer = with_text(printer, 39, "L")
+        sizes = [card("L", _7="PRINT", _15=page[0].zfill(3), _18="FL", _20=page[1].zfill(3), _23="OL")]
     disk = card("F", _7="DISK", _15="O", _19="F", _24="  80", _40="DISK")
-    source = [INPUT, printer, disk, with_text(TYPE, 19, "99")]
+    source = [INPUT, printer, disk, *sizes, with_text(TYPE, 19, "99")]
     for number in range(1, len(lines) + 1):
         source += [card("C", _28=it, _54=f"{by}") for it, by in (("SETOF", "OF"), ("SETON", f"{number:02}"))]
         source += [card("C", _28="EXCPT"), card("C", _28="SETOF", _54=f"{number:02}")]
@@ -68,7 +78,7 @@ def form_source(lines: list[FormLine]) -> list[str]:
 def shown_form(desk: Desk, calls: list[Call]) -> list[Outcome]:
     """The calls of one form: whether overflow turns on, and the bytes that are sent for each line."""
     lines = lines_of_form(calls)
-    desk.print_of(form_source(lines), ["record"])
+    desk.print_of(form_source(lines, calls[0].given.split()[1:-1]), ["record"])
     sent, flags = desk.written("print"), desk.written("disk").ljust(80)
     turned = {it.place: came for line, flag in zip(lines, flags) for it, came in line.turned(flag == "*").items()}
     outcomes = []

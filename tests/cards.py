@@ -108,6 +108,7 @@ class Source:
     """The contents of all cards. Calculations are kept by their parts: `detail`, `total`, or a subroutine's name."""
 
     record_length: int = 0
+    page: int = 66
     width: int = 0
     indicator: str = ""
     tables: list[Table] = field(default_factory=list)
@@ -169,6 +170,10 @@ def reads_file(source: Source, card: str) -> None:
         source.width = length
     else:
         raise NotEvaluated("a file")
+
+
+def reads_form(source: Source, card: str) -> None:
+    source.page = number_in(card, 15, 17)
 
 
 def reads_table(source: Source, card: str) -> None:
@@ -259,5 +264,5 @@ def source_of(text: str) -> Source:
         elif columns(card, 6, 6) == "C":
             before = reads_calculation(source, card, before)
         else:
-            {"F": reads_file, "E": reads_table, "I": reads_input, "O": reads_line}[columns(card, 6, 6)](source, card)
+            {"F": reads_file, "E": reads_table, "L": reads_form, "I": reads_input, "O": reads_line}[columns(card, 6, 6)](source, card)
     return source

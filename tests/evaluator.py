@@ -9,7 +9,6 @@ from values import Form, Halt, Held, compared, cut, moved, read, stored
 
 LEVELS = [f"L{it}" for it in range(1, 10)]
 HALTS = [f"H{it}" for it in range(1, 10)]
-LINES_OF_A_PAGE = 66
 
 # More calculations than any part of a cycle does here.
 MOST = 100_000
@@ -49,12 +48,13 @@ class Field:
 class Paper:
     """The lines that were placed. Each is a line further than the one before."""
 
+    page: int
     text: str = ""
     count: int = 0
 
     def place(self, line: str) -> None:
         if self.count:
-            self.text += "\f" if self.count % LINES_OF_A_PAGE == 0 else "\n"
+            self.text += "\f" if self.count % self.page == 0 else "\n"
         self.text += line.rstrip(" ")
         self.count += 1
 
@@ -78,10 +78,11 @@ class Evaluator:
     on: set[str] = field(default_factory=lambda: {"L0", "1P"})
     remainder: Fraction = Fraction(0)
     left: int = 0
-    paper: Paper = field(default_factory=Paper)
+    paper: Paper = field(init=False)
     groups: dict[str, str] = field(default_factory=dict)  # what a level's control fields had last
 
     def __post_init__(self) -> None:
+        self.paper = Paper(self.source.page)
         for table, data in self.tables_with_data():
             self.define_tables(table, data)
         for it in self.source.inputs:

@@ -25,8 +25,10 @@ sys.path += [str(TOP / "build"), str(TOP / "bench")]
 import calls
 import case_runs
 import editors
+import ends
 import evaluated
 import fits
+import forms
 import installed
 import lay_out
 import objects
@@ -112,6 +114,10 @@ def jobs_of(program: Program, word: str) -> Iterable[Job]:
         yield from call_jobs(program, path)
     if word in "evaluated":
         yield from evaluated.jobs_of(program, HERE / "evaluated")
+    if word in "forms":
+        yield from forms.jobs_of(program)
+    if word in "ends":
+        yield from ends.jobs_of(program)
     if word in "fit":
         yield from fits.jobs_of(program, HERE / "fit")
     if word in "shops":
