@@ -9,9 +9,9 @@ _rpg2() {
         COMPREPLY=($(compgen -W 'compile check list cards records fit verify explain show run go paper help --help --version' -- "$cur")); return
     fi
     case $prev in
-        --allow) COMPREPLY=($(compgen -W 'W1 W2 W3 W4 W5 W6 W7 W8 W9 W10 W11 W12 W13' -- "$cur")); return;;
+        --allow) COMPREPLY=($(compgen -W 'W1 W2 W3 W4 W5 W6 W7 W8 W9 W10 W11 W12 W13 W14 W15' -- "$cur")); return;;
         --color) COMPREPLY=($(compgen -W 'auto always never' -- "$cur")); return;;
-        --deny) COMPREPLY=($(compgen -W 'all W1 W2 W3 W4 W5 W6 W7 W8 W9 W10 W11 W12 W13' -- "$cur")); [ -n "$cur" ] && [ ${#COMPREPLY[@]} -gt 0 ] && return;;
+        --deny) COMPREPLY=($(compgen -W 'all W1 W2 W3 W4 W5 W6 W7 W8 W9 W10 W11 W12 W13 W14 W15' -- "$cur")); [ -n "$cur" ] && [ ${#COMPREPLY[@]} -gt 0 ] && return;;
         --form) COMPREPLY=($(compgen -W 'a4 letter fanfold' -- "$cur")); return;;
         --format) COMPREPLY=($(compgen -W 'text json' -- "$cur")); return;;
         --date) COMPREPLY=($(compgen -W 'today today-dmy today-ymd' -- "$cur")); return;;
@@ -35,7 +35,7 @@ _rpg2() {
             if [ "$prev" = halt ]; then COMPREPLY=($(compgen -W '1 2 3 4 5 6 7 8' -- "$cur")); return; fi
             case $cur in
                 -*) options='--list -h --help';;
-                *) COMPREPLY=($(compgen -W 'S1 S2 S3 S4 S5 S6 F1 F2 F3 F4 F5 F6 F7 F8 F9 F10 F11 F12 F13 F14 F15 F16 F17 F18 W1 W2 W3 W4 W5 W6 W7 W8 W9 W10 W11 W12 W13 V1 V2 V3 V4 V5 V6 V7 V8 V9 V10 V11 V12 V13 V14 V15 V16 V17 V18 V19 V20 V21 V22 V23 V24 V25 V26 B1 B2 B3 B4 B5 B6 B7 A1 A2 A3 A4 A5 A6 A7 A8 A9 A10 A11 A12 A13 A14 A15 A16 A17 A18 A19 A20 A21 A22 A23 A24 A25 A26 A27 A28 A29 A30' -- "${cur^^}") $(compgen -W halt -- "$cur")); return;;
+                *) COMPREPLY=($(compgen -W 'S1 S2 S3 S4 S5 S6 F1 F2 F3 F4 F5 F6 F7 F8 F9 F10 F11 F12 F13 F14 F15 F16 F17 F18 W1 W2 W3 W4 W5 W6 W7 W8 W9 W10 W11 W12 W13 W14 W15 V1 V2 V3 V4 V5 V6 V7 V8 V9 V10 V11 V12 V13 V14 V15 V16 V17 V18 V19 V20 V21 V22 V23 V24 V25 V26 B1 B2 B3 B4 B5 B6 B7 A1 A2 A3 A4 A5 A6 A7 A8 A9 A10 A11 A12 A13 A14 A15 A16 A17 A18 A19 A20 A21 A22 A23 A24 A25 A26 A27 A28 A29 A30' -- "${cur^^}") $(compgen -W halt -- "$cur")); return;;
             esac;;
         help) COMPREPLY=($(compgen -W 'compile check list cards records fit verify explain show run go paper' -- "$cur")); return;;
     esac
