@@ -1,5 +1,5 @@
 -- Where the form stands, and how far the way to a line is.
-use Rattle.std.proofs.Common.{◌≡◌, ℕ, ◌+◌, ◌-◌, ◌≤◌, Bool, true, false, ◌&&◌, cond, eqb, leb, leb-true, [], ◌∷◌, ◌++◌, length, replicate, Option, None, Some, refl, arith, length-append, nat_cmp}
+use Rattle.std.proofs.Common.{◌≡◌, ℕ, ◌+◌, ◌-◌, ◌≤◌, Bool, true, false, ◌&&◌, ◌||◌, cond, eqb, eqb-true, leb, leb-true, [], ◌∷◌, ◌++◌, length, replicate, Option, None, Some, refl, arith, length-append, nat_cmp}
 use Rattle.std.proofs.lemmas.List.{length-replicate}
 use Rattle.rpg_program.specs.Lines.{after_movement, after_skip, after_skip_to, after_space, spaced_after, spaced_before}
 use Rattle.rpg_program.specs.World.{World}
@@ -16,11 +16,14 @@ pub record IsUpTo (last : ℕ) (here : Position) : Type 0 where
 
 -- ---- movements
 
-space_by : (b : Bool) (lines n page : ℕ) (from : Position) → leb (from.line + n) lines ≡ b → 3 ≤ lines → lines ≤ 112 → n ≤ 3 → IsUpTo page from →
-    IsUpTo (page + 1) (cond b (record { page = from.page; line = from.line + n }) (record { page = from.page + 1; line = from.line + n - lines }))
-space_by true lines n page from is least most few up =
+space_by : (a b : Bool) (lines n page : ℕ) (from : Position) → eqb n 0 ≡ a → leb (from.line + n) lines ≡ b → 3 ≤ lines → lines ≤ 112 → n ≤ 3 → IsUpTo page from →
+    IsUpTo (page + 1) (cond (a || b) (record { page = from.page; line = from.line + n }) (record { page = from.page + 1; line = from.line + n - lines }))
+space_by true b lines n page from none is least most few up =
+    let zero : n ≡ 0 = eqb-true n 0 none in let line = up.line in let pages = up.page in record { line = omega (arith, zero, line); page = omega (arith, pages) }
+space_by false true lines n page from some is least most few up =
     let low : from.line + n ≤ lines = leb-true (from.line + n) lines is in let pages = up.page in record { line = omega (arith, low, most); page = omega (arith, pages) }
-space_by false lines n page from is least most few up = let line = up.line in let pages = up.page in record { line = omega (arith, line, few, least); page = omega (arith, pages) }
+space_by false false lines n page from some is least most few up =
+    let line = up.line in let pages = up.page in record { line = omega (arith, line, few, least); page = omega (arith, pages) }
 
 skip_by : (b : Bool) (line page : ℕ) (from : Position) → line ≤ 112 → IsUpTo page from →
     IsUpTo (page + 1) (cond b (record { page = from.page; line = line }) (record { page = from.page + 1; line = line }))
@@ -36,7 +39,7 @@ module _ (overflow : Overflow) (is : IsPage overflow.page) where
   after_space_up : (n page : ℕ) (w : World nat_cmp) → n ≤ 3 → IsUpTo page w.paper.here → IsUpTo (page + 1) (after_space overflow n w).paper.here
   after_space_up n page w few up =
       moved _ (page + 1) (spaced overflow.page n w.paper.here) w
-      (space_by (leb (w.paper.here.line + n) overflow.page.lines) overflow.page.lines n page w.paper.here refl is.shortest is.longest few up)
+      (space_by (eqb n 0) (leb (w.paper.here.line + n) overflow.page.lines) overflow.page.lines n page w.paper.here refl refl is.shortest is.longest few up)
 
   skipped_by : (b : Bool) (line page : ℕ) (w : World nat_cmp) → line ≤ 112 → IsUpTo page w.paper.here →
       IsUpTo (page + 1) (cond {A = World nat_cmp} b w (after_skip_to overflow line w)).paper.here

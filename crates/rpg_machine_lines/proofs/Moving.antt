@@ -1,5 +1,5 @@
 -- Movements of the form.
-use Rattle.std.proofs.Common.{◌≡◌, ℕ, ◌+◌, ◌-◌, ◌≤◌, Bool, true, false, ◌&&◌, cond, nat_le, leb, leb-true, None, Some, refl, arith}
+use Rattle.std.proofs.Common.{◌≡◌, ℕ, ◌+◌, ◌-◌, ◌≤◌, Bool, true, false, ◌&&◌, ◌||◌, cond, nat_le, ◌==◌, leb, leb-true, None, Some, refl, arith}
 use Rattle.rpg_paper.specs.Paper.{IsPage, Position, spaced, skipped}
 use Rattle.rpg_paper.specs.declared.form.Page.{Page}
 use Rattle.rpg_program.specs.Ends.{Fault}
@@ -14,7 +14,7 @@ few_by false page line other = omega arith
 
 -- a space begins one page at most
 pub spaced_few : (page : Page) (n : ℕ) (p : Position) → (spaced page n p).page ≤ p.page + 1
-spaced_few page n p = few_by (nat_le (p.line + n) page.lines) p.page (p.line + n) (p.line + n - page.lines)
+spaced_few page n p = few_by (n == 0 || nat_le (p.line + n) page.lines) p.page (p.line + n) (p.line + n - page.lines)
 
 pub skipped_few : (line : ℕ) (p : Position) → (skipped line p).page ≤ p.page + 1
 skipped_few line p = few_by (nat_le p.line line) p.page line line

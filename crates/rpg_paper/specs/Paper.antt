@@ -36,10 +36,10 @@ top_of_paper = record { page = 1; line = 1 }
 abbrev pub lines_to : Page → Position → ℕ
 lines_to page p = p.page * page.lines + p.line
 
--- n lines on
+-- n lines on; none leaves the form where it is
 abbrev pub spaced : Page → ℕ → Position → Position
 spaced page n p =
-    if nat_le (p.line + n) page.lines then record { page = p.page; line = p.line + n } else record { page = p.page + 1; line = p.line + n - page.lines }
+    if n == 0 || nat_le (p.line + n) page.lines then record { page = p.page; line = p.line + n } else record { page = p.page + 1; line = p.line + n - page.lines }
 
 -- to the next such line that isn't before the present one
 abbrev pub skipped : ℕ → Position → Position

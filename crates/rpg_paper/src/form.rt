@@ -115,6 +115,9 @@ impl Form {
         ensures test { result ≡ space_turns_on page lines (here_of self.old) }
     {
         let from = self.line;
+        if lines == 0 {
+            return false;
+        }
         let line = from + lines;
         if line > page.lines {
             self.begun += 1;
@@ -122,7 +125,7 @@ impl Form {
             return from < page.overflow_line;
         }
         self.line = line;
-        lines > 0 && line >= page.overflow_line
+        line >= page.overflow_line
     }
 
     /// Moves to the next line with this number that isn't before the present one. Returns whether this turns the overflow indicator on.

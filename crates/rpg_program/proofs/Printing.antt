@@ -28,7 +28,7 @@ on_by k true page line other = refl
 on_by k false page line other = ap (λ n. record { page = n; line = other }) (add_assoc k page 1)
 
 spaced_on : (page : Page) (k n : ℕ) (p : Position) → spaced page n (on k p) ≡ on k (spaced page n p)
-spaced_on page k n p = on_by k (nat_le (p.line + n) page.lines) p.page (p.line + n) (p.line + n - page.lines)
+spaced_on page k n p = on_by k (n == 0 || nat_le (p.line + n) page.lines) p.page (p.line + n) (p.line + n - page.lines)
 
 skipped_on : (k line : ℕ) (p : Position) → skipped line (on k p) ≡ on k (skipped line p)
 skipped_on k line p = on_by k (nat_le p.line line) p.page line line
