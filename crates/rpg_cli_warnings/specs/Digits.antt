@@ -59,9 +59,12 @@ product_digits a b = if is_fraction a || is_fraction b then None else greater_of
 
 -- the digits that the result needs, by the operation
 abbrev pub wanted_by : Option Operation → Option ℕ → Option ℕ → Option ℕ
+wanted_by (Some operation.Add) a b = greater_of a b
+wanted_by (Some operation.Subtract) a b = greater_of a b
+wanted_by (Some operation.ZeroAdd) a b = greater_of a b
+wanted_by (Some operation.ZeroSubtract) a b = greater_of a b
 wanted_by (Some operation.Multiply) a b = product_digits a b
 wanted_by o a b = None
-wanted_by _ a b = greater_of a b
 
 -- the digits of the longest factor
 unfoldable pub wanted_digits : List SpecCard → CalculationSpec → Option ℕ

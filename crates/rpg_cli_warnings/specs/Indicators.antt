@@ -196,13 +196,9 @@ no_level_at n c = record { card = c.number; columns = tested_columns n c; kind =
 abbrev pub no_level : ℕ → List SpecCard → Option Warning
 no_level n cards = if is_level n && not (list_any (turns_on n) cards) && not (list_any (card_has_level n) cards) then option_map (no_level_at n) (find (tests_indicator n) cards) else None
 
--- one warning, or none
-abbrev pub listed : Option Warning → List Warning
-listed w = option_to_list w
-
 -- what an indicator is warned of
 abbrev pub indicator_warnings : ℕ → List SpecCard → List Warning
-indicator_warnings n cards = listed (never_on n cards) ++ listed (never_tested n cards) ++ listed (no_level n cards)
+indicator_warnings n cards = option_to_list (never_on n cards) ++ option_to_list (never_tested n cards) ++ option_to_list (no_level n cards)
 
 -- what the indicators up to a number are warned of
 unfoldable pub warnings_up_to : ℕ → List SpecCard → List Warning

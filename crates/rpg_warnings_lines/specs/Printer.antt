@@ -22,9 +22,10 @@ use Rattle.rpg_warnings_lines.specs.declared.warning.WarningKind.TheVariants as 
 
 -- a line of type H or D
 abbrev pub is_heading : LineTime → Bool
+is_heading time.Heading = true
+is_heading time.Detail = true
 is_heading time.Total = false
 is_heading time.Exception = false
-is_heading _ = true
 
 -- a heading of the first page; a line that is repeated; one that is repeated and skips before
 abbrev pub line_is : LineTest → OutputRecord → List SpecCard → Bool

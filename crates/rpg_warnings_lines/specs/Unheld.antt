@@ -23,9 +23,10 @@ each_total r cs = if line_passes tests.Always r cs then Some kind.EachTotal else
 
 -- by the time of the line
 abbrev pub unheld_at : LineTime → OutputRecord → List SpecCard → Option WarningKind
+unheld_at time.Heading r cs = before_records r cs
+unheld_at time.Detail r cs = before_records r cs
 unheld_at time.Total r cs = each_total r cs
 unheld_at time.Exception r cs = None
-unheld_at _ r cs = before_records r cs
 
 -- what is wrong with the line, if nothing keeps it back
 abbrev pub unheld : OutputRecord → List SpecCard → Option WarningKind

@@ -73,8 +73,10 @@ is_own_sum k = is_sum k.operation && (is_none k.factor_1 || is_result k.factor_1
 
 -- XFOOT, LOKUP and MVR
 abbrev pub needs_result : Option Operation → Bool
-needs_result o = false
-needs_result _ = true
+needs_result (Some operation.CrossFoot) = true
+needs_result (Some operation.LookUp) = true
+needs_result (Some operation.MoveRemainder) = true
+needs_result _ = false
 
 -- a result that nothing has to read: of XFOOT, LOKUP or MVR, or with indicators
 abbrev pub counts_as_read : CalculationSpec → Bool
