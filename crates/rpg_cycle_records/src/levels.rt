@@ -30,7 +30,7 @@ fn byte_of(is_numeric: bool, byte: u8) -> u8
 }
 
 /// The columns of a control field.
-fn columns_of(text: &[u8], field: ControlField) -> &[u8]
+pub(crate) fn columns_of(text: &[u8], field: ControlField) -> &[u8]
     requires { IsControlIn (length text.now) field }
     ensures { result.now ≡ slice_range text.now (field.from - 1) field.to }
 {
