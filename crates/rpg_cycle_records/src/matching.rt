@@ -131,7 +131,7 @@ fn take_value(bytes: &mut Vec<u8>, fields: &[ControlField], text: &[u8]) -> Resu
 }
 
 /// Whether a control field is of a level, L1 to L9, and isn't numeric.
-fn is_plain(field: ControlField) -> bool
+pub(crate) fn is_plain(field: ControlField) -> bool
     ensures low { IsTrue result → 1 ≤ field.level }
     ensures high { IsTrue result → field.level ≤ 9 }
     ensures plain { IsTrue result → field.is_numeric ≡ false }
@@ -142,7 +142,11 @@ fn is_plain(field: ControlField) -> bool
 /// Replaces bytes by those of a control field that isn't numeric. They usually have its length.
 #[inline(always)]
 #[tactic(auto, using(crate::proofs::Lasting::plain_columns))]
-fn replace(bytes: &mut Vec<u8>, text: &[u8], field: ControlField) -> Result<(), AllocError>
+pub(crate) fn replace(
+    bytes: &mut Vec<u8>,
+    text: &[u8],
+    field: ControlField,
+) -> Result<(), AllocError>
     requires inside { IsControlIn (length text.now) field }
     requires plain { field.is_numeric ≡ false }
     ensures { OnOk result (bytes.new.items ≡ compared text.now field) }

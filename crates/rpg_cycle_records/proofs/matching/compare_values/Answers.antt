@@ -1,4 +1,4 @@
-use Rattle.std.proofs.Common.{◌≡◌, ◌+◌, ◌∙◌, ◌<◌, ap, arith, drop, length, sym}
+use Rattle.std.proofs.Common.{◌+◌, ◌∙◌, ap, arith, drop, sym}
 use Rattle.std.specs.Ordering.{ordering_then}
 use Rattle.rpg_cycle_records.specs.Matching.{value_cmp}
 use Rattle.rpg_cycle_records.proofs.Order.{equal_order, other_order, then-other, value_ends, value_more}
