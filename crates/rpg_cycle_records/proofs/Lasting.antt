@@ -1,6 +1,7 @@
 -- Control fields whose bytes are the last ones of their levels.
-use Rattle.std.proofs.Common.{◌≡◌, ◌∙◌, ℕ, ◌+◌, ◌-◌, zero, suc, Bool, true, false, cond, ◌&&◌, ◌||◌, not, eqb, eqb-true, eq-eqb, ne_eqb, leb, List, [], ◌∷◌, ◌++◌, length, map, get_or, Option, None, Some, refl, sym, ap, subst, append-nil, arith}
+use Rattle.std.proofs.Common.{◌≡◌, ◌∙◌, ℕ, ◌+◌, ◌-◌, ◌<◌, ◌≤◌, zero, suc, Bool, true, false, cond, ◌&&◌, ◌||◌, not, eqb, eqb-true, eq-eqb, ne_eqb, leb, List, [], ◌∷◌, ◌++◌, length, map, get_or, Option, None, Some, refl, sym, ap, subst, append-nil, arith}
 use Rattle.std.proofs.Math.ListN.{set}
+use Rattle.std.proofs.lemmas.Bool.{le-leb}
 use Rattle.std.proofs.lemmas.List.{length-map, set-get_or}
 use Rattle.std.specs.Cmp.Lexicographic.{pointwise}
 use Rattle.std.specs.List.{slice_range}
@@ -9,7 +10,7 @@ use Rattle.rpg_cycle_records.specs.Earlier.{or_before}
 use Rattle.rpg_cycle_records.specs.Keeping.{renewed}
 use Rattle.rpg_cycle_records.specs.Lasting.{are_last, had, is_last}
 use Rattle.rpg_cycle_records.specs.Levels.{same_bytes, compared_byte, compared, joined_bytes, has_level, level_bytes, differs, highest_broken}
-use Rattle.rpg_cycle_records.proofs.Joining.{both, same_bytes-true}
+use Rattle.rpg_cycle_records.proofs.Joining.{both, broken_stays, renewed_stays, same_bytes-true}
 
 -- ---- two texts
 
@@ -134,3 +135,61 @@ none_renewed last text fs (suc n) are =
     ap (λ (xs : List (Option (List ℕ))). set xs n (or_before (get_or last n None) (level_bytes fs text (n + 1)))) (none_renewed last text fs n are)
     ∙ ap (set last n) kept
     ∙ set-get_or last n None
+
+-- ---- one control field, whose level is renewed
+
+only_bytes : (f : ControlField) (text : List ℕ) (k : ℕ) → f.level ≡ k → level_bytes (f ∷ []) text k ≡ Some (compared text f)
+only_bytes f text k e = let own : eqb f.level k ≡ true = eq-eqb f.level k e in rw own (ap Some (append-nil (compared text f)))
+
+only_level : (f : ControlField) (k : ℕ) → (f.level ≡ k → ⊥) → has_level (f ∷ []) k ≡ false
+only_level f k other = rw (ne_eqb f.level k other) refl
+
+not_had : (low had : Bool) → low ≡ true → ((low && had) && true) ≡ false → had ≡ false
+not_had true true e h = cc
+not_had true false e h = refl
+not_had false had e h = cc
+
+breaks : (o : Option (List ℕ)) (bytes : List ℕ) → had o bytes ≡ false → differs o (Some bytes) ≡ true
+breaks None bytes h = refl
+breaks (Some last) bytes h = ap not h
+
+-- the levels above and below it are as they were
+only_renewed : (f : ControlField) (text : List ℕ) (old : List (Option (List ℕ))) → 1 ≤ f.level → f.level ≤ 9 →
+    renewed (f ∷ []) text 9 old ≡ set old (f.level - 1) (Some (compared text f))
+only_renewed f text old low high =
+    let n = f.level - 1 in
+    let next : n + 1 ≡ f.level = omega (arith, low) in
+    let own : suc n ≡ f.level = omega (arith, low) in
+    renewed_stays (f ∷ []) text old 9 f.level high (λ k more most. only_level f k (λ e. omega (arith, e, more)))
+    ∙ ap (λ (k : ℕ). renewed (f ∷ []) text k old) (sym own)
+    ∙ ap (λ (o : Option (List ℕ)). set (renewed (f ∷ []) text n old) n (or_before (get_or old n None) o)) (only_bytes f text (n + 1) (sym next))
+    ∙ ap (λ (xs : List (Option (List ℕ))). set xs n (Some (compared text f))) (renewed_stays (f ∷ []) text old n 0 (omega arith) (λ k more most. only_level f k (λ e. omega (arith, e, more, most, low))))
+
+-- and it is the highest level that is broken
+only_broken : (f : ControlField) (text : List ℕ) (old : List (Option (List ℕ))) → 1 ≤ f.level → f.level ≤ 9 → are_last old text (f ∷ []) ≡ false →
+    highest_broken (λ k. differs (get_or old (k - 1) None) (level_bytes (f ∷ []) text k)) 9 ≡ f.level
+only_broken f text old low high changed =
+    let n = f.level - 1 in
+    let next : n + 1 ≡ f.level = omega (arith, low) in
+    let own : suc n ≡ f.level = omega (arith, low) in
+    let lower = highest_broken (λ k. differs (get_or old (k - 1) None) (level_bytes (f ∷ []) text k)) n in
+    let broken : differs (get_or old (f.level - 1) None) (level_bytes (f ∷ []) text f.level) ≡ true =
+    ap (differs (get_or old n None)) (only_bytes f text f.level refl)
+    ∙ breaks (get_or old n None) (compared text f) (not_had (leb 1 f.level) (had (get_or old n None) (compared text f)) (le-leb 1 f.level low) changed) in
+    broken_stays (f ∷ []) text old 9 f.level high (λ k more most. only_level f k (λ e. omega (arith, e, more)))
+    ∙ ap (highest_broken (λ k. differs (get_or old (k - 1) None) (level_bytes (f ∷ []) text k))) (sym own)
+    ∙ ap (λ (b : Bool). cond b (n + 1) lower) (ap (λ (k : ℕ). differs (get_or old (k - 1) None) (level_bytes (f ∷ []) text k)) next ∙ broken)
+    ∙ next
+
+pub alone_broken : (fs : List ControlField) (d : ControlField) (text : List ℕ) (old : List (Option (List ℕ))) → 1 ≤ length fs → length fs < 2 →
+    1 ≤ (get_or fs 0 d).level → (get_or fs 0 d).level ≤ 9 → are_last old text fs ≡ false →
+    (get_or fs 0 d).level ≡ highest_broken (λ k. differs (get_or old (k - 1) None) (level_bytes fs text k)) 9
+alone_broken [] d text old some few low high changed = absurd (omega (arith, some))
+alone_broken (f ∷ []) d text old some few low high changed = sym (only_broken f text old low high changed)
+alone_broken (f ∷ g ∷ fs) d text old some few low high changed = absurd (omega (arith, few))
+
+pub alone_renewed : (fs : List ControlField) (d : ControlField) (text : List ℕ) (old : List (Option (List ℕ))) → 1 ≤ length fs → length fs < 2 →
+    1 ≤ (get_or fs 0 d).level → (get_or fs 0 d).level ≤ 9 → set old ((get_or fs 0 d).level - 1) (Some (compared text (get_or fs 0 d))) ≡ renewed fs text 9 old
+alone_renewed [] d text old some few low high = absurd (omega (arith, some))
+alone_renewed (f ∷ []) d text old some few low high = sym (only_renewed f text old low high)
+alone_renewed (f ∷ g ∷ fs) d text old some few low high = absurd (omega (arith, few))

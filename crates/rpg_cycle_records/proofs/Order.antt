@@ -1,13 +1,13 @@
 -- The order of match values.
-use Rattle.std.proofs.Common.{◌≡◌, ℕ, zero, suc, ◌≤◌, ◌<◌, ◌-◌, Bool, true, false, not, ◌&&◌, List, [], ◌∷◌, ◌++◌, length, take, replicate, map, refl, sym, ap, ap₂, ◌∙◌, arith}
+use Rattle.std.proofs.Common.{◌≡◌, ℕ, ◌≤◌, ◌<◌, ◌+◌, ◌-◌, ◌==◌, Bool, true, false, not, ◌&&◌, List, [], ◌∷◌, ◌++◌, length, drop, get_or, map, replicate, refl, sym, ap, ap₂, ◌∙◌, arith, length-drop}
 use Rattle.std.specs.declared.cmp.Ordering.{Ordering}
 use Rattle.std.specs.declared.cmp.Ordering.TheVariants.{Less, Equal, Greater}
 use Rattle.std.specs.Cmp.{IsTotalOrder}
 use Rattle.std.specs.Cmp.Lexicographic.{on_texts, slice_cmp}
-use Rattle.std.specs.Ordering.{MatchOrdering, is_eq, is_gt, nat_cmp, ordering_reverse, ordering_then}
+use Rattle.std.specs.Ordering.{MatchOrdering, is_eq, is_gt, nat_cmp, ordering_index, ordering_reverse, ordering_then}
 use Rattle.std.specs.Cmp.{nat_cmp_is}
 use Rattle.std.proofs.lemmas.Cmp.{ranked, tied_itself, upto}
-use Rattle.std.proofs.lemmas.List.{length-take-le}
+use Rattle.std.proofs.lemmas.List.{drop_more}
 use Rattle.rpg_decimal_words.specs.Order.{character_cmp, padded_text, rank, text_cmp}
 use Rattle.rpg_cycle_records.specs.Matching.{is_greater, neither_is_greater, value_cmp}
 
@@ -72,39 +72,46 @@ tied Greater r e = refl
 pub same_is_equal : (v w : List ℕ) → neither_is_greater v w ≡ is_eq (value_cmp v w)
 same_is_equal v w = tied (value_cmp v w) (value_cmp w v) (total.antisymm w v)
 
--- ---- values are ordered by what both have places for, and then by their lengths
+-- ---- values are compared byte by byte, and then by their lengths
 
-one_more : (a b : ℕ) (o : Ordering) → o ≡ nat_cmp a b → o ≡ nat_cmp (suc a) (suc b)
-one_more a b o e = go o (ranked a b o e)
+pub same_byte : (x y : ℕ) → x ≡ y → character_cmp x y ≡ Equal
+same_byte x y e = ap (λ (z : ℕ). nat_cmp (rank x) (rank z)) (sym e) ∙ sym (nat_cmp_is (rank x) (rank x) Equal refl)
+
+pub value_more : (v w : List ℕ) (i : ℕ) → i < length v → i < length w →
+    value_cmp (drop i v) (drop i w) ≡ ordering_then (character_cmp (get_or v i 0) (get_or w i 0)) (value_cmp (drop (i + 1) v) (drop (i + 1) w))
+value_more v w i l m = ap₂ value_cmp (drop_more v i 0 l) (drop_more w i 0 m)
+
+shifted : (a b i : ℕ) → i ≤ a → i ≤ b → nat_cmp (a - i) (b - i) ≡ nat_cmp a b
+shifted a b i l m = go (nat_cmp (a - i) (b - i)) (ranked (a - i) (b - i) (nat_cmp (a - i) (b - i)) refl)
   where
-    go : (o : Ordering) → MatchOrdering o (a < b) (a ≡ b) (b < a) → o ≡ nat_cmp (suc a) (suc b)
-    go Less h = nat_cmp_is (suc a) (suc b) Less (omega (arith, h))
-    go Equal h = nat_cmp_is (suc a) (suc b) Equal (omega (arith, h))
-    go Greater h = nat_cmp_is (suc a) (suc b) Greater (omega (arith, h))
+    go : (o : Ordering) → MatchOrdering o (a - i < b - i) (a - i ≡ b - i) (b - i < a - i) → o ≡ nat_cmp a b
+    go Less h = nat_cmp_is a b Less (omega (arith, h))
+    go Equal h = nat_cmp_is a b Equal (omega (arith, h, l, m))
+    go Greater h = nat_cmp_is a b Greater (omega (arith, h))
 
-in_turn : (a b c : Ordering) → ordering_then (ordering_then a b) c ≡ ordering_then a (ordering_then b c)
-in_turn Less b c = refl
-in_turn Equal b c = refl
-in_turn Greater b c = refl
+one_ends : (v w : List ℕ) → (0 < length v → 0 < length w → ⊥) → value_cmp v w ≡ nat_cmp (length v) (length w)
+one_ends [] [] none = refl
+one_ends [] (y ∷ ys) none = nat_cmp_is 0 (length (y ∷ ys)) Less (omega arith)
+one_ends (x ∷ xs) [] none = nat_cmp_is (length (x ∷ xs)) 0 Greater (omega arith)
+one_ends (x ∷ xs) (y ∷ ys) none = absurd (none (omega arith) (omega arith))
 
-shared_first : (v w : List ℕ) (n : ℕ) → n ≤ length v → n ≤ length w → (n < length v → n < length w → ⊥) →
-    ordering_then (value_cmp (take n v) (take n w)) (nat_cmp (length v) (length w)) ≡ value_cmp v w
-shared_first [] [] zero l m none = refl
-shared_first [] (y ∷ ys) zero l m none = sym (nat_cmp_is 0 (length (y ∷ ys)) Less (omega arith))
-shared_first [] w (suc n) l m none = absurd (omega (arith, l))
-shared_first (x ∷ xs) [] zero l m none = sym (nat_cmp_is (length (x ∷ xs)) 0 Greater (omega arith))
-shared_first (x ∷ xs) [] (suc n) l m none = absurd (omega (arith, m))
-shared_first (x ∷ xs) (y ∷ ys) zero l m none = absurd (none (omega arith) (omega arith))
-shared_first (x ∷ xs) (y ∷ ys) (suc n) l m none =
-    in_turn (nat_cmp (rank x) (rank y)) (value_cmp (take n xs) (take n ys)) (nat_cmp (length (x ∷ xs)) (length (y ∷ ys)))
-    ∙ ap (ordering_then (nat_cmp (rank x) (rank y)))
-    (ap (ordering_then (value_cmp (take n xs) (take n ys))) (sym (one_more (length xs) (length ys) (nat_cmp (length xs) (length ys)) refl))
-    ∙ shared_first xs ys n (omega (arith, l)) (omega (arith, m)) (λ a b. none (omega (arith, a)) (omega (arith, b))))
+pub value_ends : (v w : List ℕ) (i : ℕ) → i ≤ length v → i ≤ length w → (i < length v → i < length w → ⊥) → value_cmp (drop i v) (drop i w) ≡ nat_cmp (length v) (length w)
+value_ends v w i l m none =
+    one_ends (drop i v) (drop i w) (λ a b. none (omega (arith, a, length-drop i v)) (omega (arith, b, length-drop i w)))
+    ∙ ap₂ nat_cmp (length-drop i v) (length-drop i w) ∙ shifted (length v) (length w) i l m
 
-pub by_shared : (v w a b : List ℕ) (n : ℕ) → a ≡ take n v → b ≡ take n w → n ≤ length v → n ≤ length w → (n < length v → n < length w → ⊥) →
-    ordering_then (text_cmp a b) (nat_cmp (length v) (length w)) ≡ value_cmp v w
-by_shared v w a b n e f l m none =
-    ap (λ o. ordering_then o (nat_cmp (length v) (length w)))
-    (sym (as_texts a b (ap (λ (x : List ℕ). length x) e ∙ length-take-le n v l ∙ sym (length-take-le n w m) ∙ sym (ap (λ (x : List ℕ). length x) f)))
-    ∙ ap₂ value_cmp e f)
-    ∙ shared_first v w n l m none
+pub then-other : (o rest : Ordering) → (o ≡ Equal → ⊥) → ordering_then o rest ≡ o
+then-other Less rest h = refl
+then-other Equal rest h = absurd (h refl)
+then-other Greater rest h = refl
+
+-- what the test `!=` of an order says
+pub other_order : (o : Ordering) → true ≡ not (ordering_index o == 1) → o ≡ Equal → ⊥
+other_order Less h = λ e. cc
+other_order Equal h = λ e. cc
+other_order Greater h = λ e. cc
+
+pub equal_order : (o : Ordering) → false ≡ not (ordering_index o == 1) → o ≡ Equal
+equal_order Less h = cc
+equal_order Equal h = refl
+equal_order Greater h = cc

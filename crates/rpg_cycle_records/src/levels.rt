@@ -1,5 +1,5 @@
 //! Control levels.
-ghost use Rattle.std.specs.Prelude.{◌≡◌, ◌∷◌, [], ◌++◌, ◌+◌, ◌-◌, ◌≤◌, ◌<◌, IfOk, OnOk, ℕ, length, map, slice_index_or, slice_range, Some, None, true, false, option_map, if◌then◌else◌};
+ghost use Rattle.std.specs.Prelude.{◌≡◌, ◌∷◌, [], ◌++◌, ◌+◌, ◌-◌, ◌≤◌, ◌<◌, IfOk, OnOk, ℕ, length, map, slice_index_or, slice_range, slice_set, Some, None, true, false, option_map, if◌then◌else◌};
 ghost use Rattle.std.specs.List.{All};
 ghost use Rattle.rpg_cycle_records.specs.Fitting.{IsControlIn};
 ghost use Rattle.rpg_cycle_records.specs.Earlier.{or_before};
@@ -8,6 +8,7 @@ ghost use Rattle.rpg_cycle_records.specs.Levels as spec;
 ghost use Rattle.rpg_cycle_records.specs.Fronts.{rest_following};
 ghost use Rattle.rpg_cycle_records.specs.Lasting.{are_last, is_last};
 
+use crate::matching::{is_plain, replace};
 use rpg_program::input::ControlField;
 use std::alloc::AllocError;
 
@@ -30,7 +31,7 @@ fn byte_of(is_numeric: bool, byte: u8) -> u8
 }
 
 /// The columns of a control field.
-fn columns_of(text: &[u8], field: ControlField) -> &[u8]
+pub(crate) fn columns_of(text: &[u8], field: ControlField) -> &[u8]
     requires { IsControlIn (length text.now) field }
     ensures { result.now ≡ slice_range text.now (field.from - 1) field.to }
 {
@@ -282,6 +283,50 @@ fn renew_all(
     Ok(broken)
 }
 
+/// Replaces the last bytes of the level of a control field that isn't numeric. Returns the level.
+#[inline(always)]
+fn renew_plain(
+    levels: &mut [LastBytes],
+    field: ControlField,
+    text: &[u8],
+) -> Result<usize, AllocError>
+    requires nine { length levels.old ≡ 9 }
+    requires inside { IsControlIn (length text.now) field }
+    requires low { 1 ≤ field.level }
+    requires high { field.level ≤ 9 }
+    requires plain { field.is_numeric ≡ false }
+    ensures level { IfOk result (λ n. n ≡ field.level) }
+    ensures kept { OnOk result (seen_levels levels.new ≡ slice_set (seen_levels levels.old) (field.level - 1) (Some (spec.compared text.now field))) }
+{
+    let level = usize::from(field.level);
+    let last = &mut levels[level - 1];
+    replace(&mut last.bytes, text, field)?;
+    last.is_known = true;
+    Ok(level)
+}
+
+/// Like `renew_all`, for a record that doesn't have all the last bytes: at once, if it has one control field that isn't numeric.
+#[inline(never)]
+fn renew_changed(
+    levels: &mut [LastBytes],
+    fields: &[ControlField],
+    text: &[u8],
+) -> Result<usize, AllocError>
+    requires nine { length levels.old ≡ 9 }
+    requires fields { All (IsControlIn (length text.now)) fields.now }
+    requires changed { are_last (seen_levels levels.old) text.now fields.now ≡ false }
+    ensures broken { IfOk result (λ n. n ≡ spec.broken_in fields.now text.now (seen_levels levels.old)) }
+    ensures low { IfOk result (λ n. n ≤ 9) }
+    ensures kept { OnOk result (seen_levels levels.new ≡ renewed fields.now text.now 9 (seen_levels levels.old)) }
+{
+    if let [field] = fields {
+        if is_plain(*field) {
+            return renew_plain(levels, *field, text);
+        }
+    }
+    renew_all(levels, fields, text)
+}
+
 /// Compares the levels of a record, padded to its length, with the last bytes, L1 first, and keeps the record's. Returns the highest level
 /// that differs, 1 to 9, or 0. Allocates only if a level's buffer is too small; after an error some levels may be kept and others not.
 #[inline(always)]
@@ -299,5 +344,5 @@ pub fn compare(
     if are_all_last(levels, fields, text) {
         return Ok(0);
     }
-    renew_all(levels, fields, text)
+    renew_changed(levels, fields, text)
 }

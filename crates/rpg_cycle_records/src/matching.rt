@@ -1,12 +1,14 @@
 //! Match values: a record's value, and how values compare.
-ghost use Rattle.std.specs.Prelude.{◌≡◌, ◌++◌, All, OnOk, Some, length};
+ghost use Rattle.std.specs.Prelude.{◌≡◌, ◌++◌, ◌≤◌, All, IsTrue, OnOk, Some, false, length};
 ghost use Rattle.rpg_cycle_records.specs.Fitting.{IsControlIn};
 ghost use Rattle.rpg_cycle_records.specs.Keeping.{seen_value};
+ghost use Rattle.rpg_cycle_records.specs.Levels.{compared};
 ghost use Rattle.rpg_cycle_records.specs.Matching as spec;
+ghost use Rattle.rpg_decimal_words.specs.Order.{character_cmp};
 
-use crate::levels::{add, join};
+use crate::levels::{columns_of, join};
 use crate::program::{file_of, match_fields};
-use rpg_decimal::compare_text;
+use rpg_decimal::rank;
 use rpg_program::input::{ControlField, InputFile};
 use rpg_verify::Verified;
 use std::alloc::{AllocError, Global};
@@ -47,8 +49,7 @@ impl MatchValue {
             return Ok(());
         }
         self.is_there = true;
-        self.bytes.clear();
-        join_down(&mut self.bytes, fields, text)
+        take_value(&mut self.bytes, fields, text)
     }
 
     /// Whether both values exist and this one is greater than the other.
@@ -116,27 +117,91 @@ impl LastValues {
     }
 }
 
-/// Appends the bytes of all levels, from L9 down: in one piece if there is one field, as in most types.
+/// Replaces bytes by those of all levels, from L9 down: in one piece if there is one field that isn't numeric, as in most types.
+#[inline(never)]
+fn take_value(bytes: &mut Vec<u8>, fields: &[ControlField], text: &[u8]) -> Result<(), AllocError>
+    requires { All (IsControlIn (length text.now)) fields.now }
+    ensures { OnOk result (bytes.new.items ≡ spec.joined_down fields.now text.now 9) }
+{
+    if fields.len() == 1 && is_plain(fields[0]) {
+        return replace(bytes, text, fields[0]);
+    }
+    bytes.clear();
+    join_down(bytes, fields, text)
+}
+
+/// Whether a control field is of a level, L1 to L9, and isn't numeric.
+pub(crate) fn is_plain(field: ControlField) -> bool
+    ensures low { IsTrue result → 1 ≤ field.level }
+    ensures high { IsTrue result → field.level ≤ 9 }
+    ensures plain { IsTrue result → field.is_numeric ≡ false }
+{
+    field.level >= 1 && field.level <= 9 && !field.is_numeric
+}
+
+/// Replaces bytes by those of a control field that isn't numeric. They usually have its length.
+#[inline(always)]
+#[tactic(auto, using(crate::proofs::Lasting::plain_columns))]
+pub(crate) fn replace(
+    bytes: &mut Vec<u8>,
+    text: &[u8],
+    field: ControlField,
+) -> Result<(), AllocError>
+    requires inside { IsControlIn (length text.now) field }
+    requires plain { field.is_numeric ≡ false }
+    ensures { OnOk result (bytes.new.items ≡ compared text.now field) }
+{
+    let columns = columns_of(text, field);
+    if bytes.len() == columns.len() {
+        bytes.as_mut_slice().copy_from_slice(columns);
+        return Ok(());
+    }
+    refill(bytes, columns)
+}
+
+/// Replaces bytes by others of any length. Separate from those of the same length, which need no allocator.
+#[inline(never)]
+fn refill(bytes: &mut Vec<u8>, others: &[u8]) -> Result<(), AllocError>
+    ensures { OnOk result (bytes.new.items ≡ others.now) }
+{
+    bytes.clear();
+    bytes.extend_from_slice(others)
+}
+
+/// Appends the bytes of all levels, from L9 down.
 #[inline(never)]
 fn join_down(bytes: &mut Vec<u8>, fields: &[ControlField], text: &[u8]) -> Result<(), AllocError>
     requires { All (IsControlIn (length text.now)) fields.now }
     ensures { OnOk result (bytes.new.items ≡ bytes.old.items ++ spec.joined_down fields.now text.now 9) }
 {
-    if fields.len() == 1 && fields[0].level >= 1 && fields[0].level <= 9 {
-        return add(bytes, text, fields[0]);
-    }
     for i in 0..9u8 {
         join(bytes, fields, text, 9 - i)?;
     }
     Ok(())
 }
 
-/// Compares two values at the first byte where they differ; if there is none, compares their lengths.
+/// Compares two bytes by their ranks.
+#[inline(always)]
+#[tactic(auto, using(crate::proofs::Order::same_byte))]
+fn compare_bytes(a: u8, b: u8) -> Ordering
+    ensures { result ≡ character_cmp a b }
+{
+    if a == b {
+        return Ordering::Equal;
+    }
+    rank(a).cmp(&rank(b))
+}
+
+/// Compares two values at the first byte where their ranks differ; if there is none, compares their lengths.
 #[inline(never)]
-#[tactic(auto, using(crate::proofs::Order::by_shared))]
 fn compare_values(a: &[u8], b: &[u8]) -> Ordering
     ensures { result ≡ spec.value_cmp a.now b.now }
 {
-    let shared = a.len().min(b.len());
-    compare_text(&a[..shared], &b[..shared]).then(a.len().cmp(&b.len()))
+    for place in 0..a.len().min(b.len()) {
+        let order = compare_bytes(a[place], b[place]);
+        if order != Ordering::Equal {
+            return order;
+        }
+    }
+    a.len().cmp(&b.len())
 }

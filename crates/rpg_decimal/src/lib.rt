@@ -18,7 +18,7 @@ pub use laws::{
 };
 pub use moves::{Source, move_left, move_left_text, move_right, move_right_text};
 pub use num::{Figure, Num, Rest, Scale, Target};
-pub use order::{compare, compare_text};
+pub use order::{compare, compare_text, rank};
 pub use pairs::pair_of;
 pub use whole::{align, fit};
 pub use zoned::{BadDigit, read_zoned, write_zoned};

@@ -45,7 +45,7 @@ pub fn compare(a: Num, b: Num) -> Ordering
 }
 
 /// Returns the rank of a character; any other byte comes after all of them, by its value.
-fn rank(c: u8) -> usize
+pub fn rank(c: u8) -> usize
     ensures { result ≡ rank c }
 {
     if c < 128 {

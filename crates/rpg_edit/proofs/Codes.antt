@@ -1,10 +1,10 @@
 -- The marks of edit codes are written part by part.
-use Rattle.std.proofs.Common.{◌≡◌, ℕ, zero, suc, ◌+◌, ◌-◌, ◌%◌, ◌<◌, ◌≤◌, ◌≢◌, Bool, false, true, ◌&&◌, eqb, sym, subst, append-nil, length-append, ◌∙◌, List, [], ◌∷◌, ◌++◌, length, refl, ap, arith, replicate}
+use Rattle.std.proofs.Common.{◌≡◌, ℕ, zero, suc, ◌+◌, ◌-◌, ◌%◌, ◌<◌, ◌≤◌, ◌≢◌, Bool, false, true, ◌&&◌, ◌||◌, eqb, sym, subst, append_assoc, length-append, ◌∙◌, List, [], ◌∷◌, ◌++◌, length, refl, ap, arith, replicate}
 use Rattle.rpg_edit.proofs.Written.{places-append, writes-more}
-use Rattle.rpg_edit.specs.Written.{marks_before, Writes}
+use Rattle.rpg_edit.specs.Written.{group_marks, is_at_whole, Writes}
 use Rattle.std.proofs.lemmas.Bool.Decides.{nat_tests}
 use Rattle.std.specs.Bool.{if◌then◌else◌}
-use Rattle.std.specs.Prelude.{max, nat_lt, not}
+use Rattle.std.specs.Prelude.{max, nat_le, nat_lt, not}
 use Rattle.rpg_edit.specs.declared.suppression.Pass.{Pass}
 use Rattle.rpg_edit_marks.specs.Code.{comma_marks, decimal_marks, kept_digits, whole_marks}
 use Rattle.rpg_edit_marks.specs.Edited.{places}
@@ -13,10 +13,10 @@ use Rattle.rpg_edit_marks.specs.declared.code.EditCode.TheVariants.{Combination}
 use Rattle.rpg_edit_marks.specs.declared.code.Ending.{Ending}
 use Rattle.rpg_edit_marks.specs.declared.mark.Mark.{Mark}
 use Rattle.rpg_edit_marks.specs.declared.mark.Mark.TheVariants.{Digit, Insert}
-use Rattle.rpg_edit_widths.proofs.Codes.{whole-more, whole_commas}
+use Rattle.rpg_edit_widths.proofs.Codes.{whole-more}
 
 -- fewer digits have fewer marks
-fewer-by : (commas : Bool) (left d : ℕ) → 1 + length (comma_marks commas left) + length (whole_marks commas left) ≤ length (whole_marks commas (d + suc left))
+fewer-by : (commas : Bool) (left d : ℕ) → 1 + d + length (comma_marks commas left) + length (whole_marks commas left) ≤ length (whole_marks commas (d + suc left))
 fewer-by commas left zero =
     let more = whole-more commas left in
     let same : 0 + suc left ≡ suc left = omega arith in
@@ -27,15 +27,11 @@ fewer-by commas left (suc d) =
     let same : suc d + suc left ≡ suc (d + suc left) = omega arith in
     rw same (omega (arith, before, more))
 
-pub whole-fewer : (commas : Bool) (left digits : ℕ) → left < digits → 1 + length (comma_marks commas left) + length (whole_marks commas left) ≤ length (whole_marks commas digits)
+whole-fewer : (commas : Bool) (left digits : ℕ) → left < digits → (digits - left) + length (comma_marks commas left) + length (whole_marks commas left) ≤ length (whole_marks commas digits)
 whole-fewer commas left digits h =
-    let all : (digits - suc left) + suc left ≡ digits = omega arith in
-    rw (← all) (fewer-by commas left (digits - suc left))
-
--- without commas they are digits alone
-pub plain_digits : (n : ℕ) → replicate n Digit ≡ whole_marks false n
-plain_digits zero = refl
-plain_digits (suc n) = ap (λ ms. Digit ∷ ms) (plain_digits n)
+    let d = digits - suc left in
+    let all : d + suc left ≡ digits = omega (arith, h) in
+    omega (arith, h, fewer-by commas left d, ap (λ n. length (whole_marks commas n)) all)
 
 pub digit_places : (n : ℕ) → places (replicate n Digit) ≡ n
 digit_places zero = refl
@@ -58,73 +54,113 @@ no_comma : (b : Bool) → b ≡ false → (if b then Insert 44 ∷ [] else []) �
 no_comma false e = refl
 no_comma true e = cc
 
-pub none_between : (left : ℕ) → left % 3 ≢ 0 → comma_marks true left ≡ []
-none_between left h = no_comma (nat_lt 0 left && eqb (left % 3) 0) (grind (arith, nat_tests))
+none_between : (commas : Bool) (left : ℕ) → left % 3 ≢ 0 → comma_marks commas left ≡ []
+none_between true left h = no_comma (nat_lt 0 left && eqb (left % 3) 0) (grind (arith, nat_tests))
+none_between false left h = refl
 
--- a full group is three digits, and a comma after them
-group_marks : (left : ℕ) → left % 3 ≡ 0 → replicate 3 Digit ++ (comma_marks true left ++ whole_marks true left) ≡ whole_marks true (left + 3)
-group_marks left full =
-    let same : left + 3 ≡ suc (suc (suc left)) = omega arith in
-    let first : comma_marks true (suc left) ≡ [] = none_between (suc left) (λ e. omega (arith, e, full)) in
-    let second : comma_marks true (suc (suc left)) ≡ [] = none_between (suc (suc left)) (λ e. omega (arith, e, full)) in
-    rw (same, second, first) refl
+none_front : (commas : Bool) → comma_marks commas 0 ++ whole_marks commas 0 ≡ []
+none_front true = refl
+none_front false = refl
 
-pub writes_group : (left : ℕ) (p q r s : Pass) (o o1 o2 o3 : List ℕ) → left % 3 ≡ 0 → Writes (whole_marks true left) p o q o1 → Writes (comma_marks true left) q o1 r o2 → Writes (replicate 3 Digit) r o2 s o3 →
-    Writes (whole_marks true (left + 3)) p o s o3
-writes_group left p q r s o o1 o2 o3 full before comma three =
-    subst (λ ms. Writes ms p o s o3) (group_marks left full)
-    (writes-more (comma_marks true left ++ whole_marks true left) (replicate 3 Digit) p r s o o2 o3
-    (writes-more (whole_marks true left) (comma_marks true left) p q r o o1 o2 before comma) three)
-
--- there is room for it
-pub group_room : (left digits : ℕ) → left % 3 ≡ 0 → 3 ≤ digits - left → 3 + length (comma_marks true left) + length (whole_marks true left) ≤ length (whole_marks true digits)
-group_room left digits full more =
-    let all : length (replicate 3 Digit ++ (comma_marks true left ++ whole_marks true left)) ≡ length (whole_marks true (left + 3)) = ap length (group_marks left full) in
-    let parts : length (comma_marks true left ++ whole_marks true left) ≡ length (comma_marks true left) + length (whole_marks true left) = length-append (comma_marks true left) (whole_marks true left) in
-    let three : length (replicate 3 Digit ++ (comma_marks true left ++ whole_marks true left)) ≡ 3 + length (comma_marks true left ++ whole_marks true left) = length-append (replicate 3 Digit) (comma_marks true left ++ whole_marks true left) in
-    omega (arith, all, parts, three, whole_commas (left + 3), whole_commas digits, more)
-
--- one and two digits in front of full groups
-last_marks : (left n : ℕ) → left % 3 ≡ 0 → 0 < n → n ≤ 2 → replicate n Digit ++ comma_marks true left ≡ marks_before true left n
-last_marks left zero full some few = absurd (omega arith)
-last_marks left (suc zero) full some few =
-    let same : left ≡ 0 + left = omega arith in
-    sym (append-nil (Digit ∷ comma_marks true left)) ∙ ap (λ k. (Digit ∷ comma_marks true k) ++ []) same
-last_marks left (suc (suc zero)) full some few =
-    let same : left ≡ 0 + left = omega arith in
-    let none : comma_marks true (1 + left) ≡ [] = none_between (1 + left) (λ e. omega (arith, e, full)) in
-    ap (λ ms. Digit ∷ ms) (sym (append-nil (Digit ∷ comma_marks true left)) ∙ ap (λ k. (Digit ∷ comma_marks true k) ++ []) same)
-    ∙ ap (λ ms. (Digit ∷ ms) ++ marks_before true left 1) (sym none)
-last_marks left (suc (suc (suc n))) full some few = absurd (omega arith)
-
-pub writes_last : (left n : ℕ) (p q r : Pass) (o o1 o2 : List ℕ) → left % 3 ≡ 0 → 0 < n → n ≤ 2 → Writes (comma_marks true left) p o q o1 → Writes (replicate n Digit) q o1 r o2 →
-    Writes (marks_before true left n) p o r o2
-writes_last left n p q r o o1 o2 full some few comma digits =
-    subst (λ ms. Writes ms p o r o2) (last_marks left n full some few) (writes-more (comma_marks true left) (replicate n Digit) p q r o o1 o2 comma digits)
-
--- the first group has no comma
-pub first_digits : (n : ℕ) → n ≤ 3 → replicate n Digit ≡ whole_marks true n
-first_digits zero few = refl
-first_digits (suc zero) few = refl
-first_digits (suc (suc zero)) few = refl
-first_digits (suc (suc (suc zero))) few = refl
-first_digits (suc (suc (suc (suc n)))) few = absurd (omega arith)
+-- at most three digits in front of full groups, and of the comma before these
+group_front : (commas : Bool) (written n : ℕ) → written % 3 ≡ 0 → n ≤ 3 → (n ≡ 0 → written ≡ 0) →
+    replicate n Digit ++ (comma_marks commas written ++ whole_marks commas written) ≡ whole_marks commas (written + n)
+group_front commas written zero full few none = let first = none refl in rw first (none_front commas)
+group_front commas written (suc zero) full few none = let same : written + 1 ≡ suc written = omega arith in rw same refl
+group_front commas written (suc (suc zero)) full few none =
+    let same : written + 2 ≡ suc (suc written) = omega arith in
+    let second : comma_marks commas (suc written) ≡ [] = none_between commas (suc written) (λ e. omega (arith, e, full)) in
+    rw (same, second) refl
+group_front commas written (suc (suc (suc zero))) full few none =
+    let same : written + 3 ≡ suc (suc (suc written)) = omega arith in
+    let second : comma_marks commas (suc written) ≡ [] = none_between commas (suc written) (λ e. omega (arith, e, full)) in
+    let third : comma_marks commas (suc (suc written)) ≡ [] = none_between commas (suc (suc written)) (λ e. omega (arith, e, full)) in
+    rw (same, third, second) refl
+group_front commas written (suc (suc (suc (suc n)))) full few none = absurd (omega arith)
 
 -- a comma is one mark
 comma_one : (b : Bool) → b ≡ true → (if b then Insert 44 ∷ [] else []) ≡ Insert 44 ∷ []
 comma_one true e = refl
 comma_one false e = cc
 
-pub one_comma : (left : ℕ) → left % 3 ≡ 0 → 0 < left → comma_marks true left ≡ Insert 44 ∷ []
-one_comma left full some = comma_one (nat_lt 0 left && eqb (left % 3) 0) (grind (arith, nat_tests))
+comma_front : (commas : Bool) (written : ℕ) → written % 3 ≡ 0 → (if commas then Insert 44 ∷ [] else []) ≡ comma_marks commas (written + 3)
+comma_front true written full = sym (comma_one (nat_lt 0 (written + 3) && eqb ((written + 3) % 3) 0) (grind (arith, nat_tests)))
+comma_front false written full = refl
 
--- no more digits always show than the decimals and one in front of them
-most_kept : (b : Bool) (dec : ℕ) → (if b then 0 else max dec 1) ≤ dec + 1
-most_kept true dec = omega arith
-most_kept false dec = omega arith
+-- one more full group, and the comma before it
+group_more : (commas : Bool) (written : ℕ) → written % 3 ≡ 0 →
+    group_marks commas ++ (comma_marks commas written ++ whole_marks commas written) ≡ comma_marks commas (written + 3) ++ whole_marks commas (written + 3)
+group_more commas written full =
+    append_assoc (if commas then Insert 44 ∷ [] else []) (replicate 3 Digit) (comma_marks commas written ++ whole_marks commas written)
+    ∙ ap (λ ms. (if commas then Insert 44 ∷ [] else []) ++ ms) (group_front commas written 3 full (omega arith) (λ e. omega (arith, e)))
+    ∙ ap (λ ms. ms ++ whole_marks commas (written + 3)) (comma_front commas written full)
 
-pub kept_most : (code : EditCode) (commas zeros : Bool) (ending : Ending) (len dec size : ℕ) → code ≡ Combination commas zeros ending → kept_digits code len dec size ≤ dec + 1
-kept_most code commas zeros ending len dec size is = rw is (most_kept (eqb size 0 && not zeros) dec)
+pub writes_none : (commas : Bool) (written : ℕ) (p : Pass) (o : List ℕ) → written ≡ 0 → Writes (comma_marks commas written ++ whole_marks commas written) p o p o
+writes_none commas written p o none =
+    let marks : [] ≡ comma_marks commas written ++ whole_marks commas written = sym (ap (λ n. comma_marks commas n ++ whole_marks commas n) none ∙ none_front commas) in
+    subst (λ ms. Writes ms p o p o) marks (record { text = refl; front = refl; same_length = refl; start = omega arith; after = omega arith; number = refl; suppression = refl })
+
+pub writes_group : (commas : Bool) (written : ℕ) (p q s : Pass) (o r t : List ℕ) → written % 3 ≡ 0 → Writes (comma_marks commas written ++ whole_marks commas written) p o q r →
+    Writes (group_marks commas) q r s t → Writes (comma_marks commas (written + 3) ++ whole_marks commas (written + 3)) p o s t
+writes_group commas written p q s o r t full before group =
+    subst (λ ms. Writes ms p o s t) (group_more commas written full)
+    (writes-more (comma_marks commas written ++ whole_marks commas written) (group_marks commas) p q s o r t before group)
+
+pub writes_front : (commas : Bool) (written n : ℕ) (p q s : Pass) (o r t : List ℕ) → written % 3 ≡ 0 → n ≤ 3 → (n ≡ 0 → written ≡ 0) →
+    Writes (comma_marks commas written ++ whole_marks commas written) p o q r → Writes (replicate n Digit) q r s t → Writes (whole_marks commas (written + n)) p o s t
+writes_front commas written n p q s o r t full few none before digits =
+    subst (λ ms. Writes ms p o s t) (group_front commas written n full few none)
+    (writes-more (comma_marks commas written ++ whole_marks commas written) (replicate n Digit) p q s o r t before digits)
+
+-- there is room for them
+pub group_room : (commas : Bool) (written digits : ℕ) → written % 3 ≡ 0 → written + 3 < digits →
+    length (group_marks commas) + length (comma_marks commas written ++ whole_marks commas written) ≤ length (whole_marks commas digits)
+group_room commas written digits full more =
+    omega (
+      arith,
+      length-append (group_marks commas) (comma_marks commas written ++ whole_marks commas written),
+      ap length (group_more commas written full),
+      length-append (comma_marks commas (written + 3)) (whole_marks commas (written + 3)),
+      whole-fewer commas (written + 3) digits more,
+    )
+
+pub front_room : (commas : Bool) (left written digits : ℕ) → written + left ≡ digits → (0 < written → 0 < left) →
+    left + length (comma_marks commas written ++ whole_marks commas written) ≤ length (whole_marks commas digits)
+front_room commas zero zero digits all some = rw (none_front commas) (omega arith)
+front_room commas zero (suc written) digits all some = absurd (omega (arith, some (omega arith)))
+front_room commas (suc left) written digits all some =
+    omega (arith, all, length-append (comma_marks commas written) (whole_marks commas written), whole-fewer commas written digits (omega (arith, all)))
+
+-- once the decimals are written, no more digits always show, or one and there are no decimals
+most_kept : (b : Bool) (dec after : ℕ) → dec ≤ after →
+    (nat_le (if b then 0 else max dec 1) after || (eqb after 0 && nat_le (if b then 0 else max dec 1) 1)) ≡ true
+most_kept true dec after h = grind (arith, nat_tests)
+most_kept false dec after h = grind (arith, nat_tests)
+
+pub kept_whole : (code : EditCode) (commas zeros : Bool) (ending : Ending) (len dec size after : ℕ) → code ≡ Combination commas zeros ending → dec ≤ after →
+    (nat_le (kept_digits code len dec size) after || (eqb after 0 && nat_le (kept_digits code len dec size) 1)) ≡ true
+kept_whole code commas zeros ending len dec size after is h = rw is (most_kept (eqb size 0 && not zeros) dec after h)
+
+-- and so after more digits
+whole_by : (kept after more : ℕ) → 0 < more → (nat_le kept after || (eqb after 0 && nat_le kept 1)) ≡ true →
+    (nat_le kept (after + more) || (eqb (after + more) 0 && nat_le kept 1)) ≡ true
+whole_by kept after more some h = grind (arith, nat_tests)
+
+pub still_whole : (p q : Pass) → is_at_whole p ≡ true → q.after ≡ p.after + 3 → q.suppression ≡ p.suppression → is_at_whole q ≡ true
+still_whole p q h after same =
+    ap (λ s. nat_le s.kept q.after || (eqb q.after 0 && nat_le s.kept 1)) same
+    ∙ ap (λ k. nat_le p.suppression.kept k || (eqb k 0 && nat_le p.suppression.kept 1)) after
+    ∙ whole_by p.suppression.kept p.after 3 (omega arith) h
+
+kept_by : (kept after : ℕ) → (nat_le kept after || (eqb after 0 && nat_le kept 1)) ≡ true → kept ≤ after + 1
+kept_by kept after h = grind (arith, nat_tests)
+
+pub kept_next : (p : Pass) → is_at_whole p ≡ true → p.suppression.kept ≤ p.after + 1
+kept_next p h = kept_by p.suppression.kept p.after h
+
+pub group_places : (commas : Bool) → places (group_marks commas) ≡ 3
+group_places true = refl
+group_places false = refl
 
 pub decimal_places : (dec : ℕ) → places (decimal_marks dec) ≡ dec
 decimal_places zero = refl

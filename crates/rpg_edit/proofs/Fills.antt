@@ -18,7 +18,6 @@ use Rattle.rpg_edit_marks.specs.Code.{comma_marks, whole_marks}
 use Rattle.rpg_edit_marks.specs.Edited.{character, is_begun, is_digit_place, places}
 use Rattle.rpg_edit.proofs.Written.{places-append, quotient_next, writes-more}
 use Rattle.rpg_edit.specs.Written.{characters_before, is_digit_last, is_suppressed, IsUsedUp, marks_before, Writes}
-use Rattle.rpg_edit_widths.proofs.Codes.{whole_plain, whole_commas}
 
 -- ---- what shows in front of a number that is used up
 
@@ -142,13 +141,10 @@ before_all commas left digits less = let same : (digits - left) + left ≡ digit
 pub before_length : (commas : Bool) (left digits : ℕ) → left ≤ digits → length (marks_before commas left (digits - left)) + length (whole_marks commas left) ≡ length (whole_marks commas digits)
 before_length commas left digits less = sym (length-append (marks_before commas left (digits - left)) (whole_marks commas left)) ∙ ap length (before_all commas left digits less)
 
-pub before_plain : (left digits : ℕ) → left ≤ digits → digits - left ≡ length (marks_before false left (digits - left))
-before_plain left digits less = omega (arith, less, before_length false left digits less, whole_plain left, whole_plain digits)
-
 -- they have the places in front of those that are written
-pub before_commas : (left digits end start : ℕ) → left ≤ digits → length (whole_marks true digits) ≤ end → start + length (whole_marks true left) ≡ end →
-    start ≡ (end - digits - (digits - 1) / 3) + length (marks_before true left (digits - left))
-before_commas left digits end start less room is = omega (arith, room, is, before_length true left digits less, whole_commas digits)
+pub before_start : (commas : Bool) (left digits end start : ℕ) → left ≤ digits → length (whole_marks commas digits) ≤ end → start + length (whole_marks commas left) ≡ end →
+    start ≡ (end - length (whole_marks commas digits)) + length (marks_before commas left (digits - left))
+before_start commas left digits end start less room is = omega (arith, room, is, before_length commas left digits less)
 
 pub before_many : (commas : Bool) (left n : ℕ) → n ≤ length (marks_before commas left n)
 before_many commas left n = omega (arith, before_places commas left n, count_by-le-length is_digit_place (marks_before commas left n))
@@ -183,14 +179,12 @@ or_left : (a b : Bool) → a ≡ true → (a || b) ≡ true
 or_left true b e = refl
 or_left false b e = cc
 
-pub plain_over : (left n kept after : ℕ) → (nat_lt kept after || is_digit_last (marks_before false left n)) ≡ true
-plain_over left n kept after = or_right (nat_lt kept after) _ (before_last false left n refl)
-
 -- with commas at most one digit is written, or more than always show
-pub commas_over : (left n old kept after : ℕ) → kept ≤ old + 1 → after ≡ old + left → (nat_lt kept after || is_digit_last (marks_before true left n)) ≡ true
-commas_over zero n old kept after few is = or_right (nat_lt kept after) _ (before_last true 0 n refl)
-commas_over (suc zero) n old kept after few is = or_right (nat_lt kept after) _ (before_last true 1 n refl)
-commas_over (suc (suc left)) n old kept after few is = or_left (nat_lt kept after) _ (grind (arith, nat_tests))
+pub whole_over : (commas : Bool) (left n old kept after : ℕ) → kept ≤ old + 1 → after ≡ old + left → (nat_lt kept after || is_digit_last (marks_before commas left n)) ≡ true
+whole_over false left n old kept after few is = or_right (nat_lt kept after) _ (before_last false left n refl)
+whole_over true zero n old kept after few is = or_right (nat_lt kept after) _ (before_last true 0 n refl)
+whole_over true (suc zero) n old kept after few is = or_right (nat_lt kept after) _ (before_last true 1 n refl)
+whole_over true (suc (suc left)) n old kept after few is = or_left (nat_lt kept after) _ (grind (arith, nat_tests))
 
 -- ---- one fill is what these marks show
 

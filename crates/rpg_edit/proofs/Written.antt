@@ -1,8 +1,8 @@
 -- Texts written from the last mark to the first.
-use Rattle.std.proofs.Common.{◌-◌, ℤ, unsigned_abs, ◌≡◌, ℕ, suc, ◌+◌, ◌/◌, ◌^◌, ◌≤◌, Bool, List, [], ◌∷◌, ◌++◌, length, take, drop, refl, sym, ap, ◌∙◌, arith, append_assoc, length-append, length-drop, append-nil, add-one, pow-suc, get_or, drop-cons, ◌<◌, replicate, subst}
+use Rattle.std.proofs.Common.{◌-◌, ℤ, unsigned_abs, ◌≡◌, ℕ, suc, ◌+◌, ◌/◌, ◌^◌, ◌≤◌, Bool, List, [], ◌∷◌, ◌++◌, length, take, drop, refl, sym, ap, ◌∙◌, arith, append_assoc, length-append, length-drop, append-nil, add-one, pow-suc, get_or, drop-cons, ◌<◌, replicate}
 use Rattle.rpg_edit_marks.specs.declared.mark.Mark.TheVariants.{Digit}
 use Rattle.std.proofs.Math.Nat.{div-div-eq-div-mul}
-use Rattle.std.proofs.lemmas.List.{replicate-append-replicate, take-take, drop_all, take-append-drop, take_all}
+use Rattle.std.proofs.lemmas.List.{take-take, drop_all, take-append-drop, take_all}
 use borrow.Rule.Slice.PartMut.{put_mid, mid_of, post_of}
 use Rattle.std.specs.Int.{is_negative}
 use Rattle.std.proofs.lemmas.List.Sums.{sum_by-append}
@@ -100,10 +100,3 @@ finished_text marks n kept fill old new at change last w e =
     ∙ ap (λ xs. xs ++ last) w.front
     ∙ ap (λ i. take i old ++ last) w.is_start
     ∙ ap (λ xs. take (length old - length marks) old ++ xs) (e ∙ ap change (whole ∙ w.text))
-
--- and so more digits
-pub writes_digits : (n m : ℕ) (p q s : Pass) (o r t : List ℕ) → Writes (replicate n Digit) p o q r → Writes (replicate m Digit) q r s t → Writes (replicate (n + m) Digit) p o s t
-writes_digits n m p q s o r t before more =
-    let same : m + n ≡ n + m = omega arith in
-    subst (λ ms. Writes ms p o s t) (replicate-append-replicate m n Digit ∙ ap (λ k. replicate k Digit) same)
-    (writes-more (replicate n Digit) (replicate m Digit) p q s o r t before more)

@@ -1,9 +1,10 @@
 -- Numbers written from the last mark to the first.
-use Rattle.std.specs.Prelude.{◌≡◌, ℕ, ℤ, zero, suc, ◌+◌, ◌-◌, ◌%◌, ◌<◌, ◌≤◌, Bool, false, true, ◌||◌, nat_le, nat_lt, IsTrue, List, [], ◌∷◌, ◌++◌, length, replicate, take, drop, unsigned_abs}
+use Rattle.std.specs.Prelude.{◌≡◌, ℕ, ℤ, zero, suc, ◌+◌, ◌-◌, ◌/◌, ◌%◌, ◌<◌, ◌≤◌, ◌==◌, Bool, false, true, ◌&&◌, ◌||◌, if◌then◌else◌, nat_le, nat_lt, IsTrue, List, [], ◌∷◌, ◌++◌, length, replicate, take, drop, unsigned_abs}
 use Rattle.std.specs.Int.{is_negative}
 use Rattle.std.specs.List.{list_all}
 use Rattle.rpg_edit_marks.specs.declared.mark.Mark.{Mark}
 use Rattle.rpg_edit_marks.specs.declared.mark.Mark.TheVariants.{Digit, Insert, Always, Sign}
+use Rattle.rpg_edit.specs.declared.groups.Group.{Group}
 use Rattle.rpg_edit.specs.declared.suppression.Pass.{Pass}
 use Rattle.rpg_edit_marks.specs.Code.{comma_marks, whole_marks}
 use Rattle.rpg_edit_marks.specs.Edited.{is_begun, is_digit_place, places, character}
@@ -49,38 +50,24 @@ pub record WritesTo (marks : List Mark) (left : ℕ) (old : Pass) (before : List
   pub writes : Writes marks old before new now
   pub rest : new.rest ≡ left
 
--- one or two digits are written, at most as many as allowed; if fewer, nothing is left of the number
-pub record WritesLast (digits written : ℕ) (old : Pass) (before : List ℕ) (new : Pass) (now : List ℕ) : Type 0 where
-  pub some : 0 < written
-  pub two : written ≤ 2
-  pub most : written ≤ digits
-  pub writes : Writes (replicate written Digit) old before new now
-  pub used : written < digits → new.rest ≡ 0
-
--- at most two digits more may be written, or fewer than three are left of the number
+-- at most three digits more may be written, or fewer than four are left of the number
 abbrev pub AreFewLeft : ℕ → Pass → Type 0
-AreFewLeft more p = IsTrue (nat_le more 2 || nat_lt p.rest 100)
+AreFewLeft more p = IsTrue (nat_le more 3 || nat_lt p.rest 1000)
 
--- three digits or more are written, at most as many as allowed, and then few are left
-pub record WritesThrees (digits written : ℕ) (old : Pass) (before : List ℕ) (new : Pass) (now : List ℕ) : Type 0 where
-  pub least : 3 ≤ written
-  pub most : written ≤ digits
-  pub few : AreFewLeft (digits - written) new
-  pub writes : Writes (replicate written Digit) old before new now
+-- the digits that always show are written, or none is yet, of one at most
+abbrev pub is_at_whole : Pass → Bool
+is_at_whole p = nat_le p.suppression.kept p.after || ((p.after == 0) && nat_le p.suppression.kept 1)
 
--- full groups of three digits, at least one, of no more digits than there are
-pub record AreGroups (digits written : ℕ) : Type 0 where
-  pub full : written % 3 ≡ 0
-  pub some : 0 < written
-  pub most : written ≤ digits
+-- the characters of the last three digits of a number, and of a comma
+pub record IsGroupOf (n : ℕ) (group : Group) : Type 0 where
+  pub comma : group.comma ≡ 44
+  pub hundreds : group.hundreds ≡ 48 + n / 10 / 10 % 10
+  pub tens : group.tens ≡ 48 + n / 10 % 10
+  pub ones : group.ones ≡ 48 + n % 10
 
--- full groups are written, with a comma between any two, and then few digits are left
-pub record WritesGroups (digits written : ℕ) (old : Pass) (before : List ℕ) (new : Pass) (now : List ℕ) : Type 0 where
-  pub full : written % 3 ≡ 0
-  pub least : 3 ≤ written
-  pub most : written ≤ digits
-  pub few : AreFewLeft (digits - written) new
-  pub writes : Writes (whole_marks true written) old before new now
+-- three digits, and a comma before them if there are commas
+abbrev pub group_marks : Bool → List Mark
+group_marks commas = (if commas then Insert 44 ∷ [] else []) ++ replicate 3 Digit
 
 -- digits, and characters between them, which show the fill in front of a number
 abbrev pub is_suppressed : Mark → Bool
@@ -113,11 +100,11 @@ pub record WritesShown (digits written : ℕ) (old : Pass) (before : List ℕ) (
   pub writes : Writes (replicate written Digit) old before new now
   pub used : written < digits → IsUsedUp new
 
--- digits with commas between groups are written, at most as many as allowed; if fewer, no more are printed
-pub record WritesGrouped (digits written : ℕ) (old : Pass) (before : List ℕ) (new : Pass) (now : List ℕ) : Type 0 where
-  pub most : written ≤ digits
-  pub writes : Writes (whole_marks true written) old before new now
-  pub used : written < digits → IsUsedUp new
+-- digits are written, with commas if there are any, and these are left; if any are, no more are printed
+pub record WritesWhole (commas : Bool) (digits left : ℕ) (old : Pass) (before : List ℕ) (new : Pass) (now : List ℕ) : Type 0 where
+  pub most : left ≤ digits
+  pub writes : Writes (whole_marks commas (digits - left)) old before new now
+  pub used : 0 < left → IsUsedUp new
 
 -- the next digit shows
 abbrev pub is_clear : Pass → Bool
@@ -131,10 +118,3 @@ are_clear p = nat_le 10 p.rest || nat_le (p.after + 2) p.suppression.kept
 abbrev pub marks_before : Bool → ℕ → ℕ → List Mark
 marks_before commas left zero = []
 marks_before commas left (suc n) = (Digit ∷ comma_marks commas (n + left)) ++ marks_before commas left n
-
--- after full groups come more digits and a comma, at most as many in all as allowed; if fewer, no more are printed
-pub record WritesAfter (digits full written : ℕ) (old : Pass) (before : List ℕ) (new : Pass) (now : List ℕ) : Type 0 where
-  pub most : written ≤ digits
-  pub more : full ≤ written
-  pub writes : Writes (marks_before true full (written - full)) old before new now
-  pub used : written < digits → IsUsedUp new

@@ -4,9 +4,10 @@
 //! what is left of the number after it is divided by ten for each digit written.
 
 ghost use Rattle.std.specs.Prelude.{◌≡◌, ◌+◌, ◌-◌, ◌/◌, ◌%◌, ◌^◌, ◌<◌, ◌≤◌, List, ◌==◌, [], ◌∷◌, length, nat_le, not, replicate, true, unsigned_abs};
-ghost use Rattle.rpg_edit_marks.specs.Edited.{character, digit_character, is_begun};
-ghost use Rattle.rpg_edit.specs.Written.{are_clear, is_clear, AreFewLeft, AreSuppressed, Begins, HasRoom, IsUsedUp, PassesDigit, Writes, WritesLast, WritesShown, WritesThrees, WritesTo};
+ghost use Rattle.rpg_edit_marks.specs.Edited.{character, digit_character};
+ghost use Rattle.rpg_edit.specs.Written.{are_clear, group_marks, is_at_whole, is_clear, AreFewLeft, AreSuppressed, Begins, HasRoom, IsGroupOf, IsUsedUp, PassesDigit, Writes, WritesShown, WritesTo};
 
+use crate::groups::{Group, group_of};
 use crate::suppression::{Number, Pass};
 use rpg_decimal::pair_of;
 use rpg_edit_marks::Mark;
@@ -44,14 +45,6 @@ impl Pass {
             Mark::Sign(character) if self.number.negative => character,
             Mark::Sign(_) => b' ',
         }
-    }
-
-    /// Whether any of the number is left: then the next digit, or a character before it, is printed.
-    pub(crate) fn is_left(&self) -> bool
-        ensures begun { result ≡ is_begun self.now.number.size self.now.after }
-        ensures rest { result ≡ not (self.now.rest == 0) }
-    {
-        self.rest != 0
     }
 
     /// Whether the next digit is printed.
@@ -213,96 +206,114 @@ impl Pass {
         self.pass_digit(rest);
     }
 
-    /// Whether enough of the number is left to print three more digits.
-    pub(crate) fn has_three(&self) -> bool
-        ensures { result ≡ nat_le 100 self.now.rest }
+    /// Whether at least four digits of the number are left.
+    pub(crate) fn has_four(&self) -> bool
+        ensures { result ≡ nat_le 1000 self.now.rest }
     {
-        self.rest >= 100
+        self.rest >= 1000
     }
 
-    /// Writes three digits of what is left of the number, all of which are printed, by one division of it.
+    /// Writes three printed digits, of a number that is `rest` without them.
     #[inline(always)]
-    pub(crate) fn put_three(&mut self, out: &mut [u8])
+    fn put_three(&mut self, group: Group, rest: u64, out: &mut [u8])
         requires left { 100 ≤ self.old.rest }
+        requires group { IsGroupOf self.old.rest group }
+        requires rest { rest ≡ self.old.rest / 1000 }
         requires room { HasRoom 3 self.old out.old }
-        ensures { Writes (replicate 3 Mark.Digit) self.old out.old self.new out.new }
+        ensures { WritesTo (replicate 3 Mark.Digit) rest self.old out.old self.new out.new }
+    {
+        self.put_known(group.ones, self.rest / 10, out);
+        self.put_known(group.tens, self.rest / 10, out);
+        self.put_known(group.hundreds, rest, out);
+    }
+
+    /// Writes the comma of a group, before which some of the number is left.
+    #[inline(always)]
+    fn put_comma(&mut self, comma: u8, out: &mut [u8])
+        requires left { 0 < self.old.rest }
+        requires room { HasRoom 1 self.old out.old }
+        ensures { WritesTo (Mark.Insert comma ∷ []) self.old.rest self.old out.old self.new out.new }
+    {
+        self.start -= 1;
+        out[self.start] = comma;
+    }
+
+    /// Writes the next three digits of a number that has more, and a comma before them if there are commas.
+    #[inline(always)]
+    pub(crate) fn put_group(&mut self, commas: bool, out: &mut [u8])
+        requires left { 1000 ≤ self.old.rest }
+        requires room { HasRoom (length (group_marks commas)) self.old out.old }
+        ensures { WritesTo (group_marks commas) (self.old.rest / 1000) self.old out.old self.new out.new }
     {
         let rest = self.rest / 1000;
-        let three = (self.rest - rest * 1000) as u32;
-        let hundreds = three / 100;
-        self.put_pair((three - hundreds * 100) as u8, self.rest / 100, out);
-        self.put_known(b'0' + hundreds as u8, rest, out);
+        let group = group_of((self.rest - rest * 1000) as u16);
+        self.put_three(group, rest, out);
+        if commas {
+            self.put_comma(group.comma, out);
+        }
     }
 
-    /// Writes one or two digits of a number that has no more, or if `most` allows no more. Returns how many: `most`, or as many as are
-    /// left.
+    /// Writes three printed digits: without a division if there are no more.
     #[inline(always)]
-    pub(crate) fn put_last_digits(&mut self, most: usize, out: &mut [u8]) -> usize
-        requires shows { is_clear self.old ≡ true }
-        requires some { 0 < most }
-        requires few { AreFewLeft most self.old }
-        requires room { HasRoom most self.old out.old }
-        ensures { WritesLast most result self.old out.old self.new out.new }
+    fn put_next_three(&mut self, out: &mut [u8])
+        requires left { 100 ≤ self.old.rest }
+        requires room { HasRoom 3 self.old out.old }
+        ensures { WritesTo (replicate 3 Mark.Digit) (self.old.rest / 1000) self.old out.old self.new out.new }
     {
-        if most == 1 || self.rest < 10 {
-            self.put_clear_digit(out);
-            return 1;
+        if self.rest < 1000 {
+            self.put_three(group_of(self.rest as u16), 0, out);
+        } else {
+            self.put_group(false, out);
         }
+    }
+
+    /// Writes two printed digits: without a division if there are no more.
+    #[inline(always)]
+    fn put_next_two(&mut self, out: &mut [u8])
+        requires left { 10 ≤ self.old.rest }
+        requires room { HasRoom 2 self.old out.old }
+        ensures { WritesTo (replicate 2 Mark.Digit) (self.old.rest / 100) self.old out.old self.new out.new }
+    {
         if self.rest < 100 {
             self.put_pair(self.rest as u8, 0, out);
         } else {
             self.put_two(out);
         }
-        2
     }
 
-    /// Writes those digits of such a number that are printed, if any.
+    /// Whether the next digit is printed, of a number that isn't zero if anything is left of it.
+    #[inline(always)]
+    fn is_next_clear(&self) -> bool
+        requires { is_at_whole self.now ≡ true }
+        ensures { result ≡ is_clear self.now }
+    {
+        self.rest != 0 || (self.number.size == 0 && self.is_clear())
+    }
+
+    /// Writes the printed digits, three at most, of a number that has no more, or if `most` allows no more. Returns how many: `most`,
+    /// unless no more are printed.
     #[inline(always)]
     pub(crate) fn put_first_digits(&mut self, most: usize, out: &mut [u8]) -> usize
-        requires kept { self.old.suppression.kept ≤ self.old.after + 1 }
+        requires kept { is_at_whole self.old ≡ true }
         requires few { AreFewLeft most self.old }
         requires room { HasRoom most self.old out.old }
-        ensures two { result ≤ 2 }
+        ensures three { result ≤ 3 }
+        ensures some { 0 < most → 0 < self.old.rest → 0 < result }
         ensures shown { WritesShown most result self.old out.old self.new out.new }
     {
-        if most == 0 || !self.is_clear() {
+        if most >= 3 && self.rest >= 100 {
+            self.put_next_three(out);
+            return 3;
+        }
+        if most >= 2 && self.rest >= 10 {
+            self.put_next_two(out);
+            return 2;
+        }
+        if most == 0 || !self.is_next_clear() {
             return 0;
         }
-        self.put_last_digits(most, out)
-    }
-
-    /// Writes printed digits three at a time while three more are left, but no more than `most`. Returns how many.
-    #[inline(always)]
-    fn put_threes(&mut self, most: usize, out: &mut [u8]) -> usize
-        requires least { 3 ≤ most }
-        requires left { 100 ≤ self.old.rest }
-        requires room { HasRoom most self.old out.old }
-        ensures { WritesThrees most result self.old out.old self.new out.new }
-    {
-        self.put_three(out);
-        let mut written = 3;
-        while most - written >= 3 && self.has_three() {
-            self.put_three(out);
-            written += 3;
-        }
-        written
-    }
-
-    /// Writes the printed digits, but no more than `most`. Returns how many: `most`, unless no more are printed.
-    #[inline(always)]
-    pub(crate) fn put_shown_digits(&mut self, most: usize, out: &mut [u8]) -> usize
-        requires kept { self.old.suppression.kept ≤ self.old.after + 1 }
-        requires room { HasRoom most self.old out.old }
-        ensures { WritesShown most result self.old out.old self.new out.new }
-    {
-        if most < 3 || !self.has_three() {
-            return self.put_first_digits(most, out);
-        }
-        let written = self.put_threes(most, out);
-        if written == most || !self.is_left() {
-            return written;
-        }
-        written + self.put_last_digits(most - written, out)
+        self.put_clear_digit(out);
+        1
     }
 
     pub(crate) fn put_digits(&mut self, count: u8, out: &mut [u8])
