@@ -10,7 +10,6 @@ use Rattle.rpg_program.specs.Entries.{position_of}
 use Rattle.rpg_program.specs.Forms.{form_at, kind_of}
 use Rattle.rpg_program.specs.LineFaults.{AreRight, field_fault, fits_source}
 use Rattle.rpg_program.specs.Lines.{Draft, Drafted, after_movement, after_skip, after_skip_to, after_space, assembled, blank_line, blanked_all, blanked_at, with_page_counted, drafted, exception_output, go_on_with, is_due, laid, line_out, lines_out, one_out, put_on, write_line_out, remembered, spaced_before, unless_faulty, where_due, with_field, with_fields}
-use Rattle.rpg_program.specs.Showing.{turned_on}
 use Rattle.rpg_program.specs.Values.{Number, Text, Value, number_of}
 use Rattle.rpg_program.specs.World.{Fields, World, three_hold, value_in}
 use Rattle.rpg_program.specs.declared.form.FieldForm.{FieldForm}

@@ -18,6 +18,7 @@ pub mod NeverWrong
 pub mod OneRun
 pub mod Orderly
 pub mod Paying
+pub mod Passing
 pub mod Ran
 pub mod Ranges
 pub mod Readiness
@@ -27,4 +28,5 @@ pub mod Safe
 pub mod Standing
 pub mod Starting
 pub mod Steps
+pub mod Transfers
 pub mod Work

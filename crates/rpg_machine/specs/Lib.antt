@@ -6,6 +6,7 @@ pub mod Codes
 pub mod Config
 pub mod Control
 pub mod Finding
+pub mod Idle
 pub mod Laws
 pub mod Leaving
 pub mod Outputs

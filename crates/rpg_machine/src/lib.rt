@@ -4,6 +4,7 @@
 mod accepted;
 mod cells;
 pub mod control;
+mod idle;
 pub mod laws;
 mod machine;
 mod output;
@@ -12,6 +13,7 @@ mod precomputed_steps;
 mod section;
 mod state;
 pub mod time;
+mod transfer;
 
 pub use machine::Machine;
 pub use rpg_machine_lines::Output;
