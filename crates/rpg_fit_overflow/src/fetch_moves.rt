@@ -261,7 +261,8 @@ impl Steps {
     }
 
     fn push(&mut self, template: &[u8], words: &[Word]) {
-        self.cards.push(self.calculation(template, words));
+        let card = self.calculation(template, words);
+        self.cards.push(card);
     }
 
     /// Prints the lines since the last fetch.
