@@ -21,11 +21,8 @@ use Rattle.rpg_sheet_specs.specs.declared.spec.Spec.{Spec}
 
 -- the level indicator that it waits for, L1 to L9 or LR
 abbrev pub awaited_level : ControlLevel → Option ℕ
-awaited_level control.Detail = None
 awaited_level (control.Total n) = if n == 100 then None else Some n
-awaited_level control.Subroutine = None
-awaited_level control.And = None
-awaited_level control.Or = None
+awaited_level _ = None
 
 -- a condition on a card as one of a program's rows
 abbrev pub condition_of : sheet.ConditionSpec → Condition
@@ -53,11 +50,8 @@ tests_on k = if depends k then conditions_on k ∷ [] else []
 
 -- an OR card
 abbrev pub is_or : ControlLevel → Bool
-is_or control.Detail = false
-is_or (control.Total n) = false
-is_or control.Subroutine = false
-is_or control.And = false
 is_or control.Or = true
+is_or _ = false
 
 -- an AN card continues the alternative, an OR card begins one
 abbrev pub alternatives : List Conditions → List CalculationSpec → List (List Conditions)

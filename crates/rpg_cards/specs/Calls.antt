@@ -8,14 +8,12 @@ use Rattle.rpg_cards.specs.declared.labels.Label.{Label}
 use Rattle.rpg_cards.specs.declared.labels.Named.{Named}
 use Rattle.rpg_cards.specs.declared.labels.Section.{Section}
 use Rattle.rpg_symbols.specs.Chains.{Call, Calls}
-use Rattle.rpg_cards.specs.declared.labels.Section.TheVariants.{Detail, Outside, Subroutine, Total}
+use Rattle.rpg_cards.specs.declared.labels.Section.TheVariants.{Subroutine}
 
 -- the number of a subroutine's section
 abbrev pub subroutine_in : Section → Option ℕ
-subroutine_in Detail = None
-subroutine_in Total = None
 subroutine_in (Subroutine n) = Some n
-subroutine_in Outside = None
+subroutine_in _ = None
 
 -- the subroutine that a name calls, if the source has it
 abbrev pub called_subroutine : List Label → Named → Option ℕ

@@ -41,10 +41,9 @@ same_use u v = false
 
 -- a file that is read
 abbrev pub is_input : FileUse → Bool
-is_input Primary = true
-is_input Secondary = true
 is_input Printer = false
 is_input Disk = false
+is_input _ = true
 
 -- a file that is written
 abbrev pub is_output : FileUse → Bool

@@ -106,11 +106,9 @@ input_role s = role_on input_card_role (input_on s)
 
 -- AN and OR cards continue the calculation above them
 abbrev pub joins : ControlLevel → Bool
-joins control.Detail = false
-joins (control.Total i) = false
-joins control.Subroutine = false
 joins control.And = true
 joins control.Or = true
+joins _ = false
 
 -- a line, its AND and OR cards and its field cards
 abbrev pub output_card_role : OutputSpec → Role OutputRecord OutputSpec

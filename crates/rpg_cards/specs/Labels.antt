@@ -2,7 +2,7 @@
 use Rattle.std.specs.Prelude.{ℕ, suc, ◌-◌, List, [], ◌∷◌, ◌++◌, Bool, true, false, ◌&&◌, ◌||◌, if◌then◌else◌, Option, None, Some, find}
 use Rattle.std.specs.List.{filter, last_or}
 use Rattle.std.specs.Option.{option_map, option_map_or, option_to_list}
-use Rattle.rpg_cards.specs.Statements.{Acts, Begins, Calculation, Executes, Statement, Ends, GoesTo, Marks, Nothing, WritesExceptions}
+use Rattle.rpg_cards.specs.Statements.{Begins, Calculation, Executes, Statement, Ends, GoesTo, Marks}
 use Rattle.rpg_cards.specs.Keys.{Key, Name}
 use Rattle.rpg_cards.specs.Sections.{is_same_name, is_subroutine}
 use Rattle.rpg_cards.specs.declared.labels.Label.{Label}
@@ -17,24 +17,12 @@ use Rattle.rpg_sheet_specs.specs.declared.calculation.ControlLevel.TheVariants a
 -- BEGSR
 abbrev pub is_begsr : Statement Key → Bool
 is_begsr (Begins n) = true
-is_begsr (Acts a) = false
-is_begsr WritesExceptions = false
-is_begsr (GoesTo l) = false
-is_begsr (Executes n) = false
-is_begsr (Marks l) = false
-is_begsr (Ends l) = false
-is_begsr Nothing = false
+is_begsr _ = false
 
 -- ENDSR
 abbrev pub is_endsr : Statement Key → Bool
 is_endsr (Ends l) = true
-is_endsr (Acts a) = false
-is_endsr WritesExceptions = false
-is_endsr (GoesTo l) = false
-is_endsr (Executes n) = false
-is_endsr (Marks l) = false
-is_endsr (Begins n) = false
-is_endsr Nothing = false
+is_endsr _ = false
 
 -- a BEGSR on an SR card
 abbrev pub begins_subroutine : Calculation Key → Bool
@@ -67,8 +55,7 @@ abbrev pub section_by : List (Calculation Key) → Bool → ControlLevel → Sec
 section_by before is_first control.Detail = Detail
 section_by before is_first (control.Total i) = Total
 section_by before is_first control.Subroutine = subroutine_at before is_first
-section_by before is_first control.And = Outside
-section_by before is_first control.Or = Outside
+section_by before is_first _ = Outside
 
 -- the section of a calculation, given those before it
 abbrev pub section_of : List (Calculation Key) → Calculation Key → Section
@@ -93,22 +80,13 @@ abbrev pub defined_name : Statement Key → Option Named
 defined_name (Marks l) = as_label l
 defined_name (Ends l) = as_label l
 defined_name (Begins n) = as_subroutine n
-defined_name (Acts a) = None
-defined_name WritesExceptions = None
-defined_name (GoesTo l) = None
-defined_name (Executes n) = None
-defined_name Nothing = None
+defined_name _ = None
 
 -- GOTO and EXSR refer to one
 abbrev pub target_name : Statement Key → Option Named
 target_name (GoesTo l) = as_label l
 target_name (Executes n) = as_subroutine n
-target_name (Acts a) = None
-target_name WritesExceptions = None
-target_name (Marks l) = None
-target_name (Begins n) = None
-target_name (Ends l) = None
-target_name Nothing = None
+target_name _ = None
 
 -- the label or subroutine that a calculation defines, with its section
 abbrev pub label_at : List (Calculation Key) → Calculation Key → Option Label

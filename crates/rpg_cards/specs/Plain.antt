@@ -1,6 +1,6 @@
 -- What holds of the sections of a source without faults: what the rules on targets, calls, returns and levels require.
 use Rattle.std.specs.Prelude.{◌≡◌, ℕ, suc, ◌≤◌, Bool, true, false, ◌||◌, List, [], ◌∷◌, ◌++◌, length, Option, None, Some}
-use Rattle.rpg_cards.specs.Statements.{Acts, Begins, Calculation, Executes, Statement, Ends, GoesTo, Marks, Nothing, WritesExceptions, tests}
+use Rattle.rpg_cards.specs.Statements.{Calculation, Executes, Statement, Ends, GoesTo, tests}
 use Rattle.rpg_cards.specs.Keys.{Key, Name}
 use Rattle.rpg_symbols.specs.Chains.{Calls, NoCallLeadsBack}
 use Rattle.rpg_cards.specs.Sections.{Sections, Subroutine, callee, is_same_name, label_on}
@@ -23,48 +23,24 @@ defines_subroutine n (s ∷ ss) = is_same_name n s.name || defines_subroutine n 
 -- a GOTO's label is among these
 abbrev pub HasGoal : List (Calculation Key) → Statement Key → Type 0
 HasGoal gs (GoesTo l) = has_label l gs ≡ true
-HasGoal gs (Acts a) = Unit {0}
-HasGoal gs WritesExceptions = Unit {0}
-HasGoal gs (Executes n) = Unit {0}
-HasGoal gs (Marks l) = Unit {0}
-HasGoal gs (Begins n) = Unit {0}
-HasGoal gs (Ends l) = Unit {0}
-HasGoal gs Nothing = Unit {0}
+HasGoal gs _ = Unit {0}
 
 -- an EXSR's subroutine exists
 abbrev pub IsFound : List (Subroutine Key) → Statement Key → Type 0
 IsFound all (Executes n) = defines_subroutine n all ≡ true
-IsFound all (Acts a) = Unit {0}
-IsFound all WritesExceptions = Unit {0}
-IsFound all (GoesTo l) = Unit {0}
-IsFound all (Marks l) = Unit {0}
-IsFound all (Begins n) = Unit {0}
-IsFound all (Ends l) = Unit {0}
-IsFound all Nothing = Unit {0}
+IsFound all _ = Unit {0}
 
 -- it isn't an ENDSR
 abbrev pub IsNoReturn : Statement Key → Type 0
 IsNoReturn (Ends l) = ⊥
-IsNoReturn (Acts a) = Unit {0}
-IsNoReturn WritesExceptions = Unit {0}
-IsNoReturn (GoesTo l) = Unit {0}
-IsNoReturn (Executes n) = Unit {0}
-IsNoReturn (Marks l) = Unit {0}
-IsNoReturn (Begins n) = Unit {0}
-IsNoReturn Nothing = Unit {0}
+IsNoReturn _ = Unit {0}
 
 -- ---- calls of subroutines by subroutines
 
 -- the subroutine that EXSR names
 abbrev pub call_in : Statement Key → Option (Option Name)
 call_in (Executes n) = Some n
-call_in (Acts a) = None
-call_in WritesExceptions = None
-call_in (GoesTo l) = None
-call_in (Marks l) = None
-call_in (Begins n) = None
-call_in (Ends l) = None
-call_in Nothing = None
+call_in _ = None
 
 -- the calls, with one more if there is one
 abbrev pub with_call : List (Subroutine Key) → ℕ → Option (Option Name) → Calls → Calls

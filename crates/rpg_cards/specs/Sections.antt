@@ -1,7 +1,7 @@
 -- The sections of calculations.
 use Rattle.std.specs.Prelude.{ℕ, suc, Bool, true, false, List, [], ◌∷◌, Option, None, Some, nat_eq, if◌then◌else◌}
 use Rattle.std.specs.Cmp.Lexicographic.{pointwise}
-use Rattle.rpg_cards.specs.Statements.{Acts, Begins, Calculation, Executes, Statement, Ends, GoesTo, Marks, Nothing, WritesExceptions}
+use Rattle.rpg_cards.specs.Statements.{Begins, Calculation, Statement, Ends, Marks}
 use Rattle.rpg_cards.specs.Keys.{Name}
 use Rattle.rpg_sheet_specs.specs.declared.calculation.ControlLevel.{ControlLevel}
 use Rattle.rpg_sheet_specs.specs.declared.calculation.ControlLevel.TheVariants as control
@@ -20,26 +20,17 @@ pub record Sections (K : Type 0) : Type 0 where
 -- a calculation at detail time
 abbrev pub is_detail : ControlLevel → Bool
 is_detail control.Detail = true
-is_detail (control.Total n) = false
-is_detail control.Subroutine = false
-is_detail control.And = false
-is_detail control.Or = false
+is_detail _ = false
 
 -- a calculation at total time
 abbrev pub is_total : ControlLevel → Bool
-is_total control.Detail = false
 is_total (control.Total n) = true
-is_total control.Subroutine = false
-is_total control.And = false
-is_total control.Or = false
+is_total _ = false
 
 -- a calculation in a subroutine
 abbrev pub is_subroutine : ControlLevel → Bool
-is_subroutine control.Detail = false
-is_subroutine (control.Total n) = false
 is_subroutine control.Subroutine = true
-is_subroutine control.And = false
-is_subroutine control.Or = false
+is_subroutine _ = false
 
 -- the name is that one
 abbrev pub is_named : Name → Option Name → Bool
@@ -62,13 +53,7 @@ module _ {K : Type 0} where
   -- the name on a BEGSR, which may be blank
   abbrev pub begun_by : Statement K → Option (Option Name)
   begun_by (Begins n) = Some n
-  begun_by (Acts a) = None
-  begun_by WritesExceptions = None
-  begun_by (GoesTo l) = None
-  begun_by (Executes n) = None
-  begun_by (Marks l) = None
-  begun_by (Ends l) = None
-  begun_by Nothing = None
+  begun_by _ = None
 
   -- none of the calculations if a subroutine begins
   abbrev pub unless_begun : Option (Option Name) → List (Calculation K) → List (Calculation K)
@@ -107,9 +92,4 @@ module _ {K : Type 0} where
   abbrev pub label_on : Statement K → Option Name
   label_on (Marks l) = l
   label_on (Ends l) = l
-  label_on (Acts a) = None
-  label_on WritesExceptions = None
-  label_on (GoesTo l) = None
-  label_on (Executes n) = None
-  label_on (Begins n) = None
-  label_on Nothing = None
+  label_on _ = None

@@ -29,14 +29,10 @@ pub data Statement (K : Type 0) : Type 0 where
 
 -- TAG and BEGSR compile to no instruction
 abbrev pub has_instruction : Statement Key → Bool
-has_instruction (Acts a) = true
-has_instruction WritesExceptions = true
-has_instruction (GoesTo l) = true
-has_instruction (Executes s) = true
 has_instruction (Marks l) = false
 has_instruction (Begins s) = false
-has_instruction (Ends l) = true
 has_instruction Nothing = false
+has_instruction _ = true
 
 -- A group of C cards. It is done if its level indicator is on and all conditions of one of its alternatives hold. The alternatives have the
 -- conditions of its cards; there is a single empty one if no card has any.

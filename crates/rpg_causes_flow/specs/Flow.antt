@@ -39,8 +39,7 @@ abbrev pub section_in : Flow → ControlLevel → CalculationSpec → Section
 section_in f control.Detail k = Detail
 section_in f (control.Total i) k = Total
 section_in f control.Subroutine k = subroutine_at f (is_begsr (statement_of k))
-section_in f control.And k = Outside
-section_in f control.Or k = Outside
+section_in f _ k = Outside
 
 -- of the calculation that ends on a card
 abbrev pub section_at : Flow → CalculationSpec → Section

@@ -31,9 +31,8 @@ unless_after_conditions before = if follows_conditions before then None else Som
 -- such a card, or a field if no line is open
 abbrev pub output_stray_cause : Bool → List SpecCard → OutputSpec → Option StrayCause
 output_stray_cause is_open before (output.Record r) = None
-output_stray_cause is_open before (output.And t) = unless_after_conditions before
-output_stray_cause is_open before (output.Or t) = unless_after_conditions before
 output_stray_cause is_open before (output.Field f) = if is_open then None else Some NoLine
+output_stray_cause is_open before _ = unless_after_conditions before
 
 -- F12 of a card
 abbrev pub stray_cause : List SpecCard → SpecCard → Option StrayCause
@@ -44,6 +43,5 @@ stray_cause before c =
 -- the name of the field that belongs to no type or line; none for the card as a whole
 abbrev pub stray_range : StrayCause → Option ColumnRange
 stray_range NoType = Some range.InputName
-stray_range (OtherThanType card) = None
 stray_range NoLine = Some range.OutputName
-stray_range (OtherThanLine card) = None
+stray_range _ = None

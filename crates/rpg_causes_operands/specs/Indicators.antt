@@ -85,11 +85,7 @@ output_indicator_cause cards (output.Field f) = first_cause_of_three (line_indic
 
 -- F8 of a card of any sheet
 abbrev pub card_indicator_cause : List SpecCard → Spec → Option IndicatorFault
-card_indicator_cause cards (spec.Header h) = None
-card_indicator_cause cards (spec.File f) = None
-card_indicator_cause cards (spec.Extension e) = None
-card_indicator_cause cards (spec.Form h) = None
 card_indicator_cause cards (spec.Input i) = input_indicator_cause i
 card_indicator_cause cards (spec.Calculation k) = calculation_indicator_cause cards k
 card_indicator_cause cards (spec.Output o) = output_indicator_cause cards o
-card_indicator_cause cards (spec.Data d) = None
+card_indicator_cause cards _ = None

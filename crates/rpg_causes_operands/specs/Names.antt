@@ -73,14 +73,10 @@ redefined cards before c = redefined_among cards (definitions before) (definitio
 
 -- those of the first name that a card defines
 abbrev pub name_columns : Spec → Option ColumnRange
-name_columns (spec.Header h) = None
-name_columns (spec.File f) = None
 name_columns (spec.Extension e) = Some range.TableName
-name_columns (spec.Form h) = None
 name_columns (spec.Input i) = Some range.InputName
 name_columns (spec.Calculation k) = Some range.ResultName
-name_columns (spec.Output o) = None
-name_columns (spec.Data d) = None
+name_columns _ = None
 
 -- a definition has that form
 abbrev pub has_form : Definition → FieldForm → Bool

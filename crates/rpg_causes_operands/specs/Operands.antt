@@ -6,7 +6,7 @@ use Rattle.rpg_cards.specs.Cards.{output_field_on}
 use Rattle.rpg_sheet_specs.specs.Operations.{card_columns}
 use Rattle.rpg_sheet_specs.specs.declared.operations.Column.{Column}
 use Rattle.rpg_sheet_specs.specs.declared.operations.Content.{Content}
-use Rattle.rpg_sheet_specs.specs.declared.operations.Content.TheVariants.{Value, WholeArray, Searched, Table, Label, Subroutine}
+use Rattle.rpg_sheet_specs.specs.declared.operations.Content.TheVariants.{Value, Table}
 use Rattle.rpg_sheet_specs.specs.declared.operations.Kinds.{Kinds}
 use Rattle.rpg_sheet_specs.specs.declared.operations.Kinds.TheVariants.{Numbers, Alike, Any}
 use Rattle.rpg_sheet_specs.specs.declared.operations.OperationColumns.{OperationColumns}
@@ -79,11 +79,8 @@ if_too_few searched found = if has_too_few searched found then Some (TooFew foun
 -- of a result field of that content
 abbrev pub of_result : Content → Option FieldForm → Option FieldForm → Option OperandCause
 of_result Value g r = option_and_then if_unwritable r
-of_result WholeArray g r = None
-of_result Searched g r = None
 of_result Table g r = option_and_then (λ searched. option_and_then (if_too_few searched) r) g
-of_result Label g r = None
-of_result Subroutine g r = None
+of_result _ g r = None
 
 -- ---- cards
 

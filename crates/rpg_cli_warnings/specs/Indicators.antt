@@ -23,14 +23,9 @@ use Rattle.rpg_warnings_lines.specs.declared.warning.WarningKind.TheVariants as 
 
 -- the conditions of a card
 abbrev pub conditions_on_card : Spec → Option (Three (Option ConditionSpec))
-conditions_on_card (spec.Header h) = None
-conditions_on_card (spec.File f) = None
-conditions_on_card (spec.Extension e) = None
-conditions_on_card (spec.Form h) = None
-conditions_on_card (spec.Input i) = None
 conditions_on_card (spec.Calculation k) = Some k.conditions
 conditions_on_card (spec.Output o) = Some (line_conditions_on o)
-conditions_on_card (spec.Data d) = None
+conditions_on_card _ = None
 
 -- the first of a card's nine columns of conditions
 abbrev pub conditions_begin : Spec → ℕ
@@ -48,10 +43,7 @@ any_tests n t = one_tests n t.first || one_tests n t.second || one_tests n t.thi
 -- the indicator of a calculation at total time
 abbrev pub total_of : ControlLevel → Option ℕ
 total_of (control.Total n) = Some n
-total_of control.Detail = None
-total_of control.Subroutine = None
-total_of control.And = None
-total_of control.Or = None
+total_of _ = None
 
 -- the control level in columns 7-8 of a C card
 abbrev pub total_on : Spec → Option ℕ
@@ -113,14 +105,10 @@ result_turns_on n k = not (turns_off k.operation) && any_is n k.resulting_indica
 
 -- the card turns the indicator on
 abbrev pub spec_turns_on : ℕ → Spec → Bool
-spec_turns_on n (spec.Header h) = false
 spec_turns_on n (spec.File f) = is_number n f.overflow
-spec_turns_on n (spec.Extension e) = false
-spec_turns_on n (spec.Form h) = false
 spec_turns_on n (spec.Input i) = input_turns_on n i
 spec_turns_on n (spec.Calculation k) = result_turns_on n k
-spec_turns_on n (spec.Output o) = false
-spec_turns_on n (spec.Data d) = false
+spec_turns_on n _ = false
 
 -- the numbered card turns the indicator on
 abbrev pub turns_on : ℕ → SpecCard → Bool
@@ -208,13 +196,9 @@ no_level_at n c = record { card = c.number; columns = tested_columns n c; kind =
 abbrev pub no_level : ℕ → List SpecCard → Option Warning
 no_level n cards = if is_level n && not (list_any (turns_on n) cards) && not (list_any (card_has_level n) cards) then option_map (no_level_at n) (find (tests_indicator n) cards) else None
 
--- one warning, or none
-abbrev pub listed : Option Warning → List Warning
-listed w = option_to_list w
-
 -- what an indicator is warned of
 abbrev pub indicator_warnings : ℕ → List SpecCard → List Warning
-indicator_warnings n cards = listed (never_on n cards) ++ listed (never_tested n cards) ++ listed (no_level n cards)
+indicator_warnings n cards = option_to_list (never_on n cards) ++ option_to_list (never_tested n cards) ++ option_to_list (no_level n cards)
 
 -- what the indicators up to a number are warned of
 unfoldable pub warnings_up_to : ℕ → List SpecCard → List Warning

@@ -9,7 +9,7 @@ use crate::marks::{shown_by, tested_by};
 use crate::testing::{first_testing, tested_columns};
 use crate::turning::{any_turns_on, first_showing, shown_columns};
 use rpg_cards::SpecCard;
-use rpg_warnings_lines::{Warning, WarningKind};
+use rpg_warnings_lines::{Warning, WarningKind, put_warning};
 use std::alloc::AllocError;
 
 /// Whether only cards turn an indicator on: 01 to 99, OA to OG, OV, and H1 to H9.
@@ -73,16 +73,6 @@ fn no_level(cards: &[SpecCard], indicator: u8) -> Option<Warning>
     }
 }
 
-/// Appends a warning, if there is one.
-pub(crate) fn put(warnings: &mut Vec<Warning>, warning: Option<Warning>) -> Result<(), AllocError>
-    ensures { OnOk result (warnings.new.items ≡ warnings.old.items ++ indicators.listed warning) }
-{
-    if let Some(warning) = warning {
-        warnings.push(warning)?;
-    }
-    Ok(())
-}
-
 /// Appends the warnings of an indicator, given whether a card tests it, and whether one turns it on to be tested.
 fn put_of(
     warnings: &mut Vec<Warning>,
@@ -96,10 +86,10 @@ fn put_of(
     ensures { OnOk result (warnings.new.items ≡ warnings.old.items ++ indicators.indicator_warnings indicator cards.now) }
 {
     if is_tested {
-        put(warnings, never_on(cards, indicator))?;
-        put(warnings, no_level(cards, indicator))?;
+        put_warning(warnings, never_on(cards, indicator))?;
+        put_warning(warnings, no_level(cards, indicator))?;
     } else if is_shown {
-        put(warnings, never_tested(cards, indicator))?;
+        put_warning(warnings, never_tested(cards, indicator))?;
     }
     Ok(())
 }

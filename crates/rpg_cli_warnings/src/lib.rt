@@ -1,8 +1,10 @@
 //! The warnings of a source without faults: those of rpg_warnings_lines, and indicators that are tested but never turned on, or turned on
-//! but never tested, results that are shorter than their operands, and halts.
+//! but never tested, results that are shorter than their operands, devices, files that end the job, L cards, and halts.
 #![tactic(auto)]
 
+mod devices;
 mod digits;
+mod files;
 mod halts;
 mod indicators;
 mod levels;

@@ -5,7 +5,9 @@ ghost use Rattle.std.specs.List.Sorted.{IsPermutation};
 ghost use Rattle.std.specs.Str.Lines.{lines};
 ghost use Rattle.rpg_cli_warnings.specs.Warnings as warned;
 
+use crate::devices::put_devices;
 use crate::digits::put_shorter;
+use crate::files::put_files;
 use crate::halts::put_halts;
 use crate::indicators::put_indicators;
 use rpg_card_index::IndexedCards;
@@ -16,8 +18,8 @@ use std::alloc::{AllocError, Global};
 /// The greatest number of an indicator.
 const LAST_INDICATOR: u8 = 129;
 
-/// Returns all warnings of a source without faults, given its text: by indicator, then by card those about lines, files and results,
-/// results that are too short, and halts.
+/// Returns all warnings of a source without faults, given its text: by indicator, then by card those about lines and results, devices,
+/// files, results that are too short, and halts.
 pub fn source_warnings(
     alloc: Global,
     text: &[u8],
@@ -27,7 +29,9 @@ pub fn source_warnings(
 {
     let mut warnings = Vec::new(alloc);
     put_indicators(&mut warnings, source.as_slice(), LAST_INDICATOR)?;
-    put_line_warnings(alloc, &mut warnings, text, source)?;
+    put_line_warnings(alloc, &mut warnings, source)?;
+    put_devices(&mut warnings, text, source.as_slice())?;
+    put_files(&mut warnings, source.as_slice())?;
     put_shorter(&mut warnings, source)?;
     put_halts(&mut warnings, source.as_slice())?;
     Ok(warnings)

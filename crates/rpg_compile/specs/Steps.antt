@@ -1,7 +1,7 @@
 -- What a statement compiles to.
 use Rattle.std.specs.Prelude.{ℕ, Bool, ◌+◌, ◌++◌, List, [], ◌∷◌, length, Option, None, Some}
 use Rattle.rpg_cards.specs.Calculations.{awaited_level}
-use Rattle.rpg_cards.specs.Statements.{Acts, Begins, Statement, Ends, Executes, GoesTo, Marks, Nothing, WritesExceptions, factor_2_operand, first_or_result, result_operand, resulting_shows}
+use Rattle.rpg_cards.specs.Statements.{Acts, Statement, factor_2_operand, first_or_result, result_operand, resulting_shows}
 use Rattle.rpg_cards.specs.Keys.{Key}
 use Rattle.rpg_cards.specs.declared.spec_card.SpecCard.{SpecCard}
 use Rattle.rpg_compile_program.specs.Code.{level_code, tests_code, waits}
@@ -18,13 +18,7 @@ use Rattle.rpg_sheet_specs.specs.declared.calculation.CalculationSpec.{Calculati
 -- what it does to fields
 abbrev pub action_in : Statement Key → Option (Action (Operand Key))
 action_in (Acts a) = Some a
-action_in WritesExceptions = None
-action_in (GoesTo l) = None
-action_in (Executes n) = None
-action_in (Marks l) = None
-action_in (Begins n) = None
-action_in (Ends l) = None
-action_in Nothing = None
+action_in _ = None
 
 -- ADD, SUB and MULT of a card
 abbrev pub computed_action : Operator → CalculationSpec → Action (Operand Key)

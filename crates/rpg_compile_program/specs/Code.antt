@@ -4,7 +4,7 @@ use Rattle.rpg_program.specs.declared.condition.Conditions.{Conditions}
 use Rattle.rpg_program.specs.declared.operation.Instruction.{Instruction}
 use Rattle.rpg_program.specs.declared.operation.Instruction.TheVariants as made
 use Rattle.rpg_program.specs.Object.{SubroutineRow}
-use Rattle.rpg_cards.specs.Statements.{Acts, Begins, Calculation, Statement, Ends, Executes, GoesTo, Marks, Nothing, WritesExceptions, has_instruction}
+use Rattle.rpg_cards.specs.Statements.{Acts, Calculation, Statement, Ends, Executes, GoesTo, WritesExceptions, has_instruction}
 use Rattle.rpg_cards.specs.Keys.{Key, Name}
 use Rattle.rpg_cards.specs.Sections.{Subroutine}
 use Rattle.rpg_cards.specs.Sections.{is_same_name, label_on}
@@ -77,10 +77,8 @@ module _ (number : Key → ℕ) (place_of callee_of : Option Name → ℕ) (own 
   step_code WritesExceptions = made.Except ∷ []
   step_code (GoesTo l) = jump (place_of l) no_conditions ∷ []
   step_code (Executes s) = made.Call (callee_of s) ∷ []
-  step_code (Marks l) = []
-  step_code (Begins s) = []
   step_code (Ends l) = made.Return own ∷ []
-  step_code Nothing = []
+  step_code _ = []
 
   -- a group of C cards from a place on: the level indicator, the tests of its conditions, and the operation
   unfoldable pub group_code : ℕ → Calculation Key → List (Instruction ℕ)

@@ -46,10 +46,9 @@ record_length_of file = option_map_or (λ f. f.record_length) file 0
 
 -- the file that a line goes to; the printer if it isn't known
 abbrev pub file_put : FileUse → File
-file_put uses.Primary = files.Printer
-file_put uses.Secondary = files.Printer
 file_put uses.Printer = files.Printer
 file_put uses.Disk = files.Disk
+file_put _ = files.Printer
 
 -- the file of a line, by the F card that it names
 abbrev pub output_file : Option FileSpec → File

@@ -80,11 +80,8 @@ pub record IsForm (f : FormSpec) : Type 0 where
 
 -- L0 to L9, LR
 abbrev pub IsControl : ControlLevel → Type 0
-IsControl control.Detail = Unit {0}
 IsControl (control.Total n) = (100 ≤ n) × (n ≤ 110)
-IsControl control.Subroutine = Unit {0}
-IsControl control.And = Unit {0}
-IsControl control.Or = Unit {0}
+IsControl _ = Unit {0}
 
 -- a factor whose literal is in range
 abbrev pub IsFactor : Factor → Type 0
@@ -147,14 +144,13 @@ IsData (deck.Card text) = IsDataText text
 
 -- a card of any sheet in range
 abbrev pub IsInRange : Spec → Type 0
-IsInRange (spec.Header h) = Unit {0}
 IsInRange (spec.File f) = ForSome f.overflow IsOverflowIndicator
-IsInRange (spec.Extension e) = Unit {0}
 IsInRange (spec.Form f) = IsForm f
 IsInRange (spec.Input i) = IsInput i
 IsInRange (spec.Calculation k) = IsCalculation k
 IsInRange (spec.Output o) = IsOutput o
 IsInRange (spec.Data d) = IsData d
+IsInRange _ = Unit {0}
 
 -- a card in range
 abbrev pub IsCard : SpecCard → Type 0

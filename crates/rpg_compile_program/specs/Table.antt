@@ -82,7 +82,5 @@ key_form t Nowhere = None
 
 -- the characters of a text constant, of any other key none
 abbrev pub key_word : Table → Key → List ℕ
-key_word t (Named name) = []
-key_word t (Fixed (constant.Number n)) = []
 key_word t (Fixed (constant.Text text)) = if list_any (is_same (constant.Text text)) t.constants then text else []
-key_word t Nowhere = []
+key_word t _ = []

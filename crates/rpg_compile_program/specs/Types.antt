@@ -31,8 +31,7 @@ use Rattle.rpg_sheet_specs.specs.declared.input.RecordType.{RecordType}
 abbrev pub file_read : FileUse → InputFile
 file_read uses.Primary = Primary
 file_read uses.Secondary = Secondary
-file_read uses.Printer = Primary
-file_read uses.Disk = Primary
+file_read _ = Primary
 
 -- the file of a record type, by the F card that it names
 abbrev pub input_file : Option FileSpec → InputFile

@@ -26,10 +26,7 @@ use Rattle.rpg_sheet_specs.specs.declared.literal.Factor.TheVariants as factor
 abbrev pub is_for_name : Content → Bool
 is_for_name content.Label = true
 is_for_name content.Subroutine = true
-is_for_name content.Value = false
-is_for_name content.WholeArray = false
-is_for_name content.Searched = false
-is_for_name content.Table = false
+is_for_name _ = false
 
 -- a label or a subroutine that isn't a plain name
 abbrev pub is_unfit : Content → Factor → Bool

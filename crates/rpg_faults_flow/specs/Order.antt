@@ -16,11 +16,9 @@ use Rattle.rpg_sheet_specs.specs.declared.calculation.ControlLevel.TheVariants a
 
 -- the order of the sections
 abbrev pub section_rank : ControlLevel → ℕ
-section_rank control.Detail = 0
 section_rank (control.Total i) = 1
 section_rank control.Subroutine = 2
-section_rank control.And = 0
-section_rank control.Or = 0
+section_rank _ = 0
 
 -- a section that comes before that of an earlier card
 abbrev pub is_early : List SpecCard → CalculationSpec → Bool

@@ -48,8 +48,6 @@ rounding_cause before c after = option_and_then (λ k. of_calculation before k (
 
 -- what a cause is about: H, or the operation that requires a division before it
 abbrev pub rounding_range : RoundingCause → ColumnRange
-rounding_range LastCardAlone = range.HalfAdjust
-rounding_range NoOperation = range.HalfAdjust
-rounding_range NotRounded = range.HalfAdjust
 rounding_range SeveralCards = range.Operation
 rounding_range NoDivision = range.Operation
+rounding_range _ = range.HalfAdjust

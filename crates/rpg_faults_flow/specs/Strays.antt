@@ -35,10 +35,8 @@ is_stray_input before (input.Field f) = is_none (open_group input_role before)
 
 -- a record, AND or OR card
 abbrev pub takes_conditions : OutputSpec → Bool
-takes_conditions (output.Record r) = true
-takes_conditions (output.And t) = true
-takes_conditions (output.Or t) = true
 takes_conditions (output.Field f) = false
+takes_conditions _ = true
 
 -- the previous card is a record, AND or OR card
 abbrev pub follows_conditions : List SpecCard → Bool
@@ -47,9 +45,8 @@ follows_conditions before = option_map_or takes_conditions (option_and_then (λ 
 -- F12 of an O card
 abbrev pub is_stray_output : List SpecCard → OutputSpec → Bool
 is_stray_output before (output.Record r) = false
-is_stray_output before (output.And t) = not (follows_conditions before)
-is_stray_output before (output.Or t) = not (follows_conditions before)
 is_stray_output before (output.Field f) = is_none (open_group output_role before)
+is_stray_output before _ = not (follows_conditions before)
 
 -- F12 of I and O cards
 abbrev pub is_stray : List SpecCard → SpecCard → Bool

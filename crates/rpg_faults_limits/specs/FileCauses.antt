@@ -7,7 +7,7 @@ use Rattle.rpg_cards.specs.Cards.{file_on, form_on, output_record_on, type_on}
 use Rattle.rpg_cards.specs.Files.{file_use, is_input, is_output, same_use}
 use Rattle.rpg_cards.specs.Groups.{input_role, open_file, open_group, output_role}
 use Rattle.rpg_cards.specs.declared.files.FileUse.{FileUse}
-use Rattle.rpg_cards.specs.declared.files.FileUse.TheVariants.{Disk, Primary, Printer, Secondary}
+use Rattle.rpg_cards.specs.declared.files.FileUse.TheVariants.{Disk, Printer}
 use Rattle.rpg_cards.specs.declared.spec_card.SpecCard.{SpecCard}
 use Rattle.rpg_faults_limits.specs.declared.files.FileCause.{FileCause}
 use Rattle.rpg_faults_limits.specs.declared.files.FileCause.TheVariants.{Length, OverflowPast, Second, SecondForm, Twice, Unknown, Unnamed, WrongUse}
@@ -127,10 +127,9 @@ moved_disk cards before r = if moves r.movement then option_and_then if_disk (fi
 
 -- those that give a file its use
 abbrev pub use_range : FileUse → ColumnRange
-use_range Primary = range.FileType
-use_range Secondary = range.FileType
 use_range Printer = range.Device
 use_range Disk = range.Device
+use_range _ = range.FileType
 
 -- those in which a card names its file
 abbrev pub user_range : FileUser → ColumnRange

@@ -5,7 +5,7 @@ use Rattle.rpg_cards.specs.Cards.{file_on, form_on, output_record_on, type_on}
 use Rattle.rpg_cards.specs.Files.{file_by, file_for, file_named, file_use, is_input, is_output, same_use}
 use Rattle.rpg_cards.specs.Groups.{input_role, open_file, open_group, output_role}
 use Rattle.rpg_cards.specs.declared.files.FileUse.{FileUse}
-use Rattle.rpg_cards.specs.declared.files.FileUse.TheVariants.{Primary, Secondary, Printer, Disk}
+use Rattle.rpg_cards.specs.declared.files.FileUse.TheVariants.{Primary, Printer, Disk}
 use Rattle.rpg_cards.specs.declared.spec_card.SpecCard.{SpecCard}
 use Rattle.rpg_sheet_specs.specs.declared.file.FileSpec.{FileSpec}
 use Rattle.rpg_sheet_specs.specs.declared.form.FormSpec.{FormSpec}
@@ -17,10 +17,8 @@ use Rattle.rpg_text.specs.Texts.{is_between}
 
 -- the longest record or line
 abbrev pub longest_in_file : FileUse → ℕ
-longest_in_file Primary = 9999
-longest_in_file Secondary = 9999
 longest_in_file Printer = 132
-longest_in_file Disk = 9999
+longest_in_file _ = 9999
 
 -- one file of each use; no two with the same name
 abbrev pub bad_file : List SpecCard → FileSpec → Bool

@@ -75,17 +75,14 @@ passes_on_types before c =
 
 -- an OR card of a line
 abbrev pub is_or_line : OutputSpec → Bool
-is_or_line (output.Record r) = false
-is_or_line (output.And t) = false
 is_or_line (output.Or t) = true
-is_or_line (output.Field f) = false
+is_or_line _ = false
 
 -- the conditions of the last alternative, with one more card
 abbrev pub conditions_with : ℕ → OutputSpec → ℕ
-conditions_with n (output.Record r) = n
 conditions_with n (output.And t) = n + filled_count t
 conditions_with n (output.Or t) = filled_count t
-conditions_with n (output.Field f) = n
+conditions_with n _ = n
 
 -- the conditions of the last alternative of a line
 abbrev pub condition_count : Group OutputRecord OutputSpec → ℕ

@@ -16,10 +16,8 @@ use Rattle.rpg_faults_operands.specs.Operands.{factor_form}
 
 -- the indicators of LOKUP
 abbrev pub searches : Shown → Bool
-searches shown.Unused = false
-searches shown.Any = false
-searches shown.Some = false
 searches shown.Search = true
+searches _ = false
 
 -- an array or a table that isn't in ascending sequence
 abbrev pub lacks_sequence : FieldForm → Bool

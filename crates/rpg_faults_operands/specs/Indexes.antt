@@ -3,7 +3,7 @@ use Rattle.std.specs.Prelude.{◌^◌, List, Bool, true, false, not, ◌&&◌, �
 use Rattle.std.specs.List.{list_any}
 use Rattle.std.specs.Option.{option_and_then, option_map_or}
 use Rattle.rpg_sheet_specs.specs.declared.operations.Content.{Content}
-use Rattle.rpg_sheet_specs.specs.declared.operations.Content.TheVariants.{Value, WholeArray, Searched, Table, Label, Subroutine}
+use Rattle.rpg_sheet_specs.specs.declared.operations.Content.TheVariants.{Value, WholeArray, Searched}
 use Rattle.rpg_cards.specs.Names.{form_in, form_of_name}
 use Rattle.rpg_cards.specs.declared.spec_card.SpecCard.{SpecCard}
 use Rattle.rpg_program.specs.Forms.{is_array, is_index_form}
@@ -22,29 +22,17 @@ can_index form = is_index_form (Some form)
 -- an array isn't a value; only its entries are
 abbrev pub needs_index : Content → FieldForm → Bool
 needs_index Value form = is_array form.class
-needs_index WholeArray form = false
-needs_index Searched form = false
-needs_index Table form = false
-needs_index Label form = false
-needs_index Subroutine form = false
+needs_index _ form = false
 
 -- XFOOT takes an array without an index
 abbrev pub takes_index : Content → FieldForm → Bool
-takes_index Value form = is_array form.class
 takes_index WholeArray form = false
-takes_index Searched form = is_array form.class
-takes_index Table form = is_array form.class
-takes_index Label form = is_array form.class
-takes_index Subroutine form = is_array form.class
+takes_index _ form = is_array form.class
 
 -- what LOKUP searches
 abbrev pub is_searched_content : Content → Bool
-is_searched_content Value = false
-is_searched_content WholeArray = false
 is_searched_content Searched = true
-is_searched_content Table = false
-is_searched_content Label = false
-is_searched_content Subroutine = false
+is_searched_content _ = false
 
 -- an index field that LOKUP writes is too short for the number of the last entry
 abbrev pub is_too_short : Content → FieldForm → FieldForm → Bool

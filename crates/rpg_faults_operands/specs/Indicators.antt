@@ -73,14 +73,10 @@ bad_on_output cards (output.Field f) = any_of (bad_in_output cards) f.conditions
 
 -- F8 of a card of any sheet
 abbrev pub bad_on : List SpecCard → Spec → Bool
-bad_on cards (spec.Header h) = false
-bad_on cards (spec.File f) = false
-bad_on cards (spec.Extension e) = false
-bad_on cards (spec.Form h) = false
 bad_on cards (spec.Input i) = bad_on_input i
 bad_on cards (spec.Calculation k) = bad_on_calculation cards k
 bad_on cards (spec.Output o) = bad_on_output cards o
-bad_on cards (spec.Data d) = false
+bad_on cards _ = false
 
 -- F8 of a card
 abbrev pub bad_indicator : List SpecCard → SpecCard → Bool

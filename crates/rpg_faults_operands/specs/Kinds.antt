@@ -4,7 +4,7 @@ use Rattle.std.specs.Option.{option_map_or}
 use Rattle.rpg_cards.specs.Calculations.{card_ending}
 use Rattle.rpg_sheet_specs.specs.Operations.{card_columns}
 use Rattle.rpg_sheet_specs.specs.declared.operations.Content.{Content}
-use Rattle.rpg_sheet_specs.specs.declared.operations.Content.TheVariants.{Value, WholeArray, Searched, Table, Label, Subroutine}
+use Rattle.rpg_sheet_specs.specs.declared.operations.Content.TheVariants.{Value, WholeArray, Searched, Table}
 use Rattle.rpg_sheet_specs.specs.declared.operations.Kinds.{Kinds}
 use Rattle.rpg_sheet_specs.specs.declared.operations.Kinds.TheVariants.{Numbers, Alike, Any}
 use Rattle.rpg_sheet_specs.specs.declared.operations.OperationColumns.{OperationColumns}
@@ -21,12 +21,10 @@ use Rattle.rpg_faults_operands.specs.Operands.{factor_form, field_content, outpu
 
 -- XFOOT takes an array, LOKUP searches a table or an array and finds in a table
 abbrev pub is_wrong_class : Content → FieldForm → Bool
-is_wrong_class Value form = false
 is_wrong_class WholeArray form = not (is_array form.class)
 is_wrong_class Searched form = not (is_array form.class || is_table form.class)
 is_wrong_class Table form = not (is_table form.class)
-is_wrong_class Label form = false
-is_wrong_class Subroutine form = false
+is_wrong_class _ form = false
 
 -- likewise for the contents of a column
 abbrev pub has_wrong_class : Option Content → Option FieldForm → Bool
@@ -74,11 +72,8 @@ finds_too_few (Some g) (Some r) = has_too_few g r
 -- a result field that takes a value must be writable; a table must have enough entries for the search
 abbrev pub wrong_result : Content → Option FieldForm → Option FieldForm → Bool
 wrong_result Value g r = option_map_or is_unwritable r false
-wrong_result WholeArray g r = false
-wrong_result Searched g r = false
 wrong_result Table g r = finds_too_few g r
-wrong_result Label g r = false
-wrong_result Subroutine g r = false
+wrong_result _ g r = false
 
 -- ---- cards
 

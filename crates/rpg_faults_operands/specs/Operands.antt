@@ -6,7 +6,7 @@ use Rattle.rpg_sheet_specs.specs.Operations.{card_columns}
 use Rattle.rpg_sheet_specs.specs.declared.operations.Column.{Column}
 use Rattle.rpg_sheet_specs.specs.declared.operations.Column.TheVariants.{Blank, May, Must}
 use Rattle.rpg_sheet_specs.specs.declared.operations.Content.{Content}
-use Rattle.rpg_sheet_specs.specs.declared.operations.Content.TheVariants.{Value, WholeArray, Searched, Table, Label, Subroutine}
+use Rattle.rpg_sheet_specs.specs.declared.operations.Content.TheVariants.{Value, Label, Subroutine}
 use Rattle.rpg_sheet_specs.specs.declared.operations.OperationColumns.{OperationColumns}
 use Rattle.rpg_cards.specs.Cards.{output_field_on}
 use Rattle.rpg_cards.specs.Constants.{form_of_factor}
@@ -24,12 +24,9 @@ use Rattle.rpg_sheet_specs.specs.declared.output.OutputField.{OutputField}
 
 -- a label or a subroutine isn't a field
 abbrev pub is_field_content : Content → Bool
-is_field_content Value = true
-is_field_content WholeArray = true
-is_field_content Searched = true
-is_field_content Table = true
 is_field_content Label = false
 is_field_content Subroutine = false
+is_field_content _ = true
 
 -- a content that is a field
 abbrev pub if_field : Content → Option Content

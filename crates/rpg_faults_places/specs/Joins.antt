@@ -140,7 +140,6 @@ join_cause before c after = option_and_then (input_join_cause before after) (inp
 -- the columns that a cause is about; none if a record type differs from others
 abbrev pub join_range : JoinCause → Option ColumnRange
 join_range (LongLevel level columns) = Some range.InputLevel
-join_range (OtherLength level length first card) = None
 join_range (MatchedTwice level card) = Some range.InputMatch
 join_range (LongMatches columns) = Some range.InputMatch
-join_range (OtherMatches level length first card) = None
+join_range _ = None

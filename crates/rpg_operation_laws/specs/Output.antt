@@ -18,7 +18,7 @@ use Rattle.rpg_program.specs.declared.line.LineField.{LineField}
 use Rattle.rpg_program.specs.declared.line.Spacing.{Spacing}
 use Rattle.rpg_program.specs.declared.line.Time.{Time}
 use Rattle.rpg_program.specs.declared.rows.Overflow.{Overflow}
-use Rattle.rpg_program.specs.declared.line.Time.TheVariants.{Heading, Detail, Total, Exception}
+use Rattle.rpg_program.specs.declared.line.Time.TheVariants.{Exception}
 
 -- ---- the paper
 
@@ -57,10 +57,8 @@ LinesTurnOn R = (overflow : Overflow) (n : ℕ) (w : World R) → overflow.page.
 
 -- an exception line
 abbrev pub is_exception : Time → Bool
-is_exception Heading = false
-is_exception Detail = false
-is_exception Total = false
 is_exception Exception = true
+is_exception _ = false
 
 -- EXCPT goes through all lines in order. It puts out the exception lines of which all conditions of an alternative hold.
 pub record PutsExceptions {K : Type 0} {R : K → K → Ordering} (forms : K → Option FieldForm) (words : K → List ℕ) (overflow : Overflow) (l : Line K) (ls : List (Line K)) (w : World R) : Type 0 where

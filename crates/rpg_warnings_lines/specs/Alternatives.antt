@@ -36,17 +36,13 @@ all_pass test t = one_passes test t.first && one_passes test t.second && one_pas
 
 -- the conditions of an AND card
 abbrev pub and_in : OutputSpec → Option (Three (Option ConditionSpec))
-and_in (output.Record r) = None
 and_in (output.And t) = Some t
-and_in (output.Or t) = None
-and_in (output.Field f) = None
+and_in _ = None
 
 -- the conditions of an OR card
 abbrev pub or_in : OutputSpec → Option (Three (Option ConditionSpec))
-or_in (output.Record r) = None
-or_in (output.And t) = None
 or_in (output.Or t) = Some t
-or_in (output.Field f) = None
+or_in _ = None
 
 -- those of an AND card, on any card
 abbrev pub and_on : Spec → Option (Three (Option ConditionSpec))

@@ -1,7 +1,5 @@
--- What lines, files and results are warned of, as definitions.
+-- What lines and results are warned of, as definitions.
 pub mod Alternatives
-pub mod Devices
-pub mod Files
 pub mod Kinds
 pub mod LineWarnings
 pub mod Marks

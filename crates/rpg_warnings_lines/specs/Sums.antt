@@ -23,8 +23,7 @@ abbrev pub level_at : ℕ → ControlLevel → ℕ
 level_at level control.Detail = 0
 level_at level (control.Total n) = n - 100
 level_at level control.Subroutine = 65535
-level_at level control.And = level
-level_at level control.Or = level
+level_at level _ = level
 
 -- the level of a card, after one of that level
 abbrev pub level_with : ℕ → Spec → ℕ

@@ -33,10 +33,8 @@ level_in t = max (level_of t.first) (max (level_of t.second) (level_of t.third))
 
 -- a line of type T
 abbrev pub is_total : LineTime → Bool
-is_total time.Heading = false
-is_total time.Detail = false
 is_total time.Total = true
-is_total time.Exception = false
+is_total _ = false
 
 -- a line with one alternative, that of its card
 abbrev pub begun : OutputRecord → LineSoFar

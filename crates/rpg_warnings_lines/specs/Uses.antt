@@ -76,7 +76,7 @@ abbrev pub needs_result : Option Operation → Bool
 needs_result (Some operation.CrossFoot) = true
 needs_result (Some operation.LookUp) = true
 needs_result (Some operation.MoveRemainder) = true
-needs_result o = false
+needs_result _ = false
 
 -- a result that nothing has to read: of XFOOT, LOKUP or MVR, or with indicators
 abbrev pub counts_as_read : CalculationSpec → Bool

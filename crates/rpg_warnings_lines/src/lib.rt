@@ -1,9 +1,7 @@
-//! Warnings about files, printed lines, and the results that they print or don't.
+//! Warnings about printed lines, and the results that they print or don't.
 #![tactic(auto)]
 
 mod alternatives;
-mod devices;
-mod files;
 mod lines;
 mod marks;
 mod overlaps;
@@ -17,4 +15,5 @@ mod uses;
 mod warning;
 
 pub use lines::{put_line_warnings, put_warning};
+pub use printer::is_printer;
 pub use warning::{Warning, WarningKind};

@@ -1,12 +1,9 @@
-//! All warnings about lines, files and results.
+//! All warnings about lines and results.
 
 ghost use Rattle.std.specs.Prelude.{◌≡◌, ◌++◌, OnOk};
 ghost use Rattle.std.specs.Option.{option_to_list};
-ghost use Rattle.std.specs.Str.Lines.{lines};
 ghost use Rattle.rpg_warnings_lines.specs.LineWarnings as warned;
 
-use crate::devices::device_on;
-use crate::files::file_warning;
 use crate::overlaps::put_overlaps;
 use crate::pages::page_on;
 use crate::printer::overflow_on;
@@ -16,21 +13,19 @@ use crate::unused::put_unused;
 use crate::warning::Warning;
 use rpg_card_index::IndexedCards;
 use rpg_cards::SpecCard;
+use rpg_sheet_specs::Spec;
 use std::alloc::{AllocError, Global};
 
-/// Returns the warning about a card's page number, line, printer or device. A card has at most one of these.
-fn card_warning(
-    text: &[u8],
-    cards: &[SpecCard],
-    card: &SpecCard,
-    after: &[SpecCard],
-) -> Option<Warning>
-    ensures { result ≡ warned.card_warning (lines text.now) cards.now card.now after.now }
+/// Returns the warning about a card's page number, line or printer. A card has at most one of these.
+#[tactic(auto, unfolding(crate::specs::Pages::page_on, crate::specs::Printer::overflow_on))]
+fn card_warning(cards: &[SpecCard], card: &SpecCard, after: &[SpecCard]) -> Option<Warning>
+    ensures { result ≡ warned.card_warning cards.now card.now after.now }
 {
-    page_on(card)
-        .or(unheld_on(card, after))
-        .or(overflow_on(cards, card))
-        .or(device_on(text, card))
+    match &card.spec {
+        Spec::File(_) => overflow_on(cards, card),
+        Spec::Output(_) => page_on(card).or(unheld_on(card, after)),
+        _ => None,
+    }
 }
 
 /// Appends a warning, if there is one.
@@ -43,35 +38,29 @@ pub fn put_warning(warnings: &mut Vec<Warning>, warning: Option<Warning>) -> Res
     Ok(())
 }
 
-/// Appends the warnings about page numbers, lines, printers, devices and files, in the order of their cards.
-fn put_card_warnings(
-    warnings: &mut Vec<Warning>,
-    text: &[u8],
-    cards: &[SpecCard],
-) -> Result<(), AllocError>
-    ensures { OnOk result (warnings.new.items ≡ warnings.old.items ++ warned.card_warnings (lines text.now) cards.now cards.now) }
+/// Appends the warnings about page numbers, lines and printers, in the order of their cards.
+fn put_card_warnings(warnings: &mut Vec<Warning>, cards: &[SpecCard]) -> Result<(), AllocError>
+    ensures { OnOk result (warnings.new.items ≡ warnings.old.items ++ warned.card_warnings cards.now cards.now) }
 {
     let mut rest = cards;
     while let Some((card, after)) = rest.split_first() {
-        put_warning(warnings, card_warning(text, cards, card, after))?;
-        put_warning(warnings, file_warning(cards, card))?;
+        put_warning(warnings, card_warning(cards, card, after))?;
         rest = after;
     }
     Ok(())
 }
 
-/// Appends the warnings about lines, files and results of a source without faults, given its text: each kind in the order of the cards.
+/// Appends the warnings about lines and results of a source without faults: each kind in the order of the cards.
 pub fn put_line_warnings(
     alloc: Global,
     warnings: &mut Vec<Warning>,
-    text: &[u8],
     source: &IndexedCards,
 ) -> Result<(), AllocError>
-    ensures { OnOk result (warnings.new.items ≡ warnings.old.items ++ warned.line_warnings (lines text.now) source.now) }
+    ensures { OnOk result (warnings.new.items ≡ warnings.old.items ++ warned.line_warnings source.now) }
 {
     put_unused(alloc, warnings, source)?;
     let mut placed = Vec::new(alloc);
     put_overlaps(warnings, &mut placed, source)?;
-    put_card_warnings(warnings, text, source.as_slice())?;
+    put_card_warnings(warnings, source.as_slice())?;
     put_unreset(alloc, warnings, source)
 }

@@ -74,7 +74,8 @@ fn any_line(test: LineTest, file: &Word<8>, cards: &[SpecCard]) -> bool
     false
 }
 
-pub(crate) fn is_printer(file: &FileSpec) -> bool
+/// Whether a file goes to the printer.
+pub fn is_printer(file: &FileSpec) -> bool
     ensures { result ≡ printer.is_printer file.now }
 {
     match (file.role, file.device) {

@@ -4,12 +4,14 @@ ghost use Rattle.std.specs.Prelude.{◌≡◌, ◌++◌, IfOk, OnOk};
 ghost use Rattle.std.specs.List.{filter_map, list_all};
 ghost use Rattle.rpg_warnings_lines.specs.Marks as marks;
 ghost use Rattle.rpg_warnings_lines.specs.Unused as unused;
+ghost use Rattle.rpg_warnings_lines.specs.Uses as uses;
 
 use crate::marks::{Mark, NONE, least_at, least_of, lower_each, put_mark};
 use crate::uses::{printed_on, read_on, result_on};
 use crate::warning::{Warning, WarningKind};
 use rpg_card_index::IndexedCards;
-use rpg_sheet_specs::ColumnFault;
+use rpg_cards::SpecCard;
+use rpg_sheet_specs::{ColumnFault, Spec};
 use std::alloc::{AllocError, Global};
 
 /// The columns of a result field.
@@ -18,15 +20,39 @@ const RESULT: ColumnFault = ColumnFault {
     last: 48,
 };
 
+/// Notes the names that an output field prints.
+fn note_printed(
+    read: &mut Vec<u16>,
+    source: &IndexedCards,
+    card: &SpecCard,
+) -> Result<(), AllocError>
+    ensures { OnOk result (marks.Lowers (marks.marks_of card.now.number (uses.printed_on source.now card.now.spec)) read.old.items read.new.items) }
+{
+    match &card.spec {
+        Spec::Output(_) => lower_each(read, &printed_on(source, card), card.number),
+        _ => Ok(()),
+    }
+}
+
 /// Notes the names that output fields print, with their first cards.
 #[tactic(auto, using(crate::proofs::Noting::lowers_more))]
 fn lower_printed(read: &mut Vec<u16>, source: &IndexedCards) -> Result<(), AllocError>
     ensures { OnOk result (marks.Lowers (unused.printed_from source.now source.now) read.old.items read.new.items) }
 {
     for card in source.as_slice() {
-        lower_each(read, &printed_on(source, card), card.number)?;
+        note_printed(read, source, card)?;
     }
     Ok(())
+}
+
+/// Notes the names that another card reads.
+fn note_read(read: &mut Vec<u16>, source: &IndexedCards, card: &SpecCard) -> Result<(), AllocError>
+    ensures { OnOk result (marks.Lowers (marks.marks_of card.now.number (uses.read_on source.now card.now.spec)) read.old.items read.new.items) }
+{
+    match &card.spec {
+        Spec::Output(_) => Ok(()),
+        _ => lower_each(read, &read_on(source, card), card.number),
+    }
 }
 
 /// Notes the names that other cards read, with their first cards.
@@ -35,7 +61,7 @@ fn lower_read(read: &mut Vec<u16>, source: &IndexedCards) -> Result<(), AllocErr
     ensures { OnOk result (marks.Lowers (unused.read_from source.now source.now) read.old.items read.new.items) }
 {
     for card in source.as_slice() {
-        lower_each(read, &read_on(source, card), card.number)?;
+        note_read(read, source, card)?;
     }
     Ok(())
 }

@@ -1,7 +1,7 @@
 -- What it means that a program does what calculation cards mean.
 use Rattle.std.specs.Prelude.{◌≡◌, ℕ, Bool, true, false, List, [], Some, slice_get}
 use Rattle.std.specs.FinMap as map
-use Rattle.rpg_cards.specs.Statements.{Acts, Begins, Calculation, Statement, Ends, Executes, GoesTo, Marks, Nothing, WritesExceptions}
+use Rattle.rpg_cards.specs.Statements.{Calculation, Statement, Ends, Executes}
 use Rattle.rpg_cards.specs.Keys.{Key, key_cmp}
 use Rattle.rpg_cards.specs.declared.spec_card.SpecCard.{SpecCard}
 use Rattle.rpg_compile_program.specs.Program.{key_numbers, program_of}
@@ -20,14 +20,9 @@ use Rattle.rpg_program.specs.Naming.{Agree}
 
 -- every statement but EXSR and ENDSR
 abbrev pub stays_in_part : Statement Key → Bool
-stays_in_part (Marks l) = true
-stays_in_part (Begins n) = true
-stays_in_part Nothing = true
-stays_in_part (Acts a) = true
-stays_in_part WritesExceptions = true
-stays_in_part (GoesTo l) = true
 stays_in_part (Executes n) = false
 stays_in_part (Ends l) = false
+stays_in_part _ = true
 
 -- One calculation: from where they agree its code leads to where the cards lead, or halts where they halt, and then they agree.
 abbrev pub KeepsCalculations : Object → Source → (Key → ℕ) → Type 0

@@ -3,7 +3,7 @@ use Rattle.std.specs.Prelude.{◌≡◌, ℕ, ◌+◌, ◌-◌, Bool, true, fals
 use Rattle.std.specs.FinSet as set
 use Rattle.std.specs.List.{list_any}
 use Rattle.std.specs.Ordering.{nat_cmp}
-use Rattle.rpg_cards.specs.Statements.{Acts, Begins, Calculation, Statement, Ends, Executes, GoesTo, Marks, Nothing, WritesExceptions}
+use Rattle.rpg_cards.specs.Statements.{Acts, Calculation, Statement, Ends, Executes, GoesTo, WritesExceptions}
 use Rattle.rpg_cards.specs.Keys.{Key, key_cmp}
 use Rattle.rpg_cards.specs.Sections.{Sections}
 use Rattle.rpg_program.specs.Effect.{Effect}
@@ -89,14 +89,12 @@ come_back s (b ∷ bs) = On (record s { part = b.0; next = b.1; back = bs }) no_
 module _ (source : Source) where
   -- what a calculation does, by its operation
   abbrev pub statement_done : State → Statement Key → MeantOutcome
-  statement_done s (Marks l) = On (at_next s (s.next + 1)) no_output
-  statement_done s (Begins l) = On (at_next s (s.next + 1)) no_output
-  statement_done s Nothing = On (at_next s (s.next + 1)) no_output
   statement_done s (Acts a) = affected s (on_data (operate source.forms a) s.world)
   statement_done s WritesExceptions = affected s (exception_output source.forms source.words source.overflow source.lines s.world)
   statement_done s (GoesTo label) = gone_to s (label_position label (calculations_in source.sections s.part))
   statement_done s (Executes name) = spending s (record s { part = InSubroutine name; next = 0; back = (s.part, s.next + 1) ∷ s.back })
   statement_done s (Ends l) = come_back s s.back
+  statement_done s _ = On (at_next s (s.next + 1)) no_output
 
   -- one calculation: what it does if its conditions hold, and then the next one
   abbrev pub calculation_done : State → Option (Calculation Key) → MeantOutcome

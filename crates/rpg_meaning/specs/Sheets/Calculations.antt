@@ -94,30 +94,22 @@ module _ (k : CalculationSpec) where
 
 -- 7-8: the calculation is done only if L1 to L9 or LR is on; L0, indicator 100, is always on
 abbrev pub meant_level : ControlLevel → Option ℕ
-meant_level control.Detail = None
 meant_level (control.Total n) = if n == 100 then None else Some n
-meant_level control.Subroutine = None
-meant_level control.And = None
-meant_level control.Or = None
+meant_level _ = None
 
 -- an AN or OR card, by columns 7 and 8
 abbrev pub is_continuation : ControlLevel → Bool
-is_continuation control.Detail = false
-is_continuation (control.Total n) = false
-is_continuation control.Subroutine = false
 is_continuation control.And = true
 is_continuation control.Or = true
+is_continuation _ = false
 
 -- an OR card
 abbrev pub is_or_calculation : CalculationSpec → Bool
 is_or_calculation k = by k.control_level
   where
     by : ControlLevel → Bool
-    by control.Detail = false
-    by (control.Total n) = false
-    by control.Subroutine = false
-    by control.And = false
     by control.Or = true
+    by _ = false
 
 -- 9-17 of one card, if any are filled
 abbrev pub filled_conditions_on : CalculationSpec → List Conditions

@@ -71,14 +71,10 @@ given_by_table entries t = record { name = t.name; form = if is_between 1 9999 e
 
 -- what a card defines
 abbrev pub given_on : Spec → List Definition
-given_on (spec.Header x) = []
-given_on (spec.File x) = []
 given_on (spec.Extension e) = given_by_table e.entries e.table ∷ option_to_list (option_map (given_by_table e.entries) e.alternating)
-given_on (spec.Form x) = []
 given_on (spec.Input x) = given_by_input x
 given_on (spec.Calculation k) = given_by_result k.result_field k.length k.decimals
-given_on (spec.Output x) = []
-given_on (spec.Data x) = []
+given_on _ = []
 
 -- ---- names
 
@@ -128,21 +124,14 @@ is_in_field c (Some code) text = false
 
 -- the constant is on the O card
 abbrev pub is_on_output : Constant → OutputSpec → Bool
-is_on_output c (output.Record r) = false
-is_on_output c (output.And t) = false
-is_on_output c (output.Or t) = false
 is_on_output c (output.Field f) = is_in_field c f.code f.text
+is_on_output c _ = false
 
 -- the constant is on the card
 abbrev pub is_on_card : Constant → Spec → Bool
-is_on_card c (spec.Header x) = false
-is_on_card c (spec.File x) = false
-is_on_card c (spec.Extension x) = false
-is_on_card c (spec.Form x) = false
-is_on_card c (spec.Input x) = false
 is_on_card c (spec.Calculation k) = is_in_factor c k.factor_1 || is_in_factor c k.factor_2
 is_on_card c (spec.Output x) = is_on_output c x
-is_on_card c (spec.Data x) = false
+is_on_card c _ = false
 
 -- the constant is on one of the cards
 abbrev pub stands_on : List SpecCard → Constant → Bool
@@ -158,7 +147,5 @@ meant_forms cards Nowhere = None
 
 -- a text on the cards is an edit word of its characters
 abbrev pub meant_words : List SpecCard → Key → List ℕ
-meant_words cards (Named name) = []
-meant_words cards (Fixed (constant.Number n)) = []
 meant_words cards (Fixed (constant.Text text)) = if stands_on cards (constant.Text text) then text else []
-meant_words cards Nowhere = []
+meant_words cards _ = []

@@ -86,17 +86,13 @@ meant_conditions t = map meant_condition (filled_values t)
 
 -- those of an AND card, and those of an OR card
 abbrev pub and_card : OutputSpec → Option (List Condition)
-and_card (output.Record r) = None
 and_card (output.And t) = Some (meant_conditions t)
-and_card (output.Or t) = None
-and_card (output.Field f) = None
+and_card _ = None
 
 -- the conditions of an OR card
 abbrev pub or_card : OutputSpec → Option (List Condition)
-or_card (output.Record r) = None
-or_card (output.And t) = None
 or_card (output.Or t) = Some (meant_conditions t)
-or_card (output.Field f) = None
+or_card _ = None
 
 -- the conditions of an AND card
 abbrev pub and_on : Spec → Option (List Condition)

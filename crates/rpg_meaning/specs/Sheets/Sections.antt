@@ -1,6 +1,6 @@
 -- The sections of a source: its calculations at detail time, those at total time, and its subroutines. Numbers are the columns of a C card.
 use Rattle.std.specs.Prelude.{◌++◌, Bool, true, false, List, [], ◌∷◌, filter, if◌then◌else◌}
-use Rattle.rpg_cards.specs.Statements.{Acts, Begins, Calculation, Statement, Ends, Executes, GoesTo, Marks, Nothing, WritesExceptions}
+use Rattle.rpg_cards.specs.Statements.{Begins, Calculation, Statement}
 use Rattle.rpg_cards.specs.Keys.{Key}
 use Rattle.rpg_cards.specs.Sections.{Sections, Subroutine}
 use Rattle.rpg_sheet_specs.specs.declared.calculation.ControlLevel.{ControlLevel}
@@ -11,39 +11,24 @@ use Rattle.rpg_sheet_specs.specs.declared.calculation.ControlLevel.TheVariants a
 -- columns 7 and 8 are blank
 abbrev pub is_at_detail_time : ControlLevel → Bool
 is_at_detail_time control.Detail = true
-is_at_detail_time (control.Total n) = false
-is_at_detail_time control.Subroutine = false
-is_at_detail_time control.And = false
-is_at_detail_time control.Or = false
+is_at_detail_time _ = false
 
 -- columns 7 and 8 have L0 to L9 or LR
 abbrev pub is_at_total_time : ControlLevel → Bool
-is_at_total_time control.Detail = false
 is_at_total_time (control.Total n) = true
-is_at_total_time control.Subroutine = false
-is_at_total_time control.And = false
-is_at_total_time control.Or = false
+is_at_total_time _ = false
 
 -- columns 7 and 8 have SR
 abbrev pub has_sr : ControlLevel → Bool
-has_sr control.Detail = false
-has_sr (control.Total n) = false
 has_sr control.Subroutine = true
-has_sr control.And = false
-has_sr control.Or = false
+has_sr _ = false
 
 -- ---- subroutines: each from the calculation after its BEGSR to the one before the next BEGSR
 
 -- BEGSR
 abbrev pub is_begin : Statement Key → Bool
 is_begin (Begins name) = true
-is_begin (Acts a) = false
-is_begin WritesExceptions = false
-is_begin (GoesTo label) = false
-is_begin (Executes name) = false
-is_begin (Marks label) = false
-is_begin (Ends label) = false
-is_begin Nothing = false
+is_begin _ = false
 
 -- the calculations of a subroutine: those before the next BEGSR
 abbrev pub meant_body : List (Calculation Key) → List (Calculation Key)
@@ -53,13 +38,7 @@ meant_body (g ∷ gs) = if is_begin g.statement then [] else g ∷ meant_body gs
 -- the subroutine that a calculation begins, if it is a BEGSR, with these after it
 abbrev pub begun_before : List (Calculation Key) → Statement Key → List (Subroutine Key)
 begun_before gs (Begins name) = record { name = name; body = meant_body gs } ∷ []
-begun_before gs (Acts a) = []
-begun_before gs WritesExceptions = []
-begun_before gs (GoesTo label) = []
-begun_before gs (Executes name) = []
-begun_before gs (Marks label) = []
-begun_before gs (Ends label) = []
-begun_before gs Nothing = []
+begun_before gs _ = []
 
 -- the subroutines, each with the calculations after its BEGSR
 abbrev pub meant_subroutines : List (Calculation Key) → List (Subroutine Key)

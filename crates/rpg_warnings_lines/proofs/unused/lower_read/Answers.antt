@@ -1,4 +1,4 @@
-use Rattle.std.proofs.Common.{ℕ, ◌+◌, ◌∙◌, List, Option, ap, drop, sym}
+use Rattle.std.proofs.Common.{◌+◌, ◌∙◌, ap, drop, sym}
 use Rattle.rpg_warnings_lines.proofs.Noting.{lowers_more, read_more}
 use Rattle.rpg_warnings_lines.specs.Marks.{least_at, least_with, marks_of}
 use Rattle.rpg_warnings_lines.specs.Unused.{read_from}
@@ -13,8 +13,7 @@ loop-card-preserved c = λ i.
     let k = c.loop-card.card-index in
     let old = least_at i c.loop-card.read.items in
     let rest = read_from cards (drop (k + 1) items) in
-    ap (λ n. least_with i n rest) (c.in_ok-lower_each.ensures i)
-    ∙ ap (λ (ps : List (Option ℕ)). least_with i (least_with i old (marks_of card.number ps)) rest) c.read_on.ensures
+    ap (λ n. least_with i n rest) (c.in_ok-note_read.ensures i)
     ∙ sym (lowers_more i old (marks_of card.number (read_on cards card.spec)) rest)
     ∙ ap (least_with i old) (sym (read_more cards items k card c.loop-card-test.true c.card-item.is))
     ∙ c.loop-card.invariant i

@@ -1,12 +1,13 @@
 //! W14: of two input files one ends the job. W15: an L card, or L in 39, by itself.
 
-ghost use Rattle.std.specs.Prelude.{◌≡◌, find, option_copied};
-ghost use Rattle.rpg_warnings_lines.specs.Files as files;
+ghost use Rattle.std.specs.Prelude.{◌≡◌, ◌++◌, OnOk, find, option_copied};
+ghost use Rattle.std.specs.List.{filter_map};
+ghost use Rattle.rpg_cli_warnings.specs.Files as files;
 
-use crate::printer::is_printer;
-use crate::warning::{Warning, WarningKind};
 use rpg_cards::{SpecCard, has_match_field};
 use rpg_sheet_specs::{ColumnFault, FileRole, FileSpec};
+use rpg_warnings_lines::{Warning, WarningKind, is_printer, put_warning};
+use std::alloc::AllocError;
 
 /// The column of the end of file.
 const END: ColumnFault = ColumnFault {
@@ -110,9 +111,19 @@ fn at(card: &SpecCard, columns: ColumnFault, kind: Option<WarningKind>) -> Optio
 
 /// Returns the warning of an input file that ends the job, or of a printer and its L card.
 #[tactic(auto, unfolding(crate::specs::Files::file_warning))]
-pub(crate) fn file_warning(cards: &[SpecCard], card: &SpecCard) -> Option<Warning>
+fn file_warning(cards: &[SpecCard], card: &SpecCard) -> Option<Warning>
     ensures { result ≡ files.file_warning cards.now card.now }
 {
     let file = card.file()?;
     at(card, END, ending_kind(cards, file)).or(at(card, EXTENSION, form_kind(cards, file)))
+}
+
+/// Appends the warnings of files that end the job, and of printers and their L cards, in the order of their cards.
+pub(crate) fn put_files(warnings: &mut Vec<Warning>, cards: &[SpecCard]) -> Result<(), AllocError>
+    ensures { OnOk result (warnings.new.items ≡ warnings.old.items ++ filter_map (files.file_warning cards.now) cards.now) }
+{
+    for card in cards {
+        put_warning(warnings, file_warning(cards, card))?;
+    }
+    Ok(())
 }

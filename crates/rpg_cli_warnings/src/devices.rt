@@ -1,13 +1,15 @@
 //! W13: a device that looks like the printer and isn't.
 
-ghost use Rattle.std.specs.Prelude.{◌≡◌};
+ghost use Rattle.std.specs.Prelude.{◌≡◌, ◌++◌, OnOk};
+ghost use Rattle.std.specs.List.{filter_map};
 ghost use Rattle.std.specs.Str.Lines.{lines};
-ghost use Rattle.rpg_warnings_lines.specs.Devices as devices;
+ghost use Rattle.rpg_cli_warnings.specs.Devices as devices;
 
-use crate::warning::{Warning, WarningKind};
 use rpg_cards::SpecCard;
 use rpg_sheet_specs::{ColumnFault, Device, FileRole, FileSpec};
 use rpg_text::first_line;
+use rpg_warnings_lines::{Warning, WarningKind, put_warning};
+use std::alloc::AllocError;
 
 /// The columns of a device.
 const DEVICE: ColumnFault = ColumnFault {
@@ -53,7 +55,7 @@ fn is_disk(file: &FileSpec) -> bool
 
 /// Returns the warning of a device that looks like the printer, on a card of `text`.
 #[tactic(auto, unfolding(crate::specs::Devices::device_on))]
-pub(crate) fn device_on(text: &[u8], card: &SpecCard) -> Option<Warning>
+fn device_on(text: &[u8], card: &SpecCard) -> Option<Warning>
     ensures { result ≡ devices.device_on (lines text.now) card.now }
 {
     let file = card.file()?;
@@ -66,4 +68,18 @@ pub(crate) fn device_on(text: &[u8], card: &SpecCard) -> Option<Warning>
     } else {
         None
     }
+}
+
+/// Appends the warnings of devices that look like the printer, in the order of their cards.
+pub(crate) fn put_devices(
+    warnings: &mut Vec<Warning>,
+    text: &[u8],
+    cards: &[SpecCard],
+) -> Result<(), AllocError>
+    ensures { OnOk result (warnings.new.items ≡ warnings.old.items ++ filter_map (devices.device_on (lines text.now)) cards.now) }
+{
+    for card in cards {
+        put_warning(warnings, device_on(text, card))?;
+    }
+    Ok(())
 }
