@@ -12,7 +12,8 @@ use rpg_fit_words::{
 pub(crate) fn check_joined(updated: &Updated, both: &Both) -> Done {
     let printer = Printer::of(&updated.deck.view);
     let lines = updated.lines();
-    let lines = lines.checked()?;
+    lines.check()?;
+    let lines = lines.as_slice();
     for line in lines {
         check_fields(updated, line, both)?;
         check_overflow(updated, &printer, line)?;
@@ -24,7 +25,8 @@ pub(crate) fn check_joined(updated: &Updated, both: &Both) -> Done {
 /// conditions turn on.
 pub(crate) fn join(editor: &mut Editor, free: &mut FreeIndicators, updated: &Updated) -> Done {
     let lines = updated.lines();
-    let lines = lines.checked()?;
+    lines.check()?;
+    let lines = lines.as_slice();
     let mut joined = Joined {
         calculations: List::new(editor.alloc()),
         fields: List::new(editor.alloc()),

@@ -8,8 +8,8 @@ use rpg_fit_deck::{Editor, Seen, Sentence, View, Word};
 use rpg_fit_terms::address_after;
 use rpg_fit_words::{
     Conjunction, DeckLines, Done, FileTypes, FreeIndicators, Indicator, IndicatorUse, Line, List,
-    NewCard, Outcome, RuleStop, UseKind, file_card, file_name, files_read, indicator_uses,
-    name_files, name_types, put_cards, record_length, record_types,
+    NewCard, RuleStop, UseKind, file_card, file_name, files_read, indicator_uses, name_files,
+    name_types, put_cards, record_length, record_types,
 };
 
 /// LR, which ends the job.
@@ -140,7 +140,7 @@ impl Updated {
 
     /// Writes the records of the file to the new one by its lines.
     fn put_back(&self, editor: &mut Editor, free: &mut FreeIndicators) -> Done {
-        let puts = self.puts()?;
+        let puts = self.puts();
         let puts = puts.checked()?;
         let both = self.both(puts);
         if let Some(both) = &both {
@@ -205,8 +205,10 @@ impl Updated {
     /// Rejects lines that aren't for the record that was read.
     fn check_lines(&self) -> Done {
         let is_alone = self.is_alone();
-        for line in self.lines().checked()? {
-            self.check_line(line, is_alone)?;
+        for line in self.deck.lines.iter() {
+            if self.has(line) {
+                self.check_line(line, is_alone)?;
+            }
         }
         Ok(())
     }
@@ -281,16 +283,22 @@ impl Updated {
     }
 
     /// Returns the alternatives of its lines.
-    fn puts(&self) -> Outcome<List<Put>> {
+    fn puts(&self) -> List<Put> {
         let mut found = List::new(self.deck.view.alloc);
-        for line in self.lines().checked()? {
-            for alternative in line.alternatives.iter() {
-                found.push(Put {
-                    line: line.head.number,
-                    condition: alternative.condition,
-                });
+        for line in self.deck.lines.iter() {
+            if self.has(line) {
+                push_puts(&mut found, line);
             }
         }
-        Ok(found)
+        found
+    }
+}
+
+fn push_puts(found: &mut List<Put>, line: &Line) {
+    for alternative in line.alternatives.iter() {
+        found.push(Put {
+            line: line.head.number,
+            condition: alternative.condition,
+        });
     }
 }

@@ -12,8 +12,10 @@ use rpg_fit_words::{
 pub(crate) fn write_lines(editor: &mut Editor, updated: &Updated, puts: &[Put]) -> Done {
     let rest = unchanged(updated, puts)?;
     let rest = rest.checked()?;
-    for line in updated.lines().checked()? {
-        write_line(editor, updated, line)?;
+    for line in updated.deck.lines.iter() {
+        if updated.has(line) {
+            write_line(editor, updated, line)?;
+        }
     }
     if !rest.is_empty() {
         write_rest(editor, updated, rest)?;
@@ -93,7 +95,9 @@ fn write_rest(editor: &mut Editor, updated: &Updated, conditions: &[Conjunction]
     let mut cards = List::new(editor.alloc());
     push_conditions(&mut cards, updated.new_line(number), conditions)?;
     updated.record.push_fields(&mut cards, number);
-    let following = match updated.lines().checked()?.last() {
+    let lines = updated.lines();
+    lines.check()?;
+    let following = match lines.as_slice().last() {
         Some(line) => address_after(view, last_card(line).at),
         None => before_output(view),
     };
