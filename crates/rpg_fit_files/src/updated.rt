@@ -4,7 +4,7 @@ use crate::end_of_file::may_leave_records;
 use crate::joined_line::{check_joined, join};
 use crate::record_text::RecordText;
 use crate::updated_line::write_lines;
-use rpg_fit_deck::{Editor, Seen, Sentence, View, Word};
+use rpg_fit_deck::{Editor, Seen, View, Word};
 use rpg_fit_terms::address_after;
 use rpg_fit_words::{
     Conjunction, DeckLines, Done, FileTypes, FreeIndicators, Indicator, IndicatorUse, Line, List,

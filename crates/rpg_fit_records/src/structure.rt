@@ -2,7 +2,7 @@
 
 use crate::put_together::assemble;
 use crate::taken_apart::take_apart;
-use rpg_fit_deck::{Editor, Seen, Sentence, View, Word};
+use rpg_fit_deck::{Editor, Seen, View, Word};
 use rpg_fit_terms::is_name_on;
 use rpg_fit_words::{
     Done, Line, List, Operand, Outcome, RecordType, RuleStop, is_card, is_structure, lines,
