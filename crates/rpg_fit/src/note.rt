@@ -1,7 +1,7 @@
 //! Notes on cards that are accepted but mean something else than before.
 
 use rpg_fit_deck::{Card, Seen, View};
-use rpg_fit_words::{is_card, printer_of};
+use rpg_fit_words::{is_card, printer_card};
 use std::alloc::AllocError;
 
 /// A note on a card.
@@ -24,8 +24,8 @@ pub(crate) fn notes(view: &View) -> Result<Vec<Note>, AllocError> {
             })?;
         }
     }
-    if let Some(printer) = printer_of(view) {
-        if printer.overflow.is_blank() {
+    if let Some(printer) = printer_card(view) {
+        if printer.card.is_blank(33, 34) {
             notes.push(Note {
                 card: printer.number,
                 text: "no overflow indicator: the old system skipped over the fold by itself, here lines continue over it",

@@ -4,8 +4,7 @@ use rpg_fit_deck::{Editor, Seen, Sentence, View, Word};
 use rpg_fit_terms::is_name_on;
 use rpg_fit_words::{
     Columns, Done, Indicator, Line, List, Place, Printer, RuleStop, array_of, calculation,
-    fresh_name, has_overflow, insert_at, is_card, is_field_put_first, is_name_used,
-    is_total_skipped_late, lines, printer_of,
+    fresh_name, insert_at, is_card, is_name_used, lines,
 };
 
 /// The name of a part of the date that the old system provided as a field.
@@ -78,20 +77,20 @@ fn first_card(view: &View, parts: &[DatePart]) -> usize {
 
 /// Rejects parts of the date on lines that may be written before any calculation.
 fn check_lines(view: &View, parts: &[DatePart]) -> Done {
-    let printer = printer_of(view);
+    let printer = Printer::of(view);
     let lines = lines(view)?;
-    let is_late = is_total_skipped_late(view, printer, lines.as_slice())?;
+    let is_late = printer.is_total_skipped_late(view, lines.as_slice())?;
     for line in lines.iter() {
-        check_line(printer, line, parts, is_late && has_overflow(printer, line))?;
+        check_line(line, parts, is_late && printer.has_overflow(line))?;
     }
     Ok(())
 }
 
 /// Rejects parts of the date on a line. `is_early`: overflow may write it before any total calculation.
-fn check_line(printer: Option<Printer>, line: &Line, parts: &[DatePart], is_early: bool) -> Done {
+fn check_line(line: &Line, parts: &[DatePart], is_early: bool) -> Done {
     for field in line.fields.iter() {
         let name = field.card.value(32, 37);
-        if is_part(parts, name) && (is_early || is_field_put_first(printer, line, field)) {
+        if is_part(parts, name) && (is_early || line.is_field_put_first(field)) {
             let why = "% on a line that may be printed before any calculation";
             return Err(RuleStop::about(field.number, why, Word::of(name)));
         }
@@ -101,14 +100,8 @@ fn check_line(printer: Option<Printer>, line: &Line, parts: &[DatePart], is_earl
 
 /// Whether a deck has total calculations or total lines.
 fn has_total(view: &View) -> bool {
-    for seen in view.cards.iter() {
-        let card = &seen.card;
-        let is_calculation = is_card(seen, b'C') && card.column(7) == b'L';
-        if is_calculation || is_card(seen, b'O') && card.column(15) == b'T' {
-            return true;
-        }
-    }
-    false
+    view.cards.iter().any(|seen| is_card(seen, b'C') && seen.card.column(7) == b'L'
+        || is_card(seen, b'O') && seen.card.column(15) == b'T')
 }
 
 /// The calculations that fill each part of the date, in order. The word is a field for the month and the day.
@@ -150,8 +143,8 @@ fn sentence(parts: &[DatePart]) -> Sentence {
         "%, %, % from UDATE, so --date is month, day, year",
     );
     match parts {
-        [a, b, c] => Sentence::of_three(three, Word::of(*a), Word::of(*b), Word::of(*c)),
-        [a, b] => Sentence::of_two(two, Word::of(*a), Word::of(*b)),
+        [a, b, c] => Sentence::with(three, &[Word::of(*a), Word::of(*b), Word::of(*c)]),
+        [a, b] => Sentence::with(two, &[Word::of(*a), Word::of(*b)]),
         [a, ..] => Sentence::about(one, Word::of(*a)),
         [] => Sentence::of(""),
     }

@@ -93,9 +93,10 @@ fn is_move(operation: &[u8]) -> bool {
     matches!(operation, b"MOVE" | b"MOVEL")
 }
 
-/// Fields that nothing writes, for constants that are longer than a literal.
+/// A deck, and its fields that nothing writes, for constants that are longer than a literal.
 #[derive(Clone, Copy)]
-struct Fields {
+struct Fields<'a> {
+    view: &'a View,
     blanks: Option<Word>,
     zeros: Option<Word>,
 }
@@ -104,63 +105,79 @@ struct Fields {
 pub fn figures(editor: &mut Editor) -> Done {
     let view = editor.view()?;
     let mut fields = Fields {
+        view: &view,
         blanks: None,
         zeros: None,
     };
     for seen in view.cards.iter() {
         if is_card(seen, b'C') {
             let mut now = *seen;
-            now.card = rewritten(editor, &view, &mut fields, now, Columns::Factor1)?;
-            rewritten(editor, &view, &mut fields, now, Columns::Factor2)?;
+            now.card = fields.rewritten(editor, now, Columns::Factor1)?;
+            fields.rewritten(editor, now, Columns::Factor2)?;
         }
     }
     Ok(())
 }
 
-/// Rewrites the figurative constant in columns of a card, and returns the card. The first one of a card may change the operation for the
-/// second.
-fn rewritten(
-    editor: &mut Editor,
-    view: &View,
-    fields: &mut Fields,
-    seen: Seen,
-    columns: Columns,
-) -> Outcome<Card> {
-    let constant = Word::of(columns.value(&seen.card));
-    let Some(figure) = Figure::of(constant.text()) else {
-        return Ok(seen.card);
-    };
-    let mut card = seen.card;
-    let text = match meaning(view, &seen, constant, figure, columns)? {
-        Instead::Number => {
-            if is_move(card.value(28, 32)) {
-                card = card.with(28, 32, b"Z-ADD");
+impl Fields<'_> {
+    /// Rewrites the figurative constant in columns of a card, and returns the card. The first one of a card may change the operation for
+    /// the second.
+    fn rewritten(&mut self, editor: &mut Editor, seen: Seen, columns: Columns) -> Outcome<Card> {
+        let constant = Word::of(columns.value(&seen.card));
+        let Some(figure) = Figure::of(constant.text()) else {
+            return Ok(seen.card);
+        };
+        let mut card = seen.card;
+        let text = match meaning(self.view, &seen, columns, figure)? {
+            Instead::Number => {
+                if is_move(card.value(28, 32)) {
+                    card = card.with(28, 32, b"Z-ADD");
+                }
+                Word::of(b"0")
             }
-            Word::of(b"0")
+            Instead::Literal(length) => figure.literal(length),
+            Instead::Field => self.field(editor, figure, seen.number)?,
+        };
+        card = columns.put(card, text.text());
+        editor.rewrite(&seen, card, Sentence::with("% is %", &[constant, text]));
+        Ok(card)
+    }
+
+    /// Returns the field that replaces a figurative constant, created for the first card that needs it.
+    fn field(&mut self, editor: &mut Editor, figure: Figure, number: usize) -> Outcome<Word> {
+        let (known, stem, template): (Option<Word>, &[u8], &[u8]) = match figure {
+            Figure::Blanks => (self.blanks, b"BL$", BLANKS),
+            Figure::Zeros => (self.zeros, b"ZE$", ZEROS),
+        };
+        if let Some(name) = known {
+            return Ok(name);
         }
-        Instead::Literal(length) => figure.literal(length),
-        Instead::Field => field(editor, fields, figure, seen.number)?,
-    };
-    card = columns.put(card, text.text());
-    editor.rewrite(&seen, card, Sentence::of_two("% is %", constant, text));
-    Ok(card)
+        let name = fresh_name(&editor.view()?, stem, number)?;
+        let never = calculation(template, &[name], number);
+        insert_at(editor, Place::DetailFront, &[never], number)?;
+        match figure {
+            Figure::Blanks => self.blanks = Some(name),
+            Figure::Zeros => self.zeros = Some(name),
+        }
+        Ok(name)
+    }
 }
 
 /// Returns what replaces a figurative constant in columns.
-fn meaning(
-    view: &View,
-    seen: &Seen,
-    constant: Word,
-    figure: Figure,
-    columns: Columns,
-) -> Outcome<Instead> {
+fn meaning(view: &View, seen: &Seen, columns: Columns, figure: Figure) -> Outcome<Instead> {
+    let constant = Word::of(columns.value(&seen.card));
+    let operation = seen.card.value(28, 32);
     let Some(beside) = Beside::of(view, other_operand(&seen.card, columns)) else {
         let why = "% stands with a name that nothing defines";
         return Err(RuleStop::about(seen.number, why, constant));
     };
-    match instead_of(constant, figure, beside, seen.card.value(28, 32)) {
+    let is_compared = matches!(operation, b"COMP" | b"LOKUP");
+    if matches!(beside, Beside::Text(_)) && !is_move(operation) && !is_compared {
+        return Err(RuleStop::with(seen.number, "% beside %", &[constant, Word::of(operation)]));
+    }
+    match instead_of(figure, beside, is_move(operation)) {
         Ok(instead) => Ok(instead),
-        Err(why) => Err(RuleStop::refused(seen.number, why)),
+        Err(why) => Err(RuleStop::because(seen.number, why)),
     }
 }
 
@@ -174,52 +191,18 @@ fn other_operand(card: &Card, columns: Columns) -> &[u8] {
     }
 }
 
-/// Returns what replaces a figurative constant, or why nothing has the same meaning.
-fn instead_of(
-    constant: Word,
-    figure: Figure,
-    beside: Beside,
-    operation: &[u8],
-) -> Result<Instead, Sentence> {
-    let why = match (beside, figure) {
-        (Beside::Number, Figure::Zeros) => return Ok(Instead::Number),
-        (Beside::Number, Figure::Blanks) => Sentence::of("*BLANK beside a number"),
-        (Beside::Text(length), _) if is_move(operation) && length <= LITERAL => {
-            return Ok(Instead::Literal(length));
+/// Returns what replaces a figurative constant that is moved or compared, or why nothing has the same meaning.
+fn instead_of(figure: Figure, beside: Beside, is_move: bool) -> Result<Instead, &'static str> {
+    match (beside, figure) {
+        (Beside::Number, Figure::Zeros) => Ok(Instead::Number),
+        (Beside::Number, Figure::Blanks) => Err("*BLANK beside a number"),
+        (Beside::Text(length), _) if is_move && length <= LITERAL => Ok(Instead::Literal(length)),
+        (Beside::Text(length), Figure::Zeros) if is_move && length > DIGITS => {
+            Err("*ZERO to a text of more than 15 characters")
         }
-        (Beside::Text(length), Figure::Zeros) if is_move(operation) && length > DIGITS => {
-            Sentence::of("*ZERO to a text of more than 15 characters")
-        }
-        (Beside::Text(_), _) if is_move(operation) => return Ok(Instead::Field),
-        (Beside::Text(_), _) if !matches!(operation, b"COMP" | b"LOKUP") => {
-            Sentence::of_two("% beside %", constant, Word::of(operation))
-        }
-        (Beside::Text(_), Figure::Blanks) => return Ok(Instead::Literal(1)),
-        (Beside::Text(length), Figure::Zeros) if length <= LITERAL => {
-            return Ok(Instead::Literal(length));
-        }
-        (Beside::Text(_), Figure::Zeros) => {
-            Sentence::of("*ZERO beside a text of more than 8 characters")
-        }
-    };
-    Err(why)
-}
-
-/// Returns the field that replaces a figurative constant, created for the first card that needs it.
-fn field(editor: &mut Editor, fields: &mut Fields, figure: Figure, number: usize) -> Outcome<Word> {
-    let (known, stem, template): (Option<Word>, &[u8], &[u8]) = match figure {
-        Figure::Blanks => (fields.blanks, b"BL$", BLANKS),
-        Figure::Zeros => (fields.zeros, b"ZE$", ZEROS),
-    };
-    if let Some(name) = known {
-        return Ok(name);
+        (Beside::Text(_), _) if is_move => Ok(Instead::Field),
+        (Beside::Text(_), Figure::Blanks) => Ok(Instead::Literal(1)),
+        (Beside::Text(length), Figure::Zeros) if length <= LITERAL => Ok(Instead::Literal(length)),
+        (Beside::Text(_), Figure::Zeros) => Err("*ZERO beside a text of more than 8 characters"),
     }
-    let name = fresh_name(&editor.view()?, stem, number)?;
-    let never = calculation(template, &[name], number);
-    insert_at(editor, Place::DetailFront, &[never], number)?;
-    match figure {
-        Figure::Blanks => fields.blanks = Some(name),
-        Figure::Zeros => fields.zeros = Some(name),
-    }
-    Ok(name)
 }

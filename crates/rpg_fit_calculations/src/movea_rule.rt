@@ -2,31 +2,31 @@
 
 use crate::figure_rule::is_literal;
 use crate::movea::{Entries, Moves, Side, moves_of};
-use crate::now::{Now, replace};
+use crate::now::{Flagged, Now};
 use rpg_fit_deck::{Card, Editor, Seen, Sentence, View, Word};
 use rpg_fit_words::{
-    Array, Columns, Constant, Done, Flagged, Group, List, NewCard, Operand, Outcome, RuleStop,
-    array_of, entry, form_of, groups_now, unused_prefix,
+    Array, Cards, Columns, Constant, Done, NewCard, Operand, Outcome, RuleStop, array_of, entry,
+    form_of, groups, unused_prefix,
 };
 
 /// Rewrites MOVEA as moves of single entries.
 pub fn moves(editor: &mut Editor) -> Done {
-    let found = groups_now(editor)?;
+    let found = groups(&editor.view()?)?;
     let Some(first) = found.first() else {
         return Ok(());
     };
-    let mut now = Now::of(editor, first.last)?;
+    let mut now = Now::of(editor, first)?;
     for group in found.iter() {
         if group.operation() == b"MOVEA".as_slice() {
-            now.turn(group.last);
-            rewrite_group(editor, group, &mut now)?;
+            now.turn(group);
+            rewrite_group(editor, &mut now)?;
         }
     }
     Ok(())
 }
 
 /// Rewrites a MOVEA. One whose operands can't be read stays, for the compiler to report.
-fn rewrite_group(editor: &mut Editor, group: &Group, now: &mut Now) -> Done {
+fn rewrite_group(editor: &mut Editor, now: &mut Now) -> Done {
     match meaning(now)? {
         None => Ok(()),
         Some(Moves::Left) => {
@@ -36,7 +36,7 @@ fn rewrite_group(editor: &mut Editor, group: &Group, now: &mut Now) -> Done {
         }
         Some(moves) => {
             make_rooms(editor, now)?;
-            move_entries(editor, group, now, moves)
+            move_entries(editor, now, moves)
         }
     }
 }
@@ -95,18 +95,18 @@ fn entries_side(array: Array, index: &[u8]) -> Option<Side> {
 }
 
 /// Rewrites a MOVEA with an array.
-fn move_entries(editor: &mut Editor, group: &Group, now: &mut Now, moves: Moves) -> Done {
+fn move_entries(editor: &mut Editor, now: &mut Now, moves: Moves) -> Done {
     let work = match moves {
         Moves::Into(_) | Moves::OutOf(_) => work_prefix(&now.view, now.seen.number)?,
         _ => Word::empty(),
     };
-    let under = now.under_flag(group, false)?;
+    let under = now.under()?;
     let plan = Plan::of(&now.seen, &under, work);
     let mut cards = under.before;
     plan.push_moves(&mut cards, moves);
     let count = cards.as_slice().len();
     let remark = Sentence::counted("MOVEA is % calculation", "MOVEA is % calculations", count);
-    replace(editor, group, &cards, remark)?;
+    now.replace(editor, &cards, remark)?;
     if work.len() > 0 {
         now.look(editor)
     } else {
@@ -174,7 +174,7 @@ impl Plan {
     }
 
     /// Appends the moves of all entries.
-    fn push_moves(&self, cards: &mut List<NewCard>, moves: Moves) {
+    fn push_moves(&self, cards: &mut Cards, moves: Moves) {
         match moves {
             Moves::Left => {}
             Moves::EntryToEntry { from, to, count } => {
@@ -186,7 +186,7 @@ impl Plan {
     }
 
     /// Appends a MOVE for each entry.
-    fn push_entry_to_entry(&self, cards: &mut List<NewCard>, from: usize, to: usize, count: usize) {
+    fn push_entry_to_entry(&self, cards: &mut Cards, from: usize, to: usize, count: usize) {
         for place in 0..count {
             let from = numbered(self.from, from.saturating_add(place));
             let to = numbered(self.to, to.saturating_add(place));
@@ -195,7 +195,7 @@ impl Plan {
     }
 
     /// Appends, for each entry, a MOVEL of everything up to its end to a work field, and a MOVE of that to the entry.
-    fn push_into(&self, cards: &mut List<NewCard>, to: Entries) {
+    fn push_into(&self, cards: &mut Cards, to: Entries) {
         for place in 0..to.count {
             let number = place.saturating_add(1);
             let work = self.work_field(number);
@@ -208,7 +208,7 @@ impl Plan {
 
     /// Appends, for each entry from the last one down, a MOVE of it to the end of a work field, and a MOVEL of that to the result. The
     /// first of them keeps the length that the card gives the result.
-    fn push_out_of(&self, cards: &mut List<NewCard>, from: Entries) {
+    fn push_out_of(&self, cards: &mut Cards, from: Entries) {
         for place in 0..from.count {
             let number = from.count.saturating_sub(place);
             let work = self.work_field(number);

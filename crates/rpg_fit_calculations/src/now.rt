@@ -2,35 +2,52 @@
 
 use rpg_fit_deck::{Editor, Seen, Sentence, View, Word};
 use rpg_fit_words::{
-    Done, Flagged, FreeIndicators, Group, List, NewCard, Outcome, ShortNames, put_cards,
-    remove_cards, under_flag,
+    Cards, Conjunction, Done, FreeIndicators, Group, Indicator, List, Outcome, Section, ShortNames,
+    calculation, push_copies, put_cards, remove_cards,
 };
 
-/// A deck, but for cards that replaced calculations, and the last card of the calculation that is next.
+/// A deck, but for cards that replaced calculations, and the calculation that is next.
 #[derive(Drop)]
-pub(crate) struct Now {
+pub(crate) struct Now<'a> {
     pub view: View,
+    pub group: &'a Group,
+    /// The last card of the calculation, with the present names of arrays.
     pub seen: Seen,
     pub free: FreeIndicators,
     names: ShortNames,
 }
 
-impl Now {
+/// The conditions of calculations that replace another one.
+#[derive(Drop)]
+pub(crate) struct Flagged {
+    /// Calculations that turn the flag on if the conditions hold; they come first.
+    pub before: Cards,
+    /// Columns 7 to 8 of each calculation.
+    pub level: Indicator,
+    /// Columns 9 to 17 of each calculation.
+    pub conditions: Word,
+    /// The indicator that is on if the conditions hold; blank if they fit on a single card.
+    pub flag: Indicator,
+}
+
+impl<'a> Now<'a> {
     /// Begins with a calculation.
-    pub fn of(editor: &Editor, last: Seen) -> Outcome<Now> {
+    pub fn of(editor: &Editor, first: &'a Group) -> Outcome<Now<'a>> {
         Ok(Now {
             view: editor.view()?,
-            seen: last,
+            group: first,
+            seen: first.last,
             free: FreeIndicators::new(),
             names: ShortNames::new(editor.alloc()),
         })
     }
 
-    /// Goes on to a calculation, given its last card as it was before arrays were renamed.
-    pub fn turn(&mut self, last: Seen) {
-        self.seen = last;
+    /// Goes on to a calculation, as it was before arrays were renamed.
+    pub fn turn(&mut self, group: &'a Group) {
+        self.group = group;
+        self.seen = group.last;
         for card in self.view.cards.iter() {
-            if card.at == last.at {
+            if card.at == group.last.at {
                 self.seen = *card;
             }
         }
@@ -39,7 +56,7 @@ impl Now {
     /// Sees the names on cards that replaced calculations too.
     pub fn look(&mut self, editor: &Editor) -> Done {
         self.view = editor.view()?;
-        self.turn(self.seen);
+        self.turn(self.group);
         Ok(())
     }
 
@@ -52,23 +69,54 @@ impl Now {
         Ok(())
     }
 
-    /// Returns the conditions of the cards that replace a calculation: its own, or a free indicator.
-    pub fn under_flag(&mut self, group: &Group, always: bool) -> Outcome<Flagged> {
-        under_flag(&self.view, group, &mut self.free, always)
+    /// Returns the conditions of the calculations that replace this one: its own if one card has them, else a free indicator.
+    pub fn under(&mut self) -> Outcome<Flagged> {
+        if !self.group.leading.is_empty() {
+            return self.under_flag();
+        }
+        let card = &self.group.last.card;
+        Ok(Flagged {
+            before: List::new(self.view.alloc),
+            level: Indicator::at(card, 7),
+            conditions: Word::of(card.columns(9, 17)),
+            flag: Indicator::BLANK,
+        })
     }
-}
 
-/// Replaces a calculation by cards, and reports it.
-pub(crate) fn replace(
-    editor: &mut Editor,
-    group: &Group,
-    new: &List<NewCard>,
-    remark: Sentence,
-) -> Done {
-    let number = group.last.number;
-    put_cards(editor, group.first().at, new.checked()?, number)?;
-    remove_cards(editor, group.leading.as_slice(), number);
-    editor.remove(group.last.at, number);
-    editor.report(number, remark);
-    Ok(())
+    /// Returns a free indicator as the condition of the calculations that replace this one.
+    pub fn under_flag(&mut self) -> Outcome<Flagged> {
+        let flag = self.free.take(&self.view, self.seen.number)?;
+        let level = match self.group.section() {
+            Section::Total => Indicator::ALWAYS,
+            _ => Indicator::at(&self.group.first().card, 7),
+        };
+        Ok(Flagged {
+            before: self.flag_cards(level, flag.word()),
+            level,
+            conditions: Conjunction::on(flag).columns(0),
+            flag,
+        })
+    }
+
+    /// Returns the cards that turn a flag on if the calculation is done.
+    fn flag_cards(&self, level: Indicator, flag: Word) -> Cards {
+        let Group { leading, last } = self.group;
+        let off = calculation(b"||SETOF||||%", &[flag], last.number);
+        let on = calculation(b"||SETON||||%", &[flag], last.number);
+        let mut cards = List::new(self.view.alloc);
+        cards.push(off.with(7, 8, level.word().text()));
+        push_copies(&mut cards, leading.as_slice());
+        cards.push(on.with_columns(7, 17, &last.card));
+        cards
+    }
+
+    /// Replaces the calculation by cards, and reports it.
+    pub fn replace(&self, editor: &mut Editor, cards: &Cards, remark: Sentence) -> Done {
+        let (group, number) = (self.group, self.seen.number);
+        put_cards(editor, group.first().at, cards.checked()?, number)?;
+        remove_cards(editor, group.leading.as_slice(), number);
+        editor.remove(group.last.at, number);
+        editor.report(number, remark);
+        Ok(())
+    }
 }

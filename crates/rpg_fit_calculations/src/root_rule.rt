@@ -1,10 +1,10 @@
 //! SQRT: replaced by a loop that takes Newton's steps on whole numbers.
 
-use crate::now::{Now, replace};
+use crate::now::{Flagged, Now};
 use rpg_fit_deck::{Card, Editor, Sentence, View, Word};
 use rpg_fit_words::{
-    Columns, Done, FreshNames, Group, Indicator, NewCard, Operand, Outcome, RuleStop, array_of,
-    calculation, form_of, groups_now,
+    Cards, Columns, Done, FreshNames, Group, Indicator, NewCard, Operand, Outcome, RuleStop,
+    array_of, calculation, form_of, groups,
 };
 
 /// The most digits of a number.
@@ -15,16 +15,17 @@ const MOST_DECIMALS: usize = 4;
 
 /// Replaces each SQRT by a loop. Its result is rounded.
 pub fn square_roots(editor: &mut Editor) -> Done {
-    let found = groups_now(editor)?;
+    let found = groups(&editor.view()?)?;
     let Some(first) = found.first() else {
         return Ok(());
     };
-    let mut now = Now::of(editor, first.last)?;
+    let mut now = Now::of(editor, first)?;
     let mut unused = Unused::new();
     for group in found.iter() {
         if group.operation() == b"SQRT".as_slice() {
-            now.seen = group.last;
-            rewrite_root(editor, &mut unused, group, &mut now, found.as_slice())?;
+            now.turn(group);
+            check(&now, found.as_slice())?;
+            rewrite_root(editor, &mut unused, &mut now)?;
         }
     }
     Ok(())
@@ -136,14 +137,7 @@ fn decimals_of(view: &View, card: &Card) -> Option<usize> {
 }
 
 /// Replaces a SQRT. One whose operands nothing defines stays, for the compiler to report.
-fn rewrite_root(
-    editor: &mut Editor,
-    unused: &mut Unused,
-    group: &Group,
-    now: &mut Now,
-    all: &[Group],
-) -> Done {
-    check(now, all)?;
+fn rewrite_root(editor: &mut Editor, unused: &mut Unused, now: &mut Now) -> Done {
     let card = &now.seen.card;
     let (Some(digits), Some(decimals)) = (
         operand_digits(&now.view, Columns::Factor2.value(card)),
@@ -158,34 +152,11 @@ fn rewrite_root(
     if length > MOST_DIGITS || decimals > MOST_DECIMALS {
         let why = "the root of a number of % digits to % decimals";
         let (length, decimals) = (Word::of_number(digits.length), Word::of_number(decimals));
-        return Err(RuleStop::refused(now.seen.number, Sentence::of_two(why, length, decimals)));
+        return Err(RuleStop::with(now.seen.number, why, &[length, decimals]));
     }
-    put_loop(editor, unused, group, now, length.max(2), decimals)
-}
-
-/// Replaces a SQRT by a loop over numbers of `length` digits.
-fn put_loop(
-    editor: &mut Editor,
-    unused: &mut Unused,
-    group: &Group,
-    now: &mut Now,
-    length: usize,
-    decimals: usize,
-) -> Done {
-    let under = now.under_flag(group, true)?;
-    let Some(flag) = under.flag else {
-        return Ok(());
-    };
-    let root = Root::of(now, unused, under.level, flag, length)?;
-    let mut cards = under.before;
-    cards.push_all(&root.begin(&now.seen.card, power(4, decimals.saturating_mul(2))));
-    cards.push_all(&root.check(&now.seen.card));
-    cards.push_all(&root.step());
-    cards.push_all(&root.end(&now.seen.card, power(2, decimals)));
-    let most = length.saturating_mul(167) / 100;
-    let text = "SQRT: a loop, rounded; at most % of the allowance";
-    let remark = Sentence::about(text, Word::of_number(most.saturating_add(6)));
-    replace(editor, group, &cards, remark)
+    let under = now.under_flag()?;
+    let root = Root::of(now, unused, &under, length.max(2))?;
+    root.put(editor, now, under.before, decimals)
 }
 
 /// Returns a number with zeros after it.
@@ -221,17 +192,11 @@ struct Root {
 }
 
 impl Root {
-    fn of(
-        now: &mut Now,
-        unused: &mut Unused,
-        level: Indicator,
-        flag: Indicator,
-        length: usize,
-    ) -> Outcome<Root> {
+    fn of(now: &mut Now, unused: &mut Unused, under: &Flagged, length: usize) -> Outcome<Root> {
         let number = now.seen.number;
         Ok(Root {
-            level,
-            flag,
+            level: under.level,
+            flag: under.flag,
             square: unused.squares.take(&now.view, number)?,
             root: unused.roots.take(&now.view, number)?,
             next: unused.nexts.take(&now.view, number)?,
@@ -241,6 +206,19 @@ impl Root {
             length,
             number,
         })
+    }
+
+    /// Replaces the SQRT by some cards and the loop after them.
+    fn put(&self, editor: &mut Editor, now: &Now, mut cards: Cards, decimals: usize) -> Done {
+        let card = &now.seen.card;
+        cards.push_all(&self.begin(card, power(4, decimals.saturating_mul(2))));
+        cards.push_all(&self.check(card));
+        cards.push_all(&self.step());
+        cards.push_all(&self.end(card, power(2, decimals)));
+        let most = self.length.saturating_mul(167) / 100;
+        let text = "SQRT: a loop, rounded; at most % of the allowance";
+        let remark = Sentence::about(text, Word::of_number(most.saturating_add(6)));
+        now.replace(editor, &cards, remark)
     }
 
     fn card(&self, template: &[u8], words: &[Word]) -> NewCard {

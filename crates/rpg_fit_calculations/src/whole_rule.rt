@@ -1,10 +1,10 @@
 //! Calculations with whole arrays.
 
-use crate::now::{Now, replace};
+use crate::now::{Flagged, Now};
 use rpg_fit_deck::{Card, Editor, Sentence, View, Word};
 use rpg_fit_words::{
     Array, Columns, Done, FreshNames, Group, Indicator, NewCard, Operand, Outcome, RuleStop,
-    array_of, calculation, entry, fresh_name, groups_now,
+    array_of, calculation, entry, fresh_name, groups,
 };
 
 /// The least number of entries for which the calculations are a loop.
@@ -12,16 +12,15 @@ const LOOP_FROM: usize = 31;
 
 /// Rewrites calculations with whole arrays as calculations with their entries.
 pub fn whole_calculations(editor: &mut Editor) -> Done {
-    let found = groups_now(editor)?;
+    let found = groups(&editor.view()?)?;
     let Some(first) = found.first() else {
         return Ok(());
     };
-    let mut now = Now::of(editor, first.last)?;
+    let mut now = Now::of(editor, first)?;
     for (place, group) in found.iter().enumerate() {
         if !is_left(group.operation()) {
-            now.turn(group.last);
-            let next = found.get(place.saturating_add(1));
-            rewrite_group(editor, group, &mut now, next)?;
+            now.turn(group);
+            rewrite_group(editor, &mut now, found.get(place.saturating_add(1)))?;
         }
     }
     Ok(())
@@ -114,7 +113,7 @@ fn check(now: &Now, whole: &Wholes, next: Option<&Group>) -> Done {
 }
 
 /// Rewrites a calculation, if it has whole arrays.
-fn rewrite_group(editor: &mut Editor, group: &Group, now: &mut Now, next: Option<&Group>) -> Done {
+fn rewrite_group(editor: &mut Editor, now: &mut Now, next: Option<&Group>) -> Done {
     let whole = Wholes::of(&now.view, &now.seen.card);
     let Some(entries) = whole.least_entries() else {
         return Ok(());
@@ -122,8 +121,8 @@ fn rewrite_group(editor: &mut Editor, group: &Group, now: &mut Now, next: Option
     check(now, &whole, next)?;
     match entries {
         0 => Ok(()),
-        _ if entries < LOOP_FROM => by_entry(editor, group, now, &whole, entries),
-        _ => by_loop(editor, group, now, &whole, entries),
+        _ if entries < LOOP_FROM => by_entry(editor, now, &whole, entries),
+        _ => by_loop(editor, now, &whole, entries),
     }
 }
 
@@ -140,29 +139,20 @@ fn make_rooms(editor: &mut Editor, now: &mut Now, whole: &Wholes, index: Word) -
 
 /// Returns the calculation of an entry, with an index for each whole array.
 fn entry_card(whole: &Wholes, base: NewCard, index: Word) -> NewCard {
-    let mut card = base.card;
+    let mut new = base;
     for columns in &Columns::ALL {
         if whole.at(*columns).is_some() {
-            let array = Word::of(columns.value(&card));
-            card = columns.put(card, entry(array, index).text());
+            let array = Word::of(columns.value(&new.card));
+            new.card = columns.put(new.card, entry(array, index).text());
         }
     }
-    NewCard {
-        card,
-        number: base.number,
-    }
+    new
 }
 
 /// Rewrites a calculation as one for each entry.
-fn by_entry(
-    editor: &mut Editor,
-    group: &Group,
-    now: &mut Now,
-    whole: &Wholes,
-    count: usize,
-) -> Done {
+fn by_entry(editor: &mut Editor, now: &mut Now, whole: &Wholes, count: usize) -> Done {
     make_rooms(editor, now, whole, Word::of_number(count))?;
-    let under = now.under_flag(group, false)?;
+    let under = now.under()?;
     let base = base_of(now, under.level).with(9, 17, under.conditions.text());
     let mut cards = under.before;
     for place in 0..count {
@@ -174,7 +164,7 @@ fn by_entry(
         "whole arrays: % calculations",
     );
     let remark = Sentence::counted(one, several, cards.as_slice().len());
-    replace(editor, group, &cards, remark)
+    now.replace(editor, &cards, remark)
 }
 
 /// Returns what the calculations of all entries share, without conditions.
@@ -186,20 +176,11 @@ fn base_of(now: &Now, level: Indicator) -> NewCard {
 }
 
 /// Rewrites a calculation as a loop over the entries.
-fn by_loop(
-    editor: &mut Editor,
-    group: &Group,
-    now: &mut Now,
-    whole: &Wholes,
-    count: usize,
-) -> Done {
+fn by_loop(editor: &mut Editor, now: &mut Now, whole: &Wholes, count: usize) -> Done {
     let index = FreshNames::of(b"X#", 2).take(&now.view, now.seen.number)?;
     make_rooms(editor, now, whole, index)?;
-    let under = now.under_flag(group, true)?;
-    let Some(flag) = under.flag else {
-        return Ok(());
-    };
-    let frame = Loop::of(now, under.level, flag, index)?;
+    let under = now.under_flag()?;
+    let frame = Loop::of(now, &under, index)?;
     let mut cards = under.before;
     cards.push_all(&frame.begin());
     cards.push(entry_card(whole, frame.base, index));
@@ -207,7 +188,7 @@ fn by_loop(
     let remark =
         "whole arrays: a loop of %; give --allowance more than 1000 where it is done often";
     let remark = Sentence::about(remark, Word::of_number(count));
-    replace(editor, group, &cards, remark)?;
+    now.replace(editor, &cards, remark)?;
     now.look(editor)
 }
 
@@ -229,15 +210,15 @@ struct Loop {
 }
 
 impl Loop {
-    fn of(now: &Now, level: Indicator, flag: Indicator, index: Word) -> Outcome<Loop> {
+    fn of(now: &Now, under: &Flagged, index: Word) -> Outcome<Loop> {
         let number = now.seen.number;
         Ok(Loop {
-            level,
-            flag,
+            level: under.level,
+            flag: under.flag,
             index,
             again: fresh_name(&now.view, b"LOOP#", number)?,
             done: fresh_name(&now.view, b"DONE#", number)?,
-            base: base_of(now, level),
+            base: base_of(now, under.level),
             number,
         })
     }

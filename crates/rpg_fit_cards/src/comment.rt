@@ -1,7 +1,7 @@
 //! Turns directives for the listing, and DEBUG, into comments, and removes the cards of job control around a deck.
 
 use rpg_fit_deck::{Card, Editor, Seen, Sentence};
-use rpg_fit_words::{Done, Group, groups_now};
+use rpg_fit_words::{Done, Group, groups};
 
 /// Turns directives for the listing into comments, and DEBUG with the cards of its conditions.
 pub fn comments(editor: &mut Editor) -> Done {
@@ -29,7 +29,7 @@ fn put_directives(editor: &mut Editor) -> Done {
 }
 
 fn put_debugs(editor: &mut Editor) -> Done {
-    let groups = groups_now(editor)?;
+    let groups = groups(&editor.view()?)?;
     for group in groups.iter() {
         if group.operation() == b"DEBUG".as_slice() {
             put_debug(editor, group);

@@ -84,16 +84,10 @@ fn is_disk(seen: &Seen) -> bool {
 fn report_disks(editor: &mut Editor, disks: &[Disk]) {
     for disk in disks {
         let letter = Word::of(&[disk.letter]);
-        let sentence = Sentence {
-            text: "%: the disk records that begin with % (grep '^%' | cut -c2-%)",
-            words: [
-                Word::of(disk.name()),
-                letter,
-                letter,
-                Word::of_number(disk.length.saturating_add(1)),
-            ],
-        };
-        editor.report(disk.seen.number, sentence);
+        let text = "%: the disk records that begin with % (grep '^%' | cut -c2-%)";
+        let last = Word::of_number(disk.length.saturating_add(1));
+        let words = [Word::of(disk.name()), letter, letter, last];
+        editor.report(disk.seen.number, Sentence::with(text, &words));
     }
 }
 

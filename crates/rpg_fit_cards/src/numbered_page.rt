@@ -62,8 +62,8 @@ fn first_with(view: &View, name: &[u8]) -> Option<usize> {
 /// Returns why a deck with two counters is rejected.
 fn reason(view: &View, counter: &[u8], other: &[u8]) -> RuleStop {
     let why = "% beside %: one page counter is there";
-    let why = Sentence::of_two(why, Word::of(counter), Word::of(other));
-    RuleStop::refused(first_with(view, counter).unwrap_or(1), why)
+    let card = first_with(view, counter).unwrap_or(1);
+    RuleStop::with(card, why, &[Word::of(counter), Word::of(other)])
 }
 
 /// Turns a counter into PAGE wherever it is used, except as a label or a subroutine.

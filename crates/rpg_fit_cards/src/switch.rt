@@ -55,7 +55,7 @@ fn check_results(view: &View) -> Done {
 fn decide_conditions(editor: &mut Editor, seen: &Seen, first: usize, switches: &Switches) {
     let conditions = Conjunction::at(&seen.card, first);
     let decided = decided(&conditions, switches);
-    if !decided.is_same(&conditions) {
+    if decided.terms() != conditions.terms() {
         let text = "switches are decided by --switches %: L0 is always on, NL0 never";
         let last = first.saturating_add(8);
         let card = seen.card.with(first, last, decided.columns(0).text());
@@ -93,7 +93,7 @@ fn decide_file(editor: &mut Editor, view: &View, file: &Seen, switches: &Switche
         drop_lines(editor, lines(view)?.as_slice(), file)?;
     }
     let text = "% is decided by --switches %";
-    let sentence = Sentence::of_two(text, condition, switches.word());
+    let sentence = Sentence::with(text, &[condition, switches.word()]);
     editor.rewrite(file, file.card.with(71, 72, &[]), sentence);
     Ok(())
 }

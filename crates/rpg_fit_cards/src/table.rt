@@ -81,61 +81,27 @@ fn after_first<'a>(starts: &'a [Address], seen: &Seen) -> Result<&'a [Address], 
 
 /// Inserts the records of an E card's file before the data of a later one.
 fn put_records(editor: &mut Editor, settings: &Settings, before: Address, seen: &Seen) -> Done {
-    let name = seen.card.value(11, 18);
-    let word = Word::of(name);
-    let Some(text) = settings.records_of(name) else {
+    let name = Word::of(seen.card.value(11, 18));
+    let Some(text) = settings.records_of(name.text()) else {
         let why = "the records of % are needed: give --table %=FILE";
-        let why = Sentence::of_two(why, word, word);
-        return Err(RuleStop::refused(seen.number, why));
+        return Err(RuleStop::with(seen.number, why, &[name, name]));
     };
     let Some(shape) = TableShape::of(&seen.card) else {
         return Ok(());
     };
     let records = records_of(editor.alloc(), text);
-    put_shaped(editor, &shape, before, records.checked()?, seen)
-}
-
-/// Inserts records as the data of a table, if possible.
-fn put_shaped(
-    editor: &mut Editor,
-    shape: &TableShape,
-    before: Address,
-    records: &[&[u8]],
-    seen: &Seen,
-) -> Done {
-    let word = Word::of(seen.card.value(11, 18));
-    if let Some(why) = shape.reason(word, records.len()) {
+    let records = records.checked()?;
+    if let Some(why) = shape.reason(name, records.len()) {
         return Err(RuleStop::refused(seen.number, why));
     }
-    let entries = entries_of(editor.alloc(), shape, records)?;
+    let entries = entries_of(editor.alloc(), &shape, records)?;
     if !has_only_characters(entries.as_slice()) {
-        let why = "% has a byte that is no character";
-        return Err(RuleStop::about(seen.number, why, word));
+        return Err(RuleStop::about(seen.number, "% has a byte that is no character", name));
     }
     editor.insert(before, Card::of(b"**"), seen.number);
-    put_cards_of(editor, shape, before, entries.as_slice(), seen.number);
-    take_over(editor, shape, records.len(), seen);
+    shape.put_cards(editor, before, entries.as_slice(), seen.number);
+    take_over(editor, &shape, records.len(), seen);
     Ok(())
-}
-
-/// Inserts cards with as many entries on each as fit there.
-pub(crate) fn put_cards_of(
-    editor: &mut Editor,
-    shape: &TableShape,
-    before: Address,
-    entries: &[u8],
-    with: usize,
-) {
-    let width = shape.width.saturating_mul(shape.per_card()).max(1);
-    let mut rest = entries;
-    for _ in 0..shape.entries {
-        if rest.is_empty() {
-            break;
-        }
-        let (card, more) = rest.split_at(width.min(rest.len()));
-        editor.insert(before, Card::of(card), with);
-        rest = more;
-    }
 }
 
 /// Removes the file from an E card, and sets its entries per record to those of a data card.
@@ -146,7 +112,7 @@ fn take_over(editor: &mut Editor, shape: &TableShape, records: usize, seen: &See
         "% records of % stand after ** now; compile again when they change"
     };
     let name = Word::of(seen.card.value(11, 18));
-    let sentence = Sentence::of_two(text, Word::of_number(records), name);
+    let sentence = Sentence::with(text, &[Word::of_number(records), name]);
     let mut card = seen.card.with(11, 18, &[]);
     let per_card = shape.per_card();
     if per_card != shape.per_record {

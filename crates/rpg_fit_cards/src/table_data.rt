@@ -1,6 +1,6 @@
 //! The records of a table file as the data of a table.
 
-use rpg_fit_deck::{Card, Sentence, Word};
+use rpg_fit_deck::{Address, Card, Editor, Sentence, Word};
 use rpg_fit_words::{Done, List, Outcome};
 use rpg_text::first_line;
 use std::alloc::Global;
@@ -54,20 +54,26 @@ impl TableShape {
         let wanted = self.records();
         let (given, entries) = (Word::of_number(records), Word::of_number(self.entries));
         if records > wanted {
-            return Some(Sentence {
-                text: "% has % records, more than the % that its entries (%) fill",
-                words: [name, given, Word::of_number(wanted), entries],
-            });
+            let text = "% has % records, more than the % that its entries (%) fill";
+            return Some(Sentence::with(text, &[name, given, Word::of_number(wanted), entries]));
         }
         if records < wanted && self.is_ascending {
             let text = "% has too few records for ascending sequence: records %, entries %";
-            return Some(Sentence::of_three(text, name, given, entries));
+            return Some(Sentence::with(text, &[name, given, entries]));
         }
         if self.width > COLUMNS {
             let text = "entries of % columns don't fit a card";
             return Some(Sentence::about(text, Word::of_number(self.width)));
         }
         None
+    }
+
+    /// Inserts cards with as many entries on each as fit there.
+    pub fn put_cards(&self, editor: &mut Editor, before: Address, entries: &[u8], with: usize) {
+        let width = self.width.saturating_mul(self.per_card()).max(1);
+        for card in entries.chunks(width) {
+            editor.insert(before, Card::of(card), with);
+        }
     }
 }
 

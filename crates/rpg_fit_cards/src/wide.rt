@@ -1,7 +1,7 @@
 //! Data of more than 80 columns.
 
 use crate::column::cut;
-use crate::table::{begins_data, put_cards_of};
+use crate::table::begins_data;
 use crate::table_data::{COLUMNS, TableShape, entries_of};
 use rpg_fit_deck::{Editor, Seen, Sentence, View, Word};
 use rpg_fit_words::{Done, List, RuleStop, is_card};
@@ -71,13 +71,10 @@ fn narrow_lines(editor: &mut Editor, lines: &[Seen], with: usize) {
 fn check_data(table: &Seen, shape: &TableShape, cards: usize) -> Done {
     let wanted = shape.records();
     if cards != wanted {
-        let why = Sentence::of_three(
-            "its data are % cards, and % hold the % entries",
-            Word::of_number(cards),
-            Word::of_number(wanted),
-            Word::of_number(shape.entries),
-        );
-        return Err(RuleStop::refused(table.number, why));
+        let why = "its data are % cards, and % hold the % entries";
+        let (cards, wanted) = (Word::of_number(cards), Word::of_number(wanted));
+        let words = [cards, wanted, Word::of_number(shape.entries)];
+        return Err(RuleStop::with(table.number, why, &words));
     }
     if shape.width > COLUMNS {
         let why = "entries of % columns don't fit a card";
@@ -99,14 +96,14 @@ fn punch_anew(editor: &mut Editor, table: &Seen, shape: &TableShape, part: &[See
     let entries = entries_of(editor.alloc(), shape, lines.checked()?)?;
     narrow_lines(editor, &[*lead], table.number);
     if let Some(first) = rows.first() {
-        put_cards_of(editor, shape, first.at, entries.as_slice(), table.number);
+        shape.put_cards(editor, first.at, entries.as_slice(), table.number);
     }
     for row in rows {
         editor.remove(row.at, table.number);
     }
     let per_card = Word::of_number(shape.per_card());
     let text = "% entries a card in place of %, as a card has 80 columns";
-    let sentence = Sentence::of_two(text, per_card, Word::of_number(shape.per_record));
+    let sentence = Sentence::with(text, &[per_card, Word::of_number(shape.per_record)]);
     let card = table.card.with_right(33, 35, per_card.text());
     editor.rewrite(table, card, sentence);
     Ok(())

@@ -6,12 +6,11 @@ ghost use Rattle.rpg_fit_deck.specs.Changing.{has_id, is_of_rule, slot_place, wi
 
 use crate::here::Here;
 use crate::sentence::{Remark, Rule, What};
-use crate::slot::{Made, Slot};
-use std::alloc::AllocError;
+use crate::slot::{Done, Made, Slot};
 
 impl Slot {
     /// Adds a sentence about the card.
-    pub fn report(&mut self, remark: Remark) -> Result<(), AllocError>
+    pub fn report(&mut self, remark: Remark) -> Done
         ensures { OnOk result (slot_place self.new ≡ with_remark remark (slot_place self.old)) }
     {
         self.remarks.push(remark)?;
@@ -29,7 +28,7 @@ impl Slot {
     }
 
     /// Notes that the card is part of another one's change, unless the rule has a sentence about it.
-    pub fn report_with(&mut self, rule: Rule, with: usize) -> Result<(), AllocError>
+    pub fn report_with(&mut self, rule: Rule, with: usize) -> Done
         ensures { OnOk result (slot_place self.new ≡ with_rule rule with (slot_place self.old)) }
     {
         if !self.is_reported_by(rule) || self.remarks.is_empty() {
@@ -42,7 +41,7 @@ impl Slot {
     }
 
     /// Replaces the card (0), or an inserted one.
-    pub fn set(&mut self, id: usize, here: Here, rule: Rule, with: usize) -> Result<(), AllocError>
+    pub fn set(&mut self, id: usize, here: Here, rule: Rule, with: usize) -> Done
         ensures { OnOk result (slot_place self.new ≡ with_card here id rule with (slot_place self.old)) }
     {
         if id != 0 {
@@ -57,13 +56,7 @@ impl Slot {
     }
 
     /// Inserts a card before another inserted one, or before the card itself (0).
-    pub fn insert(
-        &mut self,
-        id: usize,
-        made: Made,
-        rule: Rule,
-        with: usize,
-    ) -> Result<(), AllocError> {
+    pub fn insert(&mut self, id: usize, made: Made, rule: Rule, with: usize) -> Done {
         self.report_with(rule, with)?;
         insert_made(&mut self.before, id, made)
     }
@@ -93,7 +86,7 @@ pub(crate) fn set_made(cards: &mut Vec<Made>, id: usize, here: Here)
 }
 
 /// Inserts a card before another one, or after all others.
-pub(crate) fn insert_made(cards: &mut Vec<Made>, id: usize, made: Made) -> Result<(), AllocError> {
+pub(crate) fn insert_made(cards: &mut Vec<Made>, id: usize, made: Made) -> Done {
     match place_of(cards.as_slice(), id) {
         Some(place) => cards.insert(place, made)?,
         None => cards.push(made)?,

@@ -13,7 +13,7 @@ use crate::here::Here;
 use crate::marks::ends_source;
 use crate::render::{MOST_CARDS, RenderError, lines_of, render, unreported_cards_are_kept};
 use crate::sentence::{Refusal, Remark, Rule, Sentence, What};
-use crate::slot::{Made, Slot};
+use crate::slot::{Done, Made, Slot};
 use crate::stopped::Stopped;
 use crate::view::{Address, Seen, View};
 use std::alloc::{AllocError, Global};
@@ -90,7 +90,7 @@ impl<'a> Editor<'a> {
         }
     }
 
-    fn keep(&mut self, outcome: Result<(), AllocError>)
+    fn keep(&mut self, outcome: Done)
         ensures { self.new ≡ record self.old { ran_out = has_run_out self.old || is_err outcome } }
     {
         if outcome.is_err() {
@@ -113,7 +113,7 @@ impl<'a> Editor<'a> {
     }
 
     /// Adds a sentence to a card of the source, if there is such a card.
-    fn add(&mut self, card: usize, remark: Remark) -> Result<(), AllocError>
+    fn add(&mut self, card: usize, remark: Remark) -> Done
         ensures stays { StaysStopped self.old self.new }
         ensures deck { OnOk result (deck_of self.new ≡ with_sentence card remark (deck_of self.old)) }
     {
@@ -137,7 +137,7 @@ impl<'a> Editor<'a> {
     }
 
     /// Replaces a card, as part of the change of the card `with`.
-    fn set(&mut self, at: Address, here: Here, with: usize) -> Result<(), AllocError>
+    fn set(&mut self, at: Address, here: Here, with: usize) -> Done
         ensures stays { StaysStopped self.old self.new }
         ensures deck { OnOk result (deck_of self.new ≡ with_here here at with (deck_of self.old)) }
     {
@@ -218,7 +218,7 @@ impl<'a> Editor<'a> {
     }
 
     /// Appends the cards in their present form, up to the one that ends the source.
-    fn show(&self, view: &mut View) -> Result<(), AllocError> {
+    fn show(&self, view: &mut View) -> Done {
         for (place, line) in self.lines.iter().enumerate() {
             if let Some(slot) = self.slots.get(place) {
                 if ends_source(line) {

@@ -7,7 +7,7 @@ ghost use Rattle.rpg_text.specs.Lines.{with_line_feed};
 ghost use Rattle.rpg_fit_deck.specs.New.{KeepsUnreported, lines_here, made_lines, new_cards, nothing_reported, rewritten, rewritten_text};
 
 use crate::here::Here;
-use crate::slot::{Made, Slot};
+use crate::slot::{Done, Made, Slot};
 use rpg_text::first_line;
 use std::alloc::{AllocError, Global};
 
@@ -49,7 +49,7 @@ fn reports_nothing(slots: &[Slot]) -> bool
     slots.iter().all(|slot| slot.remarks.is_empty())
 }
 
-fn push_made<'b>(cards: &mut Vec<&'b [u8]>, made: &'b [Made]) -> Result<(), AllocError>
+fn push_made<'b>(cards: &mut Vec<&'b [u8]>, made: &'b [Made]) -> Done
     ensures { OnOk result (map (λ line. line.now) cards.new.items ≡ map (λ line. line.now) cards.old.items ++ made_lines made.now) }
 {
     for one in made {
@@ -58,11 +58,7 @@ fn push_made<'b>(cards: &mut Vec<&'b [u8]>, made: &'b [Made]) -> Result<(), Allo
     Ok(())
 }
 
-fn push_here<'b>(
-    cards: &mut Vec<&'b [u8]>,
-    line: &'b [u8],
-    here: &'b Here,
-) -> Result<(), AllocError>
+fn push_here<'b>(cards: &mut Vec<&'b [u8]>, line: &'b [u8], here: &'b Here) -> Done
     ensures { OnOk result (map (λ line. line.now) cards.new.items ≡ map (λ line. line.now) cards.old.items ++ lines_here line.now here.now) }
 {
     match here {

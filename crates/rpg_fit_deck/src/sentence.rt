@@ -67,32 +67,24 @@ impl Sentence {
 
     /// Returns a sentence with one word to fill in.
     pub fn about(text: &'static str, word: Word) -> Sentence {
-        Sentence {
-            text,
-            words: [word, Word::empty(), Word::empty(), Word::empty()],
+        Sentence::with(text, &[word])
+    }
+
+    /// Returns a sentence with at most four words to fill in.
+    pub fn with(text: &'static str, words: &[Word]) -> Sentence {
+        let mut sentence = Sentence::of(text);
+        for (place, word) in words.iter().enumerate() {
+            if let Some(there) = sentence.words.get_mut(place) {
+                *there = *word;
+            }
         }
+        sentence
     }
 
     /// Returns a sentence about a number: the one about a single thing, or the one about several.
     pub fn counted(one: &'static str, several: &'static str, count: usize) -> Sentence {
         let text = if count == 1 { one } else { several };
         Sentence::about(text, Word::of_number(count))
-    }
-
-    /// Returns a sentence with three words to fill in.
-    pub fn of_three(text: &'static str, first: Word, second: Word, third: Word) -> Sentence {
-        Sentence {
-            text,
-            words: [first, second, third, Word::empty()],
-        }
-    }
-
-    /// Returns a sentence with two words to fill in.
-    pub fn of_two(text: &'static str, first: Word, second: Word) -> Sentence {
-        Sentence {
-            text,
-            words: [first, second, Word::empty(), Word::empty()],
-        }
     }
 }
 

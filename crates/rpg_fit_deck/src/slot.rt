@@ -6,7 +6,10 @@ ghost use Rattle.rpg_fit_deck.specs.Kept.{is_kept};
 use crate::card::Card;
 use crate::here::Here;
 use crate::sentence::{Remark, What};
-use std::alloc::Global;
+use std::alloc::{AllocError, Global};
+
+/// The outcome of a step that allocates.
+pub(crate) type Done = Result<(), AllocError>;
 
 /// A card that a rule inserted.
 #[derive(Clone, Copy)]
@@ -41,13 +44,10 @@ impl Slot {
 
     /// Returns how many changes of the card have a sentence.
     pub fn changes(&self) -> usize {
-        let mut changes: usize = 0;
-        for remarks in &self.remarks {
-            if matches!(remarks.what, What::Change(_)) {
-                changes = changes.saturating_add(1);
-            }
-        }
-        changes
+        let remarks = self.remarks.iter();
+        remarks
+            .filter(|remark| matches!(remark.what, What::Change(_)))
+            .count()
     }
 
     /// Returns how many cards the new deck has here.

@@ -3,7 +3,7 @@
 use crate::card::Card;
 use crate::here::Here;
 use crate::marks::begins_data;
-use crate::slot::{Made, Slot};
+use crate::slot::{Done, Made, Slot};
 use std::alloc::{AllocError, Global};
 
 /// The address of a card: the slot of a card of the source, and the number of a card inserted before
@@ -12,6 +12,13 @@ use std::alloc::{AllocError, Global};
 pub struct Address {
     pub(crate) slot: usize,
     pub(crate) made: usize,
+}
+
+impl Address {
+    /// Returns the address of a card of the source, or that after all of them.
+    fn of(slot: usize) -> Address {
+        Address { slot, made: 0 }
+    }
 }
 
 /// A card, its address, and the number of its card of the source.
@@ -44,10 +51,7 @@ pub struct View {
 
 impl View {
     pub(crate) fn new(alloc: Global, lines: usize) -> View {
-        let end = Address {
-            slot: lines,
-            made: 0,
-        };
+        let end = Address::of(lines);
         View {
             alloc,
             cards: Vec::new(alloc),
@@ -69,14 +73,14 @@ impl View {
 
     /// Ends the source with a line.
     pub(crate) fn end_at(&mut self, slot: usize, line: &[u8], here: &Here) {
-        self.end = Address { slot, made: 0 };
+        self.end = Address::of(slot);
         self.last = seen_at(slot, line, here);
         if !self.in_data {
             self.cards_end = self.end;
         }
     }
 
-    fn push(&mut self, seen: Seen) -> Result<(), AllocError> {
+    fn push(&mut self, seen: Seen) -> Done {
         if self.in_data {
             self.data.push(seen)?;
         } else {
@@ -85,7 +89,7 @@ impl View {
         Ok(())
     }
 
-    pub(crate) fn push_made(&mut self, slot: usize, cards: &[Made]) -> Result<(), AllocError> {
+    pub(crate) fn push_made(&mut self, slot: usize, cards: &[Made]) -> Done {
         for made in cards {
             let at = Address {
                 slot,
@@ -105,19 +109,10 @@ impl View {
     }
 
     /// Appends the cards of a slot: those inserted before the card, and what is in its place.
-    pub(crate) fn push_slot(
-        &mut self,
-        place: usize,
-        line: &[u8],
-        slot: &Slot,
-    ) -> Result<(), AllocError> {
+    pub(crate) fn push_slot(&mut self, place: usize, line: &[u8], slot: &Slot) -> Done {
         self.push_made(place, slot.before.as_slice())?;
-        let at = Address {
-            slot: place,
-            made: 0,
-        };
         if begins_data(line) {
-            self.begin_data(at);
+            self.begin_data(Address::of(place));
         }
         match seen_at(place, line, &slot.here) {
             Some(seen) => self.push(seen),
@@ -134,7 +129,7 @@ fn seen_at(slot: usize, line: &[u8], here: &Here) -> Option<Seen> {
         Here::Gone => return None,
     };
     Some(Seen {
-        at: Address { slot, made: 0 },
+        at: Address::of(slot),
         number: slot.saturating_add(1),
         card,
         width,

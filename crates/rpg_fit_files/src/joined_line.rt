@@ -1,30 +1,32 @@
 //! Lines of which several may be for one record: all of them become one line.
 
-use crate::file::{base_of, is_page};
+use crate::other_printer::is_page;
 use crate::updated::{Both, Updated};
 use rpg_fit_deck::{Editor, Seen, Sentence, Word};
 use rpg_fit_words::{
-    Conjunction, Done, FreeIndicators, Indicator, Line, List, NewCard, Place, RuleStop,
-    calculation, insert_at, overflow_of, push_conditioned, push_conditions, put_cards,
+    Cards, Conjunction, Done, FreeIndicators, Indicator, Line, List, NewCard, Place, Printer,
+    RuleStop, calculation, insert_at, operand_on, push_conditioned, push_conditions, put_cards,
 };
 
 /// Rejects lines that one line can't stand for. `both`: two that may be for one record.
-pub(crate) fn check_joined(updated: &Updated, lines: &[&Line], both: &Both) -> Done {
+pub(crate) fn check_joined(updated: &Updated, both: &Both) -> Done {
+    let printer = Printer::of(&updated.deck.view);
+    let lines = updated.lines();
+    lines.check()?;
+    let lines = lines.as_slice();
     for line in lines {
         check_fields(updated, line, both)?;
-        check_overflow(updated, line)?;
+        check_overflow(updated, &printer, line)?;
     }
     check_between(updated, lines)
 }
 
 /// Writes all lines of a file as one: the whole record, and over it each line's fields, under an indicator of its own that the line's
 /// conditions turn on.
-pub(crate) fn join_lines(
-    editor: &mut Editor,
-    free: &mut FreeIndicators,
-    updated: &Updated,
-    lines: &[&Line],
-) -> Done {
+pub(crate) fn join(editor: &mut Editor, free: &mut FreeIndicators, updated: &Updated) -> Done {
+    let lines = updated.lines();
+    lines.check()?;
+    let lines = lines.as_slice();
     let mut joined = Joined {
         calculations: List::new(editor.alloc()),
         fields: List::new(editor.alloc()),
@@ -43,8 +45,7 @@ fn check_fields(updated: &Updated, line: &Line, both: &Both) -> Done {
             let why =
                 "two lines may change one record of % (cards % and %), and this field is blanked, is PAGE or *PLACE or has three conditions";
             let (first, second) = (Word::of_number(both.earlier), Word::of_number(both.later));
-            let why = Sentence::of_three(why, updated.name(), first, second);
-            return Err(RuleStop::refused(field.number, why));
+            return Err(RuleStop::with(field.number, why, &[updated.name(), first, second]));
         }
     }
     Ok(())
@@ -53,8 +54,8 @@ fn check_fields(updated: &Updated, line: &Line, both: &Both) -> Done {
 /// Whether a field may be put out with one condition more.
 fn may_be_joined(field: &Seen) -> bool {
     let card = &field.card;
-    let is_counted = is_page(field) || base_of(field) == b"*PLACE".as_slice();
-    !is_counted && card.column(39) != b'B' && Conjunction::at(card, 23).len() < 3
+    let is_counted = is_page(field) || operand_on(field).name == b"*PLACE".as_slice();
+    !is_counted && card.column(39) != b'B' && Conjunction::at(card, 23).terms().len() < 3
 }
 
 /// Rejects a field that a line of another file blanks between them.
@@ -68,8 +69,8 @@ fn check_between(updated: &Updated, lines: &[&Line]) -> Done {
             }
         } else if let Some(field) = blanked {
             let why = "two lines may change one record of %, and % is blanked between them";
-            let why = Sentence::of_two(why, updated.name(), Word::of(base_of(field)));
-            return Err(RuleStop::refused(field.number, why));
+            let name = Word::of(operand_on(field).name);
+            return Err(RuleStop::with(field.number, why, &[updated.name(), name]));
         } else {
             is_between = true;
         }
@@ -80,21 +81,23 @@ fn check_between(updated: &Updated, lines: &[&Line]) -> Done {
 /// Returns the first field that a line blanks and one of some lines has.
 fn blanked_on<'a>(line: &'a Line, lines: &[&Line]) -> Option<&'a Seen> {
     line.fields.iter().find(|field| field.card.column(39) == b'B'
-        && have_field(lines, base_of(field)))
+        && have_field(lines, operand_on(field).name))
 }
 
 fn have_field(lines: &[&Line], name: &[u8]) -> bool {
-    lines.iter().any(|line| line.fields.iter().any(|field| base_of(field) == name))
+    lines.iter().any(|line| line
+        .fields
+        .iter()
+        .any(|field| operand_on(field).name == name))
 }
 
 /// Rejects a line that tests overflow.
-fn check_overflow(updated: &Updated, line: &Line) -> Done {
-    let overflow = overflow_of(&updated.deck.view);
+fn check_overflow(updated: &Updated, printer: &Printer, line: &Line) -> Done {
     for alternative in line.alternatives.iter() {
-        if !overflow.is_blank() && alternative.condition.tests(overflow) {
+        if printer.is_tested(&alternative.condition) {
             let why = "two lines may change one record of %, and one asks for %";
-            let why = Sentence::of_two(why, updated.name(), overflow.word());
-            return Err(RuleStop::refused(line.head.number, why));
+            let words = [updated.name(), printer.overflow.word()];
+            return Err(RuleStop::with(line.head.number, why, &words));
         }
     }
     Ok(())
@@ -104,8 +107,8 @@ fn check_overflow(updated: &Updated, line: &Line) -> Done {
 #[derive(Drop)]
 struct Joined {
     /// The calculations that turn their indicators on.
-    calculations: List<NewCard>,
-    fields: List<NewCard>,
+    calculations: Cards,
+    fields: Cards,
 }
 
 impl Joined {
@@ -120,7 +123,7 @@ impl Joined {
         let off = calculation(b"||SETOF||||%", &[flag.word()], number);
         self.calculations.push(off);
         let conditions = conditions.checked()?;
-        push_conditioned(&mut self.calculations, Indicator::BLANK, conditions, on)?;
+        push_conditioned(&mut self.calculations, conditions, on)?;
         self.push_fields(line, flag);
         Ok(())
     }
@@ -156,7 +159,7 @@ impl Joined {
         insert_at(editor, Place::DetailEnd, self.calculations.checked()?, with)?;
         let text = "% is read, and % gets its records as they are after the job; % lines are one";
         let lines = Word::of_number(lines.len());
-        let sentence = Sentence::of_three(text, updated.name(), updated.new, lines);
+        let sentence = Sentence::with(text, &[updated.name(), updated.new, lines]);
         editor.report(with, sentence);
         Ok(())
     }

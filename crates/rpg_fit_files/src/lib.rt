@@ -2,7 +2,6 @@
 #![tactic(auto)]
 
 mod end_of_file;
-mod file;
 mod joined_line;
 mod merged;
 mod other_printer;

@@ -128,12 +128,8 @@ fn move_fields(editor: &mut Editor, kind: &RecordType, with: usize) {
 
 /// Returns the first column of the first code that a card has room for.
 fn free_code(card: &Card) -> Option<usize> {
-    for column in CODES {
-        if card.is_blank(column, column.saturating_add(6)) {
-            return Some(column);
-        }
-    }
-    None
+    let mut columns = CODES.into_iter();
+    columns.find(|column| card.is_blank(*column, column.saturating_add(6)))
 }
 
 /// Returns a card with the positions of its codes one to the right.
@@ -146,21 +142,9 @@ fn moved_codes(mut card: Card) -> Card {
 
 /// Returns the last card with room for a code, by its place.
 fn place_with_room(cards: &[Seen]) -> Option<usize> {
-    let mut found = None;
-    for (place, seen) in cards.iter().enumerate() {
-        if free_code(&seen.card).is_some() {
-            found = Some(place);
-        }
-    }
-    found
-}
-
-/// Returns a card with a code in its first free columns.
-fn with_code(card: Card, code: Word) -> Card {
-    match free_code(&card) {
-        Some(column) => card.with(column, column.saturating_add(6), code.text()),
-        None => card,
-    }
+    cards
+        .iter()
+        .rposition(|seen| free_code(&seen.card).is_some())
 }
 
 /// Moves the codes of a type one to the right, adds one for its letter, and puts its file on it.
@@ -178,8 +162,8 @@ fn move_codes(
     let room = place_with_room(cards.checked()?);
     for (place, seen) in cards.as_slice().iter().enumerate() {
         let mut card = moved_codes(seen.card);
-        if room == Some(place) {
-            card = with_code(card, code);
+        if let (true, Some(column)) = (room == Some(place), free_code(&card)) {
+            card.put(column, column.saturating_add(6), code.text());
         }
         if seen.at == head.at {
             card = card.with(7, 14, file);
@@ -201,12 +185,8 @@ fn remove_others(editor: &mut Editor, first: &Seen, files: &[Seen]) {
         "% is read with %: rpg2 records --merge puts % in front of its records, and A in front of those of %";
     for (place, file) in files.iter().enumerate() {
         if file.at != first.at {
-            let words = [
-                Word::of(file_name(file)),
-                name,
-                Word::of(&[letter(place)]),
-                name,
-            ];
+            let (file_name, letter) = (Word::of(file_name(file)), Word::of(&[letter(place)]));
+            let words = [file_name, name, letter, name];
             editor.report(file.number, Sentence { text, words });
             editor.remove(file.at, file.number);
         }

@@ -1,12 +1,17 @@
 //! The lines of a printer whose deck isn't wanted.
 
-use crate::file::{base_of, is_page};
 use rpg_fit_deck::{Address, Card, Editor, Seen, Sentence, Word};
 use rpg_fit_terms::is_name_on;
 use rpg_fit_words::{
-    Conjunction, DeckLines, Done, Indicator, Line, List, NewCard, Operand, Outcome, RuleStop, Term,
-    Time, UseKind, file_name, indicator_uses, is_card, name_files, push_conditions, put_cards,
+    Cards, Conjunction, DeckLines, Done, Indicator, Line, List, NewCard, Outcome, RuleStop, Term,
+    Time, UseKind, file_name, indicator_uses, is_card, name_files, operand_on, push_conditions,
+    put_cards,
 };
+
+/// Whether a field counts pages.
+pub(crate) fn is_page(field: &Seen) -> bool {
+    matches!(operand_on(field).name, [b'P', b'A', b'G', b'E', ..])
+}
 
 /// A printer whose lines are taken out, and the deck before that.
 #[derive(Drop)]
@@ -55,8 +60,7 @@ impl OtherPrinter {
             let is_asked = one.indicator == self.overflow && matches!(one.kind, UseKind::Asked);
             if is_asked && !self.is_own(one.at) {
                 let why = "% is the overflow of %, and is asked for here";
-                let why = Sentence::of_two(why, self.overflow.word(), self.name());
-                return Err(RuleStop::refused(one.number, why));
+                return Err(RuleStop::with(one.number, why, &[self.overflow.word(), self.name()]));
             }
         }
         Ok(())
@@ -99,7 +103,7 @@ impl OtherPrinter {
 
     /// Whether a field counts pages or is blanked for others, or may have a bad index.
     fn has_effect(&self, field: &Seen) -> bool {
-        let operand = Operand::of(field.card.value(32, 37));
+        let operand = operand_on(field);
         let is_changed = field.card.column(39) == b'B' || is_page(field);
         operand.has_index_field() || is_changed && self.is_used_elsewhere(operand.name)
     }
@@ -141,7 +145,7 @@ impl OtherPrinter {
         } else {
             "% and its % lines taken out: --printer % writes its deck"
         };
-        let sentence = Sentence::of_three(text, self.name(), Word::of_number(lines), self.name());
+        let sentence = Sentence::with(text, &[self.name(), Word::of_number(lines), self.name()]);
         editor.report(self.file.number, sentence);
         editor.remove(self.file.at, self.file.number);
     }
@@ -164,7 +168,7 @@ impl OtherPrinter {
         }
         let text =
             "% is a disk file in this deck, as its lines change what others put out: --printer % writes its deck";
-        let sentence = Sentence::of_two(text, self.name(), self.name());
+        let sentence = Sentence::with(text, &[self.name(), self.name()]);
         let card = self.file.card.with(20, 23, &[]).with(33, 34, &[]);
         let card = card.with(39, 39, &[]).with(40, 46, b"DISK");
         editor.rewrite(&self.file, card, sentence);
@@ -192,10 +196,10 @@ impl OtherPrinter {
     }
 
     /// Appends the fields of a line without counters that no other line has, or a blank if there are none.
-    fn push_fields(&self, cards: &mut List<NewCard>, line: &Line) {
+    fn push_fields(&self, cards: &mut Cards, line: &Line) {
         let mut is_empty = true;
         for field in line.fields.iter() {
-            if !is_page(field) || self.is_used_elsewhere(base_of(field)) {
+            if !is_page(field) || self.is_used_elsewhere(operand_on(field).name) {
                 cards.push(NewCard::copy(field));
                 is_empty = false;
             }

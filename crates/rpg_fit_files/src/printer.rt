@@ -1,9 +1,8 @@
 //! Printers by other names than PRINTER, and several of them.
 
-use crate::file::files_printed;
 use crate::other_printer::OtherPrinter;
-use rpg_fit_deck::{Editor, Seen, Sentence, Word};
-use rpg_fit_words::{Done, RuleStop, file_name};
+use rpg_fit_deck::{Card, Editor, Seen, Sentence, View, Word};
+use rpg_fit_words::{Done, List, RuleStop, file_name, is_card};
 
 /// Makes each printer a PRINTER. Of several, the deck keeps the one that is `wanted`.
 pub fn printers(editor: &mut Editor, wanted: Option<&[u8]>) -> Done {
@@ -25,6 +24,21 @@ pub fn printers(editor: &mut Editor, wanted: Option<&[u8]>) -> Done {
         }
     }
     Ok(())
+}
+
+fn is_printed(card: &Card) -> bool {
+    card.column(15) == b'O' && matches!(card.value(40, 46), [b'P', b'R', b'I', b'N', b'T', ..])
+}
+
+/// Returns the cards of the files that are printed.
+fn files_printed(view: &View) -> List<Seen> {
+    let mut found = List::new(view.alloc);
+    for seen in &view.cards {
+        if is_card(seen, b'F') && is_printed(&seen.card) {
+            found.push(*seen);
+        }
+    }
+    found
 }
 
 /// Makes the device of a printer PRINTER.

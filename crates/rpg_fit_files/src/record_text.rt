@@ -2,7 +2,7 @@
 
 use rpg_fit_deck::{Editor, View, Word};
 use rpg_fit_terms::address_after;
-use rpg_fit_words::{Done, FreshNames, List, NewCard, Outcome, RecordType, put_cards};
+use rpg_fit_words::{Cards, Done, FreshNames, List, NewCard, Outcome, RecordType, put_cards};
 
 /// The most columns of a text.
 const LONGEST: usize = 256;
@@ -18,6 +18,7 @@ struct Part {
 /// The fields with all columns of a record, in order.
 #[derive(Drop)]
 pub(crate) struct RecordText {
+    pub length: usize,
     parts: List<Part>,
 }
 
@@ -37,7 +38,7 @@ impl RecordText {
             });
         }
         parts.check()?;
-        Ok(RecordText { parts })
+        Ok(RecordText { length, parts })
     }
 
     /// Inserts the fields into a record type, as part of the change of the card `with`.
@@ -54,7 +55,7 @@ impl RecordText {
     }
 
     /// Appends the fields as those of a line, derived from a card.
-    pub fn push_fields(&self, cards: &mut List<NewCard>, number: usize) {
+    pub fn push_fields(&self, cards: &mut Cards, number: usize) {
         for part in self.parts.as_slice() {
             let card = NewCard::of_form(b'O', number).with(32, 37, part.field.text());
             cards.push(card.with_number(40, 43, part.last));

@@ -1,15 +1,15 @@
 //! Combined files, and files that are updated in place: their records go to a new file.
 
 use crate::end_of_file::may_leave_records;
-use crate::joined_line::{check_joined, join_lines};
+use crate::joined_line::{check_joined, join};
 use crate::record_text::RecordText;
 use crate::updated_line::write_lines;
-use rpg_fit_deck::{Editor, Seen, Sentence, View, Word};
+use rpg_fit_deck::{Editor, Seen, View, Word};
 use rpg_fit_terms::address_after;
 use rpg_fit_words::{
     Conjunction, DeckLines, Done, FileTypes, FreeIndicators, Indicator, IndicatorUse, Line, List,
-    NewCard, RuleStop, UseKind, file_card, file_name, files_read, indicator_uses, is_put_first,
-    name_files, name_types, put_cards, record_length, record_types,
+    NewCard, RuleStop, UseKind, file_card, file_name, files_read, indicator_uses, name_files,
+    name_types, put_cards, record_length, record_types,
 };
 
 /// LR, which ends the job.
@@ -119,31 +119,8 @@ fn write_back(editor: &mut Editor, free: &mut FreeIndicators, file: &Seen) -> Do
         deck,
     };
     updated.check_indicators()?;
-    let lines = updated.lines();
-    lines.check()?;
-    updated.check_lines(lines.as_slice())?;
-    put_back(editor, free, &updated, lines.as_slice(), length)
-}
-
-/// Writes the records of a file to a new one by its lines.
-fn put_back(
-    editor: &mut Editor,
-    free: &mut FreeIndicators,
-    updated: &Updated,
-    lines: &[&Line],
-    length: usize,
-) -> Done {
-    let puts = puts_of(updated, lines);
-    let puts = puts.checked()?;
-    let both = updated.both(puts);
-    if let Some(both) = &both {
-        check_joined(updated, lines, both)?;
-    }
-    updated.put_files(editor, length)?;
-    match both {
-        Some(_) => join_lines(editor, free, updated, lines),
-        None => write_lines(editor, updated, lines, puts),
-    }
+    updated.check_lines()?;
+    updated.put_back(editor, free)
 }
 
 impl Updated {
@@ -161,8 +138,23 @@ impl Updated {
         line.file.text() == self.types.file.text()
     }
 
+    /// Writes the records of the file to the new one by its lines.
+    fn put_back(&self, editor: &mut Editor, free: &mut FreeIndicators) -> Done {
+        let puts = self.puts();
+        let puts = puts.checked()?;
+        let both = self.both(puts);
+        if let Some(both) = &both {
+            check_joined(self, both)?;
+        }
+        self.put_files(editor)?;
+        match both {
+            Some(_) => join(editor, free, self),
+            None => write_lines(editor, self, puts),
+        }
+    }
+
     /// Returns the lines for the file, in order.
-    fn lines(&self) -> List<&Line> {
+    pub fn lines(&self) -> List<&Line> {
         let mut found = List::new(self.deck.view.alloc);
         for line in self.deck.lines.iter() {
             if self.has(line) {
@@ -196,8 +188,7 @@ impl Updated {
         for one in uses {
             if one.indicator == indicator && self.types.is_changed(one) {
                 let why = "% of a record of % is turned on or off here";
-                let why = Sentence::of_two(why, indicator.word(), self.name());
-                return Err(RuleStop::refused(one.number, why));
+                return Err(RuleStop::with(one.number, why, &[indicator.word(), self.name()]));
             }
         }
         Ok(())
@@ -205,15 +196,19 @@ impl Updated {
 
     /// Whether a record of the file is read in each cycle, and each of its types has an indicator of its own.
     fn is_alone(&self) -> bool {
+        let all = self.types.all.iter();
+        let types = all.filter(|kind| kind.is_of(self.types.file.text()));
         let is_only = files_read(&self.deck.view).as_slice().len() == 1;
-        is_only && self.types.indicators.as_slice().len() == self.types.count()
+        is_only && self.types.indicators.as_slice().len() == types.count()
     }
 
     /// Rejects lines that aren't for the record that was read.
-    fn check_lines(&self, lines: &[&Line]) -> Done {
+    fn check_lines(&self) -> Done {
         let is_alone = self.is_alone();
-        for line in lines {
-            self.check_line(line, is_alone)?;
+        for line in self.deck.lines.iter() {
+            if self.has(line) {
+                self.check_line(line, is_alone)?;
+            }
         }
         Ok(())
     }
@@ -223,9 +218,9 @@ impl Updated {
         if !line.time.is_detail() {
             let why = "a line of time % for a record of %";
             let time = Word::of(line.head.card.columns(15, 15));
-            return Err(RuleStop::refused(number, Sentence::of_two(why, time, self.name())));
+            return Err(RuleStop::with(number, why, &[time, self.name()]));
         }
-        if is_put_first(None, line) {
+        if line.is_put_first() {
             return Err(self.refused(number, "a line for a record of % at the first output"));
         }
         for alternative in line.alternatives.iter() {
@@ -257,25 +252,19 @@ impl Updated {
     /// Returns the first two alternatives of different lines that may hold together.
     fn both(&self, puts: &[Put]) -> Option<Both> {
         for (place, put) in puts.iter().enumerate() {
-            if let Some(earlier) = self.earlier(puts.get(..place).unwrap_or(&[]), put) {
-                return Some(Both {
-                    earlier: earlier.line,
-                    later: put.line,
-                });
+            let mut before = puts.get(..place).unwrap_or(&[]).iter();
+            let earlier = before.find(|other| other.line != put.line
+                && !self.excludes(&put.condition, &other.condition));
+            if let Some(earlier) = earlier {
+                let (earlier, later) = (earlier.line, put.line);
+                return Some(Both { earlier, later });
             }
         }
         None
     }
 
-    /// Returns the first alternative of another line that may hold together with one.
-    fn earlier<'a>(&self, before: &'a [Put], put: &Put) -> Option<&'a Put> {
-        before.iter().find(|other| {
-            other.line != put.line && !self.excludes(&put.condition, &other.condition)
-        })
-    }
-
     /// Makes an input file of it, with the whole record in each type, and inserts the new file.
-    fn put_files(&self, editor: &mut Editor, length: usize) -> Done {
+    fn put_files(&self, editor: &mut Editor) -> Done {
         let number = self.file.number;
         for kind in self.types.all.iter() {
             if kind.is_of(self.types.file.text()) {
@@ -283,25 +272,33 @@ impl Updated {
             }
         }
         let new = NewCard::of_form(b'F', number).with(7, 14, self.new.text());
-        let new = new.with(15, 19, b"O   F").with_number(24, 27, length);
+        let new = new
+            .with(15, 19, b"O   F")
+            .with_number(24, 27, self.record.length);
         let following = address_after(&self.deck.view, self.file.at);
         put_cards(editor, following, &[new.with(40, 46, b"DISK")], number)?;
         editor.change(self.file.at, self.file.card.with(15, 15, b"I"), number);
         name_files(editor, self.deck.lines.as_slice(), number);
         Ok(())
     }
+
+    /// Returns the alternatives of its lines.
+    fn puts(&self) -> List<Put> {
+        let mut found = List::new(self.deck.view.alloc);
+        for line in self.deck.lines.iter() {
+            if self.has(line) {
+                push_puts(&mut found, line);
+            }
+        }
+        found
+    }
 }
 
-/// Returns the alternatives of some lines.
-fn puts_of(updated: &Updated, lines: &[&Line]) -> List<Put> {
-    let mut found = List::new(updated.deck.view.alloc);
-    for line in lines {
-        for alternative in line.alternatives.iter() {
-            found.push(Put {
-                line: line.head.number,
-                condition: alternative.condition,
-            });
-        }
+fn push_puts(found: &mut List<Put>, line: &Line) {
+    for alternative in line.alternatives.iter() {
+        found.push(Put {
+            line: line.head.number,
+            condition: alternative.condition,
+        });
     }
-    found
 }

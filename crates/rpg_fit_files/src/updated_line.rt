@@ -4,24 +4,21 @@ use crate::updated::{Put, Updated};
 use rpg_fit_deck::{Editor, Seen, Sentence, Word};
 use rpg_fit_terms::address_after;
 use rpg_fit_words::{
-    Apart, Conjunction, Done, Indicator, Line, List, Outcome, Term, before_output, overflow_of,
-    push_conditions, put_cards,
+    Apart, Conditions, Conjunction, Done, Indicator, Line, List, Outcome, Printer, Term,
+    before_output, push_conditions, put_cards,
 };
 
 /// Writes each line of a file to the new one, after the whole record, and the records that no line changes.
-pub(crate) fn write_lines(
-    editor: &mut Editor,
-    updated: &Updated,
-    lines: &[&Line],
-    puts: &[Put],
-) -> Done {
+pub(crate) fn write_lines(editor: &mut Editor, updated: &Updated, puts: &[Put]) -> Done {
     let rest = unchanged(updated, puts)?;
     let rest = rest.checked()?;
-    for line in lines {
-        write_line(editor, updated, line)?;
+    for line in updated.deck.lines.iter() {
+        if updated.has(line) {
+            write_line(editor, updated, line)?;
+        }
     }
     if !rest.is_empty() {
-        write_rest(editor, updated, lines.last(), rest)?;
+        write_rest(editor, updated, rest)?;
     }
     editor.report(updated.file.number, remark(updated, rest.len()));
     Ok(())
@@ -39,25 +36,21 @@ fn remark(updated: &Updated, rest: usize) -> Sentence {
         1 => one,
         _ => several,
     };
-    Sentence::of_three(text, updated.name(), updated.new, Word::of_number(rest))
+    Sentence::with(text, &[updated.name(), updated.new, Word::of_number(rest)])
 }
 
 /// Returns the conditions for records that no line changes.
-fn unchanged(updated: &Updated, puts: &[Put]) -> Outcome<List<Conjunction>> {
-    let apart = Apart {
-        overflow: overflow_of(&updated.deck.view),
-        card: updated.file.number,
-    };
+fn unchanged(updated: &Updated, puts: &[Put]) -> Outcome<Conditions> {
     let mut found = List::new(updated.deck.view.alloc);
     for indicator in updated.types.indicators.as_slice() {
-        let left = left_of(updated, &apart, puts, *indicator)?;
+        let left = left_of(updated, puts, *indicator)?;
         push_possible(&mut found, updated, left.checked()?);
     }
     Ok(found)
 }
 
 /// Appends the conditions that may hold.
-fn push_possible(found: &mut List<Conjunction>, updated: &Updated, conditions: &[Conjunction]) {
+fn push_possible(found: &mut Conditions, updated: &Updated, conditions: &[Conjunction]) {
     for condition in conditions {
         if !updated.excludes(condition, condition) {
             found.push(*condition);
@@ -66,24 +59,19 @@ fn push_possible(found: &mut List<Conjunction>, updated: &Updated, conditions: &
 }
 
 /// Returns the conditions for records of an indicator that no line changes.
-fn left_of(
-    updated: &Updated,
-    apart: &Apart,
-    puts: &[Put],
-    indicator: Indicator,
-) -> Outcome<List<Conjunction>> {
-    let alloc = updated.deck.view.alloc;
+fn left_of(updated: &Updated, puts: &[Put], indicator: Indicator) -> Outcome<Conditions> {
+    let apart = Apart {
+        alloc: updated.deck.view.alloc,
+        overflow: Printer::of(&updated.deck.view).overflow,
+        card: updated.file.number,
+    };
     let own = Conjunction::on(indicator);
-    let mut left = List::new(alloc);
+    let mut left = List::new(apart.alloc);
     left.push(own);
     for put in puts {
         if !updated.excludes(&put.condition, &own) {
             let other = put.condition.without(Term::on(indicator));
-            let mut still = List::new(alloc);
-            if !other.is_empty() {
-                apart.push_without(&mut still, left.checked()?, &other)?;
-            }
-            left = still;
+            left = apart.without(left.checked()?, &other)?;
         }
     }
     Ok(left)
@@ -102,17 +90,14 @@ fn write_line(editor: &mut Editor, updated: &Updated, line: &Line) -> Done {
 }
 
 /// Writes the records under some conditions to the new file as they are, after its last line.
-fn write_rest(
-    editor: &mut Editor,
-    updated: &Updated,
-    last: Option<&&Line>,
-    conditions: &[Conjunction],
-) -> Done {
+fn write_rest(editor: &mut Editor, updated: &Updated, conditions: &[Conjunction]) -> Done {
     let (view, number) = (&updated.deck.view, updated.file.number);
     let mut cards = List::new(editor.alloc());
     push_conditions(&mut cards, updated.new_line(number), conditions)?;
     updated.record.push_fields(&mut cards, number);
-    let following = match last {
+    let lines = updated.lines();
+    lines.check()?;
+    let following = match lines.as_slice().last() {
         Some(line) => address_after(view, last_card(line).at),
         None => before_output(view),
     };

@@ -2,22 +2,22 @@
 
 use rpg_fit_deck::{Editor, Seen, Sentence, Word};
 use rpg_fit_words::{
-    Alternative, Apart, Conjunction, DeckLines, Done, Line, List, NewCard, Outcome, Term, Time,
-    name_files, overflow_of, put_cards,
+    Alternative, Apart, Cards, Conditions, Conjunction, DeckLines, Done, Line, List, Outcome,
+    Printer, Term, Time, is_or, name_files, put_cards,
 };
-use std::alloc::Global;
-
-/// Conditions of which one must hold.
-type Conditions = Outcome<List<Conjunction>>;
 
 /// Replaces each line whose alternatives have different spaces or skips by several lines. No two of these are printed together.
 pub fn or_spaces(editor: &mut Editor) -> Done {
     let deck = DeckLines::of(editor)?;
-    let overflow = overflow_of(&deck.view);
+    let mut apart = Apart {
+        alloc: editor.alloc(),
+        overflow: Printer::of(&deck.view).overflow,
+        card: 0,
+    };
     let mut are_named = false;
     for line in deck.lines.iter() {
         if let Some(card) = own_spaces(line) {
-            let apart = Apart { overflow, card };
+            apart.card = card;
             let split = Split { line, apart };
             if split.has_one_run() {
                 blank_spaces(editor, line.more.as_slice());
@@ -36,7 +36,7 @@ pub fn or_spaces(editor: &mut Editor) -> Done {
 
 /// Whether a card is an OR card with spaces or skips of its own.
 fn has_spaces(seen: &Seen) -> bool {
-    matches!(seen.card.columns(14, 15), b"OR") && !seen.card.is_blank(17, 22)
+    is_or(seen) && !seen.card.is_blank(17, 22)
 }
 
 /// Returns the number of a line's first OR card with spaces or skips of its own.
@@ -73,7 +73,7 @@ impl Split<'_> {
     /// Replaces the line by a line for each run of alternatives with the same spaces and skips.
     fn make_lines(&self, editor: &mut Editor) -> Done {
         let mut cards = List::new(editor.alloc());
-        let lines = self.push_lines(editor, &mut cards)?;
+        let lines = self.push_lines(&mut cards)?;
         put_cards(editor, self.line.head.at, cards.checked()?, self.apart.card)?;
         self.line.remove(editor, self.apart.card);
         editor.report(self.apart.card, remark(lines));
@@ -95,42 +95,34 @@ impl Split<'_> {
     /// Whether all alternatives have the same spaces and skips.
     fn has_one_run(&self) -> bool {
         let spaces = self.line.head.card.columns(17, 22);
-        self.line
-            .alternatives
-            .iter()
-            .all(|alternative| self.spaces_of(alternative).text() == spaces)
+        let mut alternatives = self.line.alternatives.iter();
+        alternatives.all(|alternative| self.spaces_of(alternative).text() == spaces)
     }
 
     /// Appends a line for each run, unless it is never printed, and returns how many lines there are.
-    fn push_lines(&self, editor: &Editor, cards: &mut List<NewCard>) -> Outcome<usize> {
+    fn push_lines(&self, cards: &mut Cards) -> Outcome<usize> {
         let all = self.line.alternatives.as_slice();
         let mut lines: usize = 0;
         let mut first: usize = 0;
         for run in all.chunk_by(|one, next| self.are_alike(one, next)) {
-            let earlier = all.get(..first).unwrap_or(&[]);
-            let apart = self.all_apart(editor.alloc(), run, earlier)?;
-            lines = lines.saturating_add(self.push_line(cards, run, apart.checked()?)?);
+            let apart = self.all_apart(run, all.get(..first).unwrap_or(&[]))?;
+            if !apart.checked()?.is_empty() {
+                self.push_line(cards, run, apart.as_slice())?;
+                lines = lines.saturating_add(1);
+            }
             first = first.saturating_add(run.len());
         }
         Ok(lines)
     }
 
-    /// Appends the line of a run under conditions, and returns 1; or 0 if it is never printed.
-    fn push_line(
-        &self,
-        cards: &mut List<NewCard>,
-        run: &[Alternative],
-        conditions: &[Conjunction],
-    ) -> Outcome<usize> {
-        match run {
-            [first, ..] if !conditions.is_empty() => {
-                let spaces = self.spaces_of(first);
-                let head = self.line.new_head().with(17, 22, spaces.text());
-                self.line.push_copy(cards, head, conditions)?;
-                Ok(1)
-            }
-            _ => Ok(0),
-        }
+    /// Appends the line of a run under conditions.
+    fn push_line(&self, cards: &mut Cards, run: &[Alternative], when: &[Conjunction]) -> Done {
+        let Some(first) = run.first() else {
+            return Ok(());
+        };
+        let spaces = self.spaces_of(first);
+        let head = self.line.new_head().with(17, 22, spaces.text());
+        self.line.push_copy(cards, head, when)
     }
 
     fn is_overflow(&self, condition: &Conjunction) -> bool {
@@ -140,24 +132,21 @@ impl Split<'_> {
     }
 
     /// Returns conditions that hold if an alternative of a run does and no earlier one for the same output.
-    fn all_apart(&self, alloc: Global, run: &[Alternative], earlier: &[Alternative]) -> Conditions {
-        let mut apart = List::new(alloc);
+    fn all_apart(&self, run: &[Alternative], earlier: &[Alternative]) -> Outcome<Conditions> {
+        let mut apart = List::new(self.apart.alloc);
         for alternative in run {
-            apart.append(&self.apart_of(alloc, alternative.condition, earlier)?);
+            apart.append(&self.apart_of(alternative.condition, earlier)?);
         }
         Ok(apart)
     }
 
     /// Returns conditions that hold if a condition does and no earlier alternative for the same output.
-    fn apart_of(&self, alloc: Global, own: Conjunction, earlier: &[Alternative]) -> Conditions {
-        let mut left = List::new(alloc);
+    fn apart_of(&self, own: Conjunction, earlier: &[Alternative]) -> Outcome<Conditions> {
+        let mut left = List::new(self.apart.alloc);
         left.push(own);
         for other in earlier {
             if self.is_overflow(&other.condition) == self.is_overflow(&own) {
-                let mut still = List::new(alloc);
-                self.apart
-                    .push_without(&mut still, left.checked()?, &other.condition)?;
-                left = still;
+                left = self.apart.without(left.checked()?, &other.condition)?;
             }
         }
         Ok(left)

@@ -157,7 +157,7 @@ impl Renamed {
         } else {
             "%: % fields"
         };
-        editor.report(field.number, Sentence::of_two(remark, name, entries));
+        editor.report(field.number, Sentence::with(remark, &[name, entries]));
         Ok(new)
     }
 

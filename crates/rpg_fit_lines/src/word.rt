@@ -4,8 +4,7 @@ use crate::field::{name_on, worded};
 use rpg_fit_deck::{Editor, Seen, Sentence, Word};
 use rpg_fit_words::{
     DeckLines, Done, Group, Line, List, NewCard, Operand, Outcome, Place, Printer, RuleStop, Time,
-    calculation, fresh_name, groups_now, has_overflow, insert_at, is_card, is_date_part,
-    is_field_put_first, is_total_skipped_late, printer_of,
+    calculation, fresh_name, groups, insert_at, is_date_part, is_table,
 };
 
 /// The most digits of a number.
@@ -15,29 +14,28 @@ const MOST_DIGITS: usize = 15;
 /// is printed.
 pub fn words(editor: &mut Editor) -> Done {
     let deck = DeckLines::of(editor)?;
-    let printer = printer_of(&deck.view);
+    let printer = Printer::of(&deck.view);
     let lines = deck.lines.as_slice();
-    let is_total_skipped = is_total_skipped_late(&deck.view, printer, lines)?;
-    let rule = Widening {
+    let mut rule = Widening {
         deck: &deck,
         printer,
-        is_total_skipped,
+        is_total_skipped: printer.is_total_skipped_late(&deck.view, lines)?,
+        wide: List::new(editor.alloc()),
     };
-    let mut wide = List::new(editor.alloc());
     for (place, line) in lines.iter().enumerate() {
-        let earlier = lines.get(..place).unwrap_or(&[]);
-        rule.widen_fields(editor, &mut wide, line, earlier)?;
+        rule.widen_fields(editor, line, lines.get(..place).unwrap_or(&[]))?;
     }
-    wide.check()
+    rule.wide.check()
 }
 
 /// A deck before its words are rewritten.
-#[derive(Clone, Copy)]
+#[derive(Drop)]
 struct Widening<'a> {
     deck: &'a DeckLines,
-    printer: Option<Printer>,
+    printer: Printer,
     /// Whether overflow output may come before any total calculation.
     is_total_skipped: bool,
+    wide: List<WideField>,
 }
 
 /// A number with fewer digits than its word has places.
@@ -78,22 +76,59 @@ enum Moment {
 
 impl Widening<'_> {
     /// Rewrites the words of a line, which comes after others.
-    fn widen_fields(
-        &self,
-        editor: &mut Editor,
-        wide: &mut List<WideField>,
-        line: &Line,
-        earlier: &[Line],
-    ) -> Done {
+    fn widen_fields(&mut self, editor: &mut Editor, line: &Line, earlier: &[Line]) -> Done {
         for field in line.fields.iter() {
             if let Some(number) = self.short_number(field) {
                 self.check(line, earlier, &number)?;
-                let at_overflow = has_overflow(self.printer, line);
-                let name = field_for(editor, wide, &number, line.time, at_overflow)?;
+                let name = self.field(editor, &number, line)?;
                 print_from(editor, &number, name);
             }
         }
         Ok(())
+    }
+
+    /// Returns the field for a number, to which it is copied before a line is printed, also at overflow.
+    fn field(&mut self, editor: &mut Editor, number: &ShortNumber, line: &Line) -> Outcome<Word> {
+        let (time, at_overflow) = (line.time, self.printer.has_overflow(line));
+        let name = match find(self.wide.as_slice(), number) {
+            Some(name) => name,
+            None => define(editor, number, time)?,
+        };
+        self.push(number, name, None);
+        if time == Time::Exception {
+            self.copy(editor, number, name, Moment::BeforeExceptions)?;
+        }
+        if at_overflow || time != Time::Exception && time != Time::Total {
+            self.copy(editor, number, name, Moment::DetailEnd)?;
+        }
+        if at_overflow || time == Time::Total {
+            self.copy(editor, number, name, Moment::TotalEnd)?;
+        }
+        Ok(name)
+    }
+
+    fn push(&mut self, number: &ShortNumber, name: Word, copied: Option<Moment>) {
+        self.wide.push(WideField {
+            number: number.name,
+            places: number.places,
+            name,
+            copied,
+        });
+    }
+
+    /// Copies a number to a field at a point in the cycle, unless it is copied then.
+    fn copy(&mut self, editor: &mut Editor, number: &ShortNumber, name: Word, at: Moment) -> Done {
+        if is_copied(self.wide.as_slice(), name, at) {
+            return Ok(());
+        }
+        self.push(number, name, Some(at));
+        let card = number.field.number;
+        let copy = number.sized(calculation(b"||Z-ADD|%|%", &[number.name, name], card));
+        match at {
+            Moment::BeforeExceptions => put_before_exceptions(editor, copy),
+            Moment::DetailEnd => insert_at(editor, Place::DetailEnd, &[copy], card),
+            Moment::TotalEnd => insert_at(editor, Place::TotalEnd, &[copy.with(7, 8, b"L0")], card),
+        }
     }
 
     /// Returns the number of a field, if it has fewer digits than its word has places: its blanks, and its stop.
@@ -140,14 +175,13 @@ impl Widening<'_> {
 
     /// Whether a field may be printed before any calculation.
     fn may_come_early(&self, line: &Line, field: &Seen) -> bool {
-        is_field_put_first(self.printer, line, field)
-            || self.is_total_skipped && has_overflow(self.printer, line)
+        line.is_field_put_first(field) || self.is_total_skipped && self.printer.has_overflow(line)
     }
 
     /// Whether a field may be blanked between its copy and its line: by an earlier line of the same time, or by any line if its own has
     /// an alternative for overflow.
     fn may_be_blanked(&self, line: &Line, earlier: &[Line], name: &[u8]) -> bool {
-        if has_overflow(self.printer, line) {
+        if self.printer.has_overflow(line) {
             return any_blanks(self.deck.lines.as_slice(), name, None);
         }
         any_blanks(earlier, name, Some(line.time))
@@ -163,9 +197,7 @@ const BLANKED: &str = "a word with more places than digits, and a line before it
 
 /// Whether a card defines a table or an array with this name, and the deck has data for it.
 fn has_data(seen: &Seen, name: &[u8]) -> bool {
-    is_card(seen, b'E')
-        && !seen.card.is_blank(33, 35)
-        && (seen.card.value(27, 32) == name || seen.card.value(46, 51) == name)
+    is_table(seen, name) && !seen.card.is_blank(33, 35)
 }
 
 /// Returns how many digits a word has places for: its blanks, and its stop.
@@ -192,37 +224,6 @@ fn is_same_time(one: Time, other: Time) -> bool {
     one == other || one.is_detail() && other.is_detail()
 }
 
-/// Returns the field for a number, to which it is copied before a line of a time is printed, also at overflow.
-fn field_for(
-    editor: &mut Editor,
-    wide: &mut List<WideField>,
-    number: &ShortNumber,
-    time: Time,
-    at_overflow: bool,
-) -> Outcome<Word> {
-    let name = match find(wide.as_slice(), number) {
-        Some(name) => name,
-        None => define(editor, number, time)?,
-    };
-    let field = WideField {
-        number: number.name,
-        places: number.places,
-        name,
-        copied: None,
-    };
-    wide.push(field);
-    if time == Time::Exception {
-        copy_at(editor, wide, number, field, Moment::BeforeExceptions)?;
-    }
-    if at_overflow || time != Time::Exception && time != Time::Total {
-        copy_at(editor, wide, number, field, Moment::DetailEnd)?;
-    }
-    if at_overflow || time == Time::Total {
-        copy_at(editor, wide, number, field, Moment::TotalEnd)?;
-    }
-    Ok(name)
-}
-
 /// Returns the name of the existing field for a number.
 fn find(wide: &[WideField], number: &ShortNumber) -> Option<Word> {
     let found = wide.iter().find(|field| {
@@ -235,7 +236,11 @@ fn find(wide: &[WideField], number: &ShortNumber) -> Option<Word> {
 fn define(editor: &mut Editor, number: &ShortNumber, time: Time) -> Outcome<Word> {
     let card = number.field.number;
     let name = fresh_name(&editor.view()?, b"W#", card)?;
-    if time == Time::Exception && !groups_now(editor)?.iter().any(|group| is_exception(group)) {
+    if time == Time::Exception
+        && !groups(&editor.view()?)?
+            .iter()
+            .any(|group| is_exception(group))
+    {
         let never = number.sized(calculation(b"NL0||Z-ADD|0|%", &[name], card));
         insert_at(editor, Place::DetailFront, &[never], card)?;
     }
@@ -251,34 +256,9 @@ fn is_copied(wide: &[WideField], name: Word, moment: Moment) -> bool {
     wide.iter().any(|done| done.copied == Some(moment) && done.name.text() == name.text())
 }
 
-/// Copies a number to a field at a point in the cycle, unless it is copied then.
-fn copy_at(
-    editor: &mut Editor,
-    wide: &mut List<WideField>,
-    number: &ShortNumber,
-    field: WideField,
-    moment: Moment,
-) -> Done {
-    if is_copied(wide.as_slice(), field.name, moment) {
-        return Ok(());
-    }
-    wide.push(WideField {
-        copied: Some(moment),
-        ..field
-    });
-    let card = number.field.number;
-    let names = [number.name, field.name];
-    let copy = number.sized(calculation(b"||Z-ADD|%|%", &names, card));
-    match moment {
-        Moment::BeforeExceptions => put_before_exceptions(editor, copy),
-        Moment::DetailEnd => insert_at(editor, Place::DetailEnd, &[copy], card),
-        Moment::TotalEnd => { insert_at(editor, Place::TotalEnd, &[copy.with(7, 8, b"L0")], card) }
-    }
-}
-
 /// Inserts a calculation before each EXCPT.
 fn put_before_exceptions(editor: &mut Editor, copy: NewCard) -> Done {
-    for group in groups_now(editor)?.iter() {
+    for group in groups(&editor.view()?)?.iter() {
         if is_exception(group) {
             let level = group.section().level().word();
             let at = copy.with(7, 8, level.text());
@@ -297,6 +277,6 @@ fn print_from(editor: &mut Editor, number: &ShortNumber, name: Word) {
     let card = field.card.with(39, 39, &[]).with(32, 37, name.text());
     let remark = "% is printed from %, which has % digits, one for each place of its word";
     let places = Word::of_number(number.places);
-    let remark = Sentence::of_three(remark, number.name, name, places);
+    let remark = Sentence::with(remark, &[number.name, name, places]);
     editor.rewrite(field, card, remark);
 }

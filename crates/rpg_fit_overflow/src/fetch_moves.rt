@@ -1,10 +1,10 @@
 //! Moves lines to EXCPT, and overflow output to where they fetch it.
 
-use crate::overflow::{Overflow, Part, fetches};
+use crate::overflow::{Part, fetches, push_overflow};
 use rpg_fit_deck::{Address, Editor, Sentence, View, Word};
 use rpg_fit_words::{
-    Conjunction, Done, FreeIndicators, Indicator, Line, List, NewCard, Outcome, Term, calculation,
-    insert_at, is_card, name_files, push_conditioned, put_cards,
+    Cards, Conditions, Conjunction, Done, FreeIndicators, Indicator, Line, List, NewCard, Outcome,
+    Printer, Term, calculation, insert_at, is_card, name_files, push_conditioned, put_cards,
 };
 
 /// Lines that EXCPT is to print.
@@ -12,9 +12,7 @@ use rpg_fit_words::{
 pub(crate) struct Moves<'a> {
     pub view: &'a View,
     pub lines: &'a [Line],
-    pub overflow: Overflow,
-    /// The overflow indicator.
-    pub indicator: Indicator,
+    pub printer: Printer,
     /// The card that the change is reported for.
     pub card: usize,
 }
@@ -26,7 +24,7 @@ struct Made {
     /// The indicator under which overflow lines are printed.
     at_overflow: Indicator,
     /// The lines that EXCPT prints.
-    tail: List<NewCard>,
+    tail: Cards,
     /// How many of them aren't overflow lines.
     moved: usize,
     /// How many of them are copies of overflow lines.
@@ -37,7 +35,7 @@ struct Made {
 #[derive(Drop)]
 struct Steps {
     part: Part,
-    cards: List<NewCard>,
+    cards: Cards,
     /// The card that they are derived from.
     card: usize,
     /// The indicator under which the lines since the last fetch are printed.
@@ -71,7 +69,7 @@ impl Moves<'_> {
     /// Appends copies of the overflow lines of a time.
     fn copy_overflow(&self, made: &mut Made, part: Part) -> Done {
         for line in self.lines {
-            if part.has(line.time) && self.overflow.has(line) {
+            if part.has(line.time) && self.printer.has_overflow(line) {
                 self.copy_line(made, line)?;
             }
         }
@@ -81,9 +79,9 @@ impl Moves<'_> {
     /// Appends a copy of an overflow line.
     fn copy_line(&self, made: &mut Made, line: &Line) -> Done {
         let mut conditions = List::new(self.view.alloc);
-        self.overflow.push_conditions(&mut conditions, line);
+        push_overflow(&mut conditions, &self.printer, line);
         made.copied = made.copied.saturating_add(1);
-        self.push_exception(made, made.at_overflow, line, conditions.checked()?)
+        self.append(made, made.at_overflow, line, conditions.checked()?)
     }
 
     /// Moves the lines of a time, if some of them fetch overflow output.
@@ -100,7 +98,7 @@ impl Moves<'_> {
         };
         if matches!(part, Part::Detail) {
             // at the end of detail it is on only if overflow output was done
-            steps.push(b"||SETOF||||%", &[self.indicator.word()]);
+            steps.push(b"||SETOF||||%", &[self.printer.overflow.word()]);
         }
         self.move_lines(editor, made, &mut steps)?;
         steps.print_lines();
@@ -117,34 +115,24 @@ impl Moves<'_> {
         Ok(())
     }
 
-    /// Moves a line, except at the first output and at overflow.
-    fn move_line(&self, made: &mut Made, steps: &mut Steps, line: &Line) -> Done {
-        let later = self.later(line);
-        self.move_later(made, steps, line, later.checked()?)
-    }
-
     /// Returns the conditions under which a line may be printed after the first output, at which alone 1P is on, and not at
     /// overflow.
-    fn later(&self, line: &Line) -> List<Conjunction> {
+    fn later(&self, line: &Line) -> Conditions {
         let mut found = List::new(self.view.alloc);
         for alternative in line.alternatives.iter() {
             let condition = &alternative.condition;
             let is_first = condition.has(Term::on(Indicator::FIRST_PAGE));
-            if !is_first && !self.overflow.is_output(line, condition) {
+            if !is_first && !self.printer.is_overflow(line, condition) {
                 found.push(*condition);
             }
         }
         found
     }
 
-    /// Moves a line that may be printed under these conditions.
-    fn move_later(
-        &self,
-        made: &mut Made,
-        steps: &mut Steps,
-        line: &Line,
-        later: &[Conjunction],
-    ) -> Done {
+    /// Moves a line, except at the first output and at overflow.
+    fn move_line(&self, made: &mut Made, steps: &mut Steps, line: &Line) -> Done {
+        let later = self.later(line);
+        let later = later.checked()?;
         if later.is_empty() {
             return Ok(());
         }
@@ -154,58 +142,59 @@ impl Moves<'_> {
         }
         let flag = self.flag(made, steps, line)?;
         made.moved = made.moved.saturating_add(1);
-        self.push_exception(made, flag, line, later)
+        self.append(made, flag, line, later)
     }
 
     /// Returns the indicator under which a line is printed.
     fn flag(&self, made: &mut Made, steps: &mut Steps, line: &Line) -> Outcome<Indicator> {
-        match steps.flag {
-            Some(flag) => Ok(flag),
-            None => {
-                let flag = made.free.take(self.view, line.head.number)?;
-                steps.flag = Some(flag);
-                Ok(flag)
-            }
+        if let Some(flag) = steps.flag {
+            return Ok(flag);
         }
+        let flag = made.free.take(self.view, line.head.number)?;
+        steps.flag = Some(flag);
+        Ok(flag)
     }
 
     /// Before a line that fetches, if it is printed and overflow is on: prints the overflow lines, and turns overflow off.
     fn push_fetch(&self, steps: &mut Steps, flag: Indicator, conditions: &[Conjunction]) -> Done {
         let flag = flag.word();
-        let on = calculation(b"||SETON||||%", &[flag], self.card);
+        let on = steps.calculation(b"||SETON||||%", &[flag]);
         let tested = self.with_overflow(conditions);
         steps.push(b"||SETOF||||%", &[flag]);
-        push_conditioned(&mut steps.cards, steps.part.level(), tested.checked()?, on)?;
+        push_conditioned(&mut steps.cards, tested.checked()?, on)?;
         steps.push(b" %||EXCPT", &[flag]);
-        steps.push(b" %||SETOF||||%|%", &[flag, self.indicator.word(), flag]);
+        steps.push(
+            b" %||SETOF||||%|%",
+            &[flag, self.printer.overflow.word(), flag],
+        );
         Ok(())
     }
 
     /// Returns conditions that also test overflow.
-    fn with_overflow(&self, conditions: &[Conjunction]) -> List<Conjunction> {
+    fn with_overflow(&self, conditions: &[Conjunction]) -> Conditions {
         let mut found = List::new(self.view.alloc);
         for condition in conditions {
-            found.push(condition.and(Term::on(self.indicator)));
+            found.push(condition.and(Term::on(self.printer.overflow)));
         }
         found
     }
 
     /// Returns the alternatives that a line keeps: those that hold at the first output, limited to it, and those for overflow.
-    fn kept(&self, line: &Line, part: Part) -> List<Conjunction> {
+    fn kept(&self, line: &Line, part: Part) -> Conditions {
         let mut kept = List::new(self.view.alloc);
         if matches!(part, Part::Detail) {
             self.push_first(&mut kept, line);
         }
-        self.overflow.push_conditions(&mut kept, line);
+        push_overflow(&mut kept, &self.printer, line);
         kept
     }
 
     /// Appends the conditions of a line that hold at the first output, each with 1P, so that they hold only then.
-    fn push_first(&self, kept: &mut List<Conjunction>, line: &Line) {
+    fn push_first(&self, kept: &mut Conditions, line: &Line) {
         let first = Conjunction::on(Indicator::FIRST_PAGE);
         for alternative in line.alternatives.iter() {
             let condition = &alternative.condition;
-            if condition.holds_first() && !self.overflow.is_output(line, condition) {
+            if condition.holds_first() && !self.printer.is_overflow(line, condition) {
                 kept.push(condition.and_missing(&first));
             }
         }
@@ -230,15 +219,9 @@ impl Moves<'_> {
     }
 
     /// Appends a copy of a line that EXCPT prints if a flag is on and one of the conditions holds.
-    fn push_exception(
-        &self,
-        made: &mut Made,
-        flag: Indicator,
-        line: &Line,
-        conditions: &[Conjunction],
-    ) -> Done {
+    fn append(&self, made: &mut Made, flag: Indicator, line: &Line, when: &[Conjunction]) -> Done {
         let mut flagged = List::new(self.view.alloc);
-        for condition in conditions {
+        for condition in when {
             flagged.push(Conjunction::on(flag).and_all(condition));
         }
         let head = line.new_head().with(15, 16, b"E");
@@ -252,7 +235,7 @@ impl Moves<'_> {
         let remark =
             "fetch: lines printed by EXCPT: %; lines of overflow before those that fetch: %";
         let (moved, copied) = (Word::of_number(made.moved), Word::of_number(made.copied));
-        editor.report(self.card, Sentence::of_two(remark, moved, copied));
+        editor.report(self.card, Sentence::with(remark, &[moved, copied]));
         Ok(())
     }
 }
@@ -271,11 +254,15 @@ fn following_output(view: &View) -> Address {
 }
 
 impl Steps {
-    /// Appends a calculation, done at the lines' time.
-    fn push(&mut self, template: &[u8], words: &[Word]) {
+    /// Returns a calculation, done at the lines' time.
+    fn calculation(&self, template: &[u8], words: &[Word]) -> NewCard {
         let card = calculation(template, words, self.card);
-        let level = self.part.level().word();
-        self.cards.push(card.with(7, 8, level.text()));
+        card.with(7, 8, self.part.level().word().text())
+    }
+
+    fn push(&mut self, template: &[u8], words: &[Word]) {
+        let card = self.calculation(template, words);
+        self.cards.push(card);
     }
 
     /// Prints the lines since the last fetch.

@@ -1,11 +1,10 @@
 //! Lines that fetch overflow output: EXCPT prints them and all lines of their time.
 
 use crate::fetch_moves::Moves;
-use crate::overflow::{Overflow, fetches, first_fetching};
+use crate::overflow::{fetches, first_fetching};
 use rpg_fit_deck::{Address, Editor, Seen, View};
 use rpg_fit_words::{
-    Conjunction, DeckLines, Done, IndicatorUse, Line, RuleStop, Term, Time, indicator_uses,
-    reaches_overflow,
+    Conjunction, DeckLines, Done, IndicatorUse, Line, Printer, RuleStop, Term, Time, indicator_uses,
 };
 
 /// Lets EXCPT print the lines of a time, if some of them fetch overflow output.
@@ -20,15 +19,14 @@ pub fn fetch(editor: &mut Editor) -> Done {
 
 /// Lets EXCPT print lines. `card`: the first that fetches, for which the change is reported.
 fn rewrite(editor: &mut Editor, view: &View, lines: &[Line], card: usize) -> Done {
-    let overflow = Overflow::of(view);
-    let Some(indicator) = overflow.indicator() else {
+    let printer = Printer::of(view);
+    if printer.overflow.is_blank() {
         return Err(RuleStop::because(card, "fetch without an overflow indicator"));
-    };
+    }
     let moves = Moves {
         view,
         lines,
-        overflow,
-        indicator,
+        printer,
         card,
     };
     check(&moves)?;
@@ -57,7 +55,7 @@ fn check_times(lines: &[Line]) -> Done {
 fn check_first(moves: &Moves) -> Done {
     let mut lines = moves.lines.iter();
     let is_fetched = lines.any(|line| line.time.is_detail() && fetches(line));
-    if is_fetched && reaches_overflow(moves.overflow.printer, moves.lines) {
+    if is_fetched && moves.printer.reaches_overflow(moves.lines) {
         let why = "fetch on a detail line, and the first output may reach overflow";
         return Err(RuleStop::because(moves.card, why));
     }
@@ -68,7 +66,7 @@ fn check_first(moves: &Moves) -> Done {
 fn check_uses(moves: &Moves) -> Done {
     let uses = indicator_uses(moves.view);
     for one in uses.checked()? {
-        let is_overflow = one.indicator == moves.indicator && one.form != b'F';
+        let is_overflow = one.indicator == moves.printer.overflow && one.form != b'F';
         if is_overflow && !is_alternative(moves.lines, *one) {
             let why = "fetch, and % is tested beside overflow lines";
             return Err(RuleStop::about(one.number, why, one.indicator.word()));

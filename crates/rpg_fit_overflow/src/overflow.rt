@@ -1,10 +1,6 @@
 //! Overflow output.
 
-use rpg_fit_deck::View;
-use rpg_fit_words::{
-    Conjunction, Indicator, Line, List, Place, Printer, Term, Time, has_overflow, is_overflow,
-    printer_of,
-};
+use rpg_fit_words::{Conditions, Indicator, Line, Place, Printer, Term, Time};
 
 /// A time of the cycle at which lines are printed.
 #[derive(Clone, Copy)]
@@ -59,74 +55,19 @@ pub(crate) fn first_fetching(lines: &[Line]) -> Option<usize> {
     Some(line.head.number)
 }
 
-/// What a deck does at overflow.
-#[derive(Clone, Copy)]
-pub(crate) struct Overflow {
-    /// Its first printer.
-    pub printer: Option<Printer>,
+/// Appends the conditions under which a line is printed at overflow, in order.
+pub(crate) fn push_overflow(found: &mut Conditions, printer: &Printer, line: &Line) {
+    for alternative in line.alternatives.iter() {
+        if printer.is_overflow(line, &alternative.condition) {
+            found.push(alternative.condition);
+        }
+    }
 }
 
-/// A kind of a line's alternatives.
-#[derive(Clone, Copy)]
-pub(crate) enum Kind {
-    /// Those for overflow output.
-    AtOverflow,
-    /// All others.
-    Normal,
-}
-
-impl Overflow {
-    pub fn of(view: &View) -> Overflow {
-        Overflow {
-            printer: printer_of(view),
-        }
-    }
-
-    /// Returns the overflow indicator, if there is one.
-    pub fn indicator(&self) -> Option<Indicator> {
-        match self.printer {
-            Some(printer) if !printer.overflow.is_blank() => Some(printer.overflow),
-            _ => None,
-        }
-    }
-
-    /// Whether a line is printed at overflow under a condition.
-    pub fn is_output(&self, line: &Line, condition: &Conjunction) -> bool {
-        is_overflow(self.printer, line, condition)
-    }
-
-    /// Whether a line's condition is of a kind.
-    pub fn is_of(&self, kind: Kind, line: &Line, condition: &Conjunction) -> bool {
-        self.is_output(line, condition) == matches!(kind, Kind::AtOverflow)
-    }
-
-    /// Whether a line has an alternative for overflow.
-    pub fn has(&self, line: &Line) -> bool {
-        has_overflow(self.printer, line)
-    }
-
-    /// Appends the conditions under which a line is printed at overflow, in order.
-    pub fn push_conditions(&self, found: &mut List<Conjunction>, line: &Line) {
-        for alternative in line.alternatives.iter() {
-            if self.is_output(line, &alternative.condition) {
-                found.push(alternative.condition);
-            }
-        }
-    }
-
-    /// Whether a line may be printed other than at overflow and at the first output.
-    pub fn is_put_later(&self, line: &Line) -> bool {
-        line.alternatives.iter().any(|alternative| {
-            let condition = &alternative.condition;
-            !self.is_output(line, condition) && !condition.has(Term::on(Indicator::FIRST_PAGE))
-        })
-    }
-
-    /// Whether a condition tests the overflow indicator.
-    pub fn is_tested(&self, condition: &Conjunction) -> bool {
-        match self.indicator() {
-            Some(indicator) => condition.tests(indicator),
-            None => false,
-        }
-    }
+/// Whether a line may be printed other than at overflow and at the first output.
+pub(crate) fn is_put_later(printer: &Printer, line: &Line) -> bool {
+    line.alternatives.iter().any(|alternative| {
+        let condition = &alternative.condition;
+        !printer.is_overflow(line, condition) && !condition.has(Term::on(Indicator::FIRST_PAGE))
+    })
 }

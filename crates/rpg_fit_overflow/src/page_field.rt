@@ -1,15 +1,25 @@
 //! The output fields that print PAGE.
 
-use crate::overflow::{Kind, Overflow, Part};
+use crate::overflow::Part;
 use rpg_fit_deck::Seen;
-use rpg_fit_words::{Conjunction, Indicator, Line, List, Term};
+use rpg_fit_words::{Conditions, Conjunction, Indicator, Line, List, Printer, Term};
 use std::alloc::Global;
 
-/// A field that prints PAGE, and its line.
+/// A field that prints PAGE, its line, and the lines before that.
 #[derive(Clone, Copy)]
 pub(crate) struct PageField<'a> {
-    pub line: &'a Line,
     pub field: &'a Seen,
+    pub line: &'a Line,
+    pub earlier: &'a [Line],
+}
+
+/// When PAGE is reset for a field.
+#[derive(Drop)]
+pub(crate) struct Resets {
+    /// Before the lines of the field's time.
+    pub normal: Conditions,
+    /// Before overflow output.
+    pub at_overflow: Conditions,
 }
 
 /// Whether a field prints PAGE.
@@ -35,19 +45,26 @@ impl PageField<'_> {
         Conjunction::at(&self.field.card, 23)
     }
 
-    /// Returns when PAGE is reset for the alternatives of a kind: if one of them and its own conditions hold, without the overflow
-    /// indicator.
-    pub fn resets(&self, alloc: Global, overflow: Overflow, kind: Kind) -> List<Conjunction> {
+    /// Returns when PAGE is reset: if an alternative of its line and its own conditions hold, without the overflow indicator of overflow
+    /// output.
+    pub fn resets(&self, alloc: Global, printer: &Printer) -> Resets {
         let own = self.own();
-        let mut found = List::new(alloc);
+        let mut resets = Resets {
+            normal: List::new(alloc),
+            at_overflow: List::new(alloc),
+        };
         for alternative in self.line.alternatives.iter() {
             let condition = &alternative.condition;
-            if overflow.is_of(kind, self.line, condition) && is_live(condition, &own) {
-                let together = without_overflow(overflow, kind, condition).and_missing(&own);
-                push_new(&mut found, together);
+            if is_live(condition, &own) {
+                if printer.is_overflow(self.line, condition) {
+                    let rest = condition.without(Term::on(printer.overflow));
+                    push_new(&mut resets.at_overflow, rest.and_missing(&own));
+                } else {
+                    push_new(&mut resets.normal, condition.and_missing(&own));
+                }
             }
         }
-        found
+        resets
     }
 
     /// Returns the time of the cycle at which its line is printed.
@@ -56,20 +73,10 @@ impl PageField<'_> {
     }
 }
 
-/// Returns a condition without the overflow indicator, if it is for overflow output.
-fn without_overflow(overflow: Overflow, kind: Kind, condition: &Conjunction) -> Conjunction {
-    match overflow.indicator() {
-        Some(indicator) if matches!(kind, Kind::AtOverflow) => {
-            condition.without(Term::on(indicator))
-        }
-        _ => *condition,
-    }
-}
-
 /// Appends a condition, unless it is there.
-fn push_new(found: &mut List<Conjunction>, condition: Conjunction) {
+fn push_new(found: &mut Conditions, condition: Conjunction) {
     let mut others = found.as_slice().iter();
-    if !others.any(|other| other.is_same(&condition)) {
+    if !others.any(|other| other.terms() == condition.terms()) {
         found.push(condition);
     }
 }

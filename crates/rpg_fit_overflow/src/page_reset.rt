@@ -1,30 +1,26 @@
 //! PAGE under conditions: it is always printed, and reset to 0 first if they hold.
 
-use crate::overflow::{Kind, Overflow, first_fetching};
-use crate::page_field::{PageField, is_page, page_card};
-use crate::page_steps::{Marks, reset, reset_at_overflow};
+use crate::overflow::{first_fetching, is_put_later};
+use crate::page_field::{PageField, Resets, is_page, page_card};
+use crate::page_steps::{Marks, reset};
 use rpg_fit_deck::{Card, Editor, Sentence, View, Word};
-use rpg_fit_words::{
-    Conjunction, DeckLines, Done, Line, List, RuleStop, Time, is_card, is_field_put_first,
-    is_put_first, is_total_skipped_late,
-};
+use rpg_fit_words::{Conjunction, DeckLines, Done, Line, Printer, RuleStop, Time, is_card};
 
 /// Lets calculations reset PAGE where it is printed under conditions.
 pub fn pages(editor: &mut Editor) -> Done {
     let deck = DeckLines::of(editor)?;
     let (view, lines) = (&deck.view, deck.lines.as_slice());
-    let overflow = Overflow::of(view);
+    let printer = Printer::of(view);
     let rule = Deck {
         view,
-        overflow,
+        printer,
         lines,
         fetches: first_fetching(lines).is_some(),
-        is_total_skipped: is_total_skipped_late(view, overflow.printer, lines)?,
+        is_total_skipped: printer.is_total_skipped_late(view, lines)?,
     };
-    let mut marks = Marks::new();
+    let mut marks = Marks::of(view);
     for (place, line) in lines.iter().enumerate() {
-        let earlier = lines.get(..place).unwrap_or(&[]);
-        rule.reset_fields(editor, &mut marks, line, earlier)?;
+        rule.reset_fields(editor, &mut marks, place, line)?;
     }
     Ok(())
 }
@@ -33,7 +29,7 @@ pub fn pages(editor: &mut Editor) -> Done {
 #[derive(Clone, Copy)]
 struct Deck<'a> {
     view: &'a View,
-    overflow: Overflow,
+    printer: Printer,
     lines: &'a [Line],
     /// Whether a line fetches overflow output.
     fetches: bool,
@@ -41,52 +37,29 @@ struct Deck<'a> {
     is_total_skipped: bool,
 }
 
-/// When PAGE is reset for a field.
-#[derive(Drop)]
-struct Resets {
-    /// Before the lines of the field's time.
-    normal: List<Conjunction>,
-    /// Before overflow output.
-    at_overflow: List<Conjunction>,
-}
-
 impl Deck<'_> {
-    fn reset_fields(
-        &self,
-        editor: &mut Editor,
-        marks: &mut Marks,
-        line: &Line,
-        earlier: &[Line],
-    ) -> Done {
+    fn reset_fields(&self, editor: &mut Editor, marks: &mut Marks, at: usize, line: &Line) -> Done {
+        let earlier = self.lines.get(..at).unwrap_or(&[]);
         for field in line.fields.iter() {
-            let page = PageField { line, field };
-            if is_page(field) && !page.own().is_empty() {
-                self.reset_field(editor, marks, page, earlier)?;
+            let page = PageField {
+                field,
+                line,
+                earlier,
+            };
+            if is_page(field) && !page.own().terms().is_empty() {
+                let resets = page.resets(self.view.alloc, &self.printer);
+                self.check(page, &resets)?;
+                reset_page(editor, marks, page, &resets)?;
             }
         }
         Ok(())
     }
 
-    fn reset_field(
-        &self,
-        editor: &mut Editor,
-        marks: &mut Marks,
-        page: PageField,
-        earlier: &[Line],
-    ) -> Done {
-        let resets = Resets {
-            normal: page.resets(self.view.alloc, self.overflow, Kind::Normal),
-            at_overflow: page.resets(self.view.alloc, self.overflow, Kind::AtOverflow),
-        };
-        self.check(page, earlier, &resets)?;
-        self.rewrite(editor, marks, page, &resets)
-    }
-
     /// Rejects a field for which PAGE can't be reset.
-    fn check(&self, page: PageField, earlier: &[Line], resets: &Resets) -> Done {
+    fn check(&self, page: PageField, resets: &Resets) -> Done {
         self.check_field(page)?;
         let is_reset = !resets.normal.checked()?.is_empty();
-        self.check_earlier(page, earlier, is_reset)?;
+        self.check_earlier(page, is_reset)?;
         if is_reset {
             self.check_fetched(page)?;
         }
@@ -110,7 +83,7 @@ impl Deck<'_> {
         if cards.any(|seen| is_card(seen, b'I') && matches!(seen.card.value(53, 58), b"PAGE")) {
             return refused(page, "PAGE under conditions, and on an I card");
         }
-        if self.tests_normally(page.line) || self.overflow.is_tested(&page.own()) {
+        if self.tests_normally(page.line) || self.printer.is_tested(&page.own()) {
             return refused(page, "overflow is tested beside PAGE under conditions");
         }
         Ok(())
@@ -120,13 +93,13 @@ impl Deck<'_> {
     fn tests_normally(&self, line: &Line) -> bool {
         line.alternatives.iter().any(|alternative| {
             let condition = &alternative.condition;
-            !self.overflow.is_output(line, condition) && self.overflow.is_tested(condition)
+            !self.printer.is_overflow(line, condition) && self.printer.is_tested(condition)
         })
     }
 
     /// Rejects PAGE if an earlier line prints it at the same time: it would be reset before that line.
-    fn check_earlier(&self, page: PageField, earlier: &[Line], is_reset: bool) -> Done {
-        for line in earlier {
+    fn check_earlier(&self, page: PageField, is_reset: bool) -> Done {
+        for line in page.earlier {
             if let Some(card) = page_card(line) {
                 if page.part().has(line.time) {
                     self.check_before(page, line, card, is_reset)?;
@@ -138,12 +111,11 @@ impl Deck<'_> {
 
     /// Rejects PAGE if a line of its time that also prints it may be printed after the first output, or at it like its own.
     fn check_before(&self, page: PageField, line: &Line, card: usize, is_reset: bool) -> Done {
-        let printer = self.overflow.printer;
-        if is_reset && self.overflow.is_put_later(line) {
+        if is_reset && is_put_later(&self.printer, line) {
             let why = "a line before it (card %) prints PAGE at the same time";
             return refused_by(page, why, card);
         }
-        if is_field_put_first(printer, page.line, page.field) && is_put_first(printer, line) {
+        if page.line.is_field_put_first(page.field) && line.is_put_first() {
             let why = "a line before it (card %) prints PAGE at the first output";
             return refused_by(page, why, card);
         }
@@ -154,7 +126,7 @@ impl Deck<'_> {
     fn check_fetched(&self, page: PageField) -> Done {
         for line in self.lines {
             let is_other = line.head.at != page.line.head.at && page_card(line).is_some();
-            if self.fetches && is_other && self.overflow.has(line) {
+            if self.fetches && is_other && self.printer.has_overflow(line) {
                 let why =
                     "PAGE under conditions, and overflow lines that are fetched print PAGE too";
                 return refused(page, why);
@@ -176,7 +148,7 @@ impl Deck<'_> {
         for line in self.lines {
             if let Some(card) = page_card(line) {
                 let is_before = line.head.number < page.line.head.number;
-                if line.time == Time::Total || is_before && self.overflow.has(line) {
+                if line.time == Time::Total || is_before && self.printer.has_overflow(line) {
                     let why = "a line (card %) may print PAGE before it at overflow";
                     return refused_by(page, why, card);
                 }
@@ -184,28 +156,22 @@ impl Deck<'_> {
         }
         Ok(())
     }
+}
 
-    /// Inserts calculations that reset PAGE, and blanks the conditions of its field.
-    fn rewrite(
-        &self,
-        editor: &mut Editor,
-        marks: &mut Marks,
-        page: PageField,
-        resets: &Resets,
-    ) -> Done {
-        let field = page.field;
-        if !resets.normal.is_empty() {
-            reset(editor, page.part(), resets.normal.as_slice(), field.number)?;
-        }
-        if !resets.at_overflow.is_empty() {
-            let conditions = resets.at_overflow.as_slice();
-            reset_at_overflow(editor, self.view, marks, conditions, field.number)?;
-        }
-        let remark = "PAGE is set back to 0 by calculations, before it is printed under %";
-        let remark = Sentence::about(remark, spelled(&field.card));
-        editor.rewrite(field, field.card.with(23, 31, &[]), remark);
-        Ok(())
+/// Inserts calculations that reset PAGE, and blanks the conditions of its field.
+fn reset_page(editor: &mut Editor, marks: &mut Marks, page: PageField, when: &Resets) -> Done {
+    let field = page.field;
+    if !when.normal.is_empty() {
+        reset(editor, page.part(), when.normal.as_slice(), field.number)?;
     }
+    if !when.at_overflow.is_empty() {
+        let saving = marks.saving(field.number)?;
+        saving.reset(editor, when.at_overflow.as_slice())?;
+    }
+    let remark = "PAGE is set back to 0 by calculations, before it is printed under %";
+    let remark = Sentence::about(remark, spelled(&field.card));
+    editor.rewrite(field, field.card.with(23, 31, &[]), remark);
+    Ok(())
 }
 
 /// Returns the conditions of a field, trimmed of blanks.

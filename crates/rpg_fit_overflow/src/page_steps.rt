@@ -3,13 +3,14 @@
 use crate::overflow::Part;
 use rpg_fit_deck::{Editor, View, Word};
 use rpg_fit_words::{
-    Conjunction, Done, FreeIndicators, FreshNames, Indicator, List, NewCard, Outcome, Place,
-    calculation, insert_at, push_conditioned,
+    Conjunction, Done, FreeIndicators, FreshNames, List, NewCard, Outcome, Place, calculation,
+    insert_at, push_conditioned,
 };
 
 /// The indicators and names of these calculations.
 #[derive(Clone, Copy)]
-pub(crate) struct Marks {
+pub(crate) struct Marks<'a> {
+    view: &'a View,
     indicators: FreeIndicators,
     names: FreshNames,
 }
@@ -18,13 +19,17 @@ pub(crate) struct Marks {
 pub(crate) fn reset(editor: &mut Editor, part: Part, when: &[Conjunction], card: usize) -> Done {
     let reset = calculation(b"||Z-ADD|0|PAGE", &[], card);
     let mut cards = List::new(editor.alloc());
-    push_conditioned(&mut cards, part.level(), when, reset)?;
+    push_conditioned(
+        &mut cards,
+        when,
+        reset.with(7, 8, part.level().word().text()),
+    )?;
     insert_at(editor, part.end(), cards.checked()?, card)
 }
 
 /// How PAGE is reset before overflow output.
 #[derive(Clone, Copy)]
-struct Saving {
+pub(crate) struct Saving {
     /// On if it is reset.
     flag: Word,
     /// On if it is still 0 after overflow output.
@@ -35,48 +40,40 @@ struct Saving {
     card: usize,
 }
 
-impl Marks {
-    /// None has been taken yet.
-    pub fn new() -> Marks {
+impl<'a> Marks<'a> {
+    /// Starts with all that no card has.
+    pub fn of(view: &'a View) -> Marks<'a> {
         Marks {
+            view,
             indicators: FreeIndicators::new(),
             names: FreshNames::of(b"PG#", 6),
         }
     }
 
-    fn saving(&mut self, view: &View, card: usize) -> Outcome<Saving> {
-        let flag = self.indicators.take(view, card)?.word();
-        let saved = self.names.take(view, card)?;
-        let at_zero = self.indicators.take(view, card)?.word();
+    /// Returns those that reset PAGE for a card.
+    pub fn saving(&mut self, card: usize) -> Outcome<Saving> {
         Ok(Saving {
-            flag,
-            at_zero,
-            saved,
+            flag: self.indicators.take(self.view, card)?.word(),
+            saved: self.names.take(self.view, card)?,
+            at_zero: self.indicators.take(self.view, card)?.word(),
             card,
         })
     }
 }
 
-/// Resets PAGE before overflow output, if one of the conditions holds, and restores it if nothing has printed it.
-pub(crate) fn reset_at_overflow(
-    editor: &mut Editor,
-    view: &View,
-    marks: &mut Marks,
-    conditions: &[Conjunction],
-    card: usize,
-) -> Done {
-    let saving = marks.saving(view, card)?;
-    saving.put_before(editor, conditions)?;
-    insert_at(editor, Place::DetailFront, &saving.after(), card)
-}
-
 impl Saving {
+    /// Resets PAGE before overflow output, if one of the conditions holds, and restores it if nothing has printed it.
+    pub fn reset(&self, editor: &mut Editor, conditions: &[Conjunction]) -> Done {
+        self.put_before(editor, conditions)?;
+        insert_at(editor, Place::DetailFront, &self.after(), self.card)
+    }
+
     /// Inserts the calculations before overflow output: they turn the flag on if one of the conditions holds, then save PAGE and reset it.
     fn put_before(&self, editor: &mut Editor, conditions: &[Conjunction]) -> Done {
-        let on = self.card(b"||SETON||||%", &[self.flag]);
+        let on = self.total(b"||SETON||||%", &[self.flag]);
         let mut cards = List::new(editor.alloc());
         cards.push(self.total(b"||SETOF||||%", &[self.flag]));
-        push_conditioned(&mut cards, Indicator::ALWAYS, conditions, on)?;
+        push_conditioned(&mut cards, conditions, on)?;
         cards.push(self.total(b" %||Z-ADD|PAGE|%|  40", &[self.flag, self.saved]));
         cards.push(self.total(b" %||Z-ADD|0|PAGE", &[self.flag]));
         insert_at(editor, Place::TotalEnd, cards.checked()?, self.card)

@@ -3,9 +3,9 @@
 use rpg_fit_deck::{Card, Editor, Seen, Sentence, View, Word};
 use rpg_fit_terms::address_after;
 use rpg_fit_words::{
-    Columns, Conjunction, Done, FileTypes, Line, List, NewCard, Operand, Outcome, RecordType,
-    RuleStop, array_of, file_card, files_read, groups, indicator_uses, lines, put_cards,
-    record_length, record_types, remove_cards, with_record_length,
+    Columns, Conjunction, DeckTypes, Done, FileTypes, Line, List, NewCard, Operand, Outcome,
+    RecordType, RuleStop, array_of, file_card, files_read, groups, indicator_uses, lines,
+    operand_on, put_cards, record_length, record_types, remove_cards, with_record_length,
 };
 
 /// The longest record.
@@ -19,10 +19,10 @@ const ANY_RECORD: &str = "a look ahead field is used where no record of % need b
 pub fn look_ahead(editor: &mut Editor) -> Done {
     let count = record_types(&editor.view()?)?.len();
     for _ in 0..count {
-        let view = editor.view()?;
-        let types = record_types(&view)?;
-        if let Some(place) = types.iter().position(|kind| kind.is_looked_ahead()) {
-            rewrite(editor, &view, types.as_slice(), place)?;
+        let deck = DeckTypes::of(editor)?;
+        match deck.types.iter().position(|kind| kind.is_looked_ahead()) {
+            Some(place) => rewrite(editor, &deck, place)?,
+            None => return Ok(()),
         }
     }
     Ok(())
@@ -86,21 +86,21 @@ fn has_field(kind: &RecordType, name: &[u8]) -> bool {
 }
 
 /// Moves the fields of a type that looks ahead into the other types of its file.
-fn rewrite(editor: &mut Editor, view: &View, all: &[RecordType], place: usize) -> Done {
-    let Some(kind) = all.get(place) else {
+fn rewrite(editor: &mut Editor, deck: &DeckTypes, place: usize) -> Done {
+    let Some(kind) = deck.types.get(place) else {
         return Ok(());
     };
-    check_names(view, all, kind)?;
-    check_uses(view, kind)?;
+    check_names(deck, kind)?;
+    check_uses(&deck.view, kind)?;
     check_forms(kind)?;
-    let Some(file) = file_card(view, kind.file.text()) else {
+    let Some(file) = file_card(&deck.view, kind.file.text()) else {
         return Ok(());
     };
     let Some(ahead) = Ahead::of(kind.fields.as_slice(), &file.card) else {
         return Ok(());
     };
-    put_fields(editor, view, all, kind, ahead)?;
-    name_next(editor, all, place);
+    put_fields(editor, deck, kind, ahead)?;
+    name_next(editor, deck.types.as_slice(), place);
     let card = with_record_length(&file.card, ahead.new_length());
     editor.change(file.at, card, kind.head.number);
     take_out(editor, kind, ahead);
@@ -108,12 +108,12 @@ fn rewrite(editor: &mut Editor, view: &View, all: &[RecordType], place: usize) -
 }
 
 /// Rejects arrays, and fields that other types have too.
-fn check_names(view: &View, all: &[RecordType], kind: &RecordType) -> Done {
+fn check_names(deck: &DeckTypes, kind: &RecordType) -> Done {
     let mut fields = kind.fields.iter();
-    if fields.any(|field| array_of(view, base_of(field)).is_some()) {
+    if fields.any(|field| array_of(&deck.view, base_of(field)).is_some()) {
         return Err(RuleStop::because(kind.head.number, "an array that is looked ahead"));
     }
-    for other in all {
+    for other in deck.types.iter() {
         if other.head.at != kind.head.at {
             check_other(other, kind)?;
         }
@@ -207,7 +207,7 @@ fn is_for_record(line: &Line, types: &FileTypes) -> bool {
 fn check_line(line: &Line, kind: &RecordType, types: &FileTypes) -> Done {
     let is_for_record = is_for_record(line, types);
     for field in line.fields.iter() {
-        let name = Operand::of(field.card.value(32, 37)).name;
+        let name = operand_on(field).name;
         let needs = is_for_record || types.type_in(&Conjunction::at(&field.card, 23)).is_some();
         if !needs && !name.is_empty() && has_field(kind, name) {
             return Err(RuleStop::about(field.number, ANY_RECORD, kind.file));
@@ -217,21 +217,15 @@ fn check_line(line: &Line, kind: &RecordType, types: &FileTypes) -> Done {
 }
 
 /// Inserts the fields into each type of the file.
-fn put_fields(
-    editor: &mut Editor,
-    view: &View,
-    all: &[RecordType],
-    kind: &RecordType,
-    ahead: Ahead,
-) -> Done {
-    let mut fields = List::new(view.alloc);
+fn put_fields(editor: &mut Editor, deck: &DeckTypes, kind: &RecordType, ahead: Ahead) -> Done {
+    let mut fields = List::new(editor.alloc());
     for field in kind.fields.iter() {
         fields.push(ahead.field(field));
     }
     let fields = fields.checked()?;
-    for other in all {
+    for other in deck.types.iter() {
         if other.is_of(kind.file.text()) {
-            let following = address_after(view, other.last().at);
+            let following = address_after(&deck.view, other.last().at);
             put_cards(editor, following, fields, kind.head.number)?;
         }
     }
@@ -256,7 +250,7 @@ fn take_out(editor: &mut Editor, kind: &RecordType, ahead: Ahead) {
     let text =
         "look ahead: rpg2 records --ahead %-% puts columns of the next record after each of %";
     let (first, last) = (Word::of_number(ahead.first), Word::of_number(ahead.last));
-    editor.report(number, Sentence::of_three(text, first, last, kind.file));
+    editor.report(number, Sentence::with(text, &[first, last, kind.file]));
     editor.remove(kind.head.at, number);
     remove_cards(editor, kind.more.as_slice(), number);
     remove_cards(editor, kind.fields.as_slice(), number);

@@ -1,18 +1,14 @@
 //! Data structures that several input fields fill: the whole is made of them at the start of detail.
 
-use crate::structure::{Span, Structure, Subfield, reads};
+use crate::structure::{Structure, Subfield, reads};
 use rpg_fit_deck::{Editor, Sentence, Word};
 use rpg_fit_words::{
-    Done, FreshNames, List, NewCard, Outcome, Place, RuleStop, array_of, calculation, insert_at,
-    is_structure,
+    Cards, Done, FreshNames, List, NewCard, Outcome, Place, RuleStop, array_of, calculation,
+    insert_at, is_structure,
 };
 
 /// Replaces a structure by calculations that make its whole of the pieces that are read.
-pub(crate) fn put_together(
-    editor: &mut Editor,
-    structure: &Structure,
-    pieces: &[Subfield],
-) -> Done {
+pub(crate) fn assemble(editor: &mut Editor, structure: &Structure, pieces: &[Subfield]) -> Done {
     let number = structure.number();
     let Some(whole) = whole_of(structure) else {
         let why = "a data structure with more names than its fields and one of the whole";
@@ -20,61 +16,41 @@ pub(crate) fn put_together(
     };
     structure.check_unchanged(number, whole.name)?;
     for piece in pieces {
-        check_piece(structure, &whole, pieces, piece)?;
+        check(structure, &whole, pieces, piece)?;
     }
     let cards = moves_of(structure, &whole, pieces)?;
     structure.remove(editor);
     insert_at(editor, Place::DetailFront, cards.checked()?, number)?;
     let text = "a data structure: % is put together from % fields at the front of detail";
-    let sentence = Sentence::of_two(text, whole.name, Word::of_number(pieces.len()));
+    let sentence = Sentence::with(text, &[whole.name, Word::of_number(pieces.len())]);
     editor.report(number, sentence);
     Ok(())
 }
 
-/// The whole of a structure: its own name, or its only subfield that isn't read.
-#[derive(Clone, Copy)]
-struct Whole {
-    name: Word,
-    span: Span,
-}
-
-impl Whole {
-    /// Returns a field with its columns up to one of the structure.
-    fn part(&self, name: Word, last: usize, card: usize) -> Part {
-        Part {
-            name,
-            length: last.saturating_add(1).saturating_sub(self.span.first),
-            card,
-        }
-    }
-}
-
-/// Returns the whole of a structure, or None if there is none, or another name that isn't read.
-fn whole_of(structure: &Structure) -> Option<Whole> {
-    let (name, span) = (structure.name, structure.span());
-    let mut whole = (name.len() > 0).then_some(Whole { name, span });
+/// Returns the whole of a structure: by its own name, or its only subfield that isn't read; None if there is none, or another name that
+/// isn't read.
+fn whole_of(structure: &Structure) -> Option<Subfield> {
+    let mut whole = (structure.name.len() > 0).then_some(structure.whole());
     for subfield in structure.subfields.as_slice() {
         if !structure.is_read(subfield.name.text()) {
             if whole.is_some() {
                 return None;
             }
-            let (name, span) = (subfield.name, subfield.span);
-            whole = Some(Whole { name, span });
+            whole = Some(*subfield);
         }
     }
     whole
 }
 
 /// Rejects a piece that is changed, that shares columns with another one, or that isn't always there.
-fn check_piece(structure: &Structure, whole: &Whole, all: &[Subfield], piece: &Subfield) -> Done {
+fn check(structure: &Structure, whole: &Subfield, all: &[Subfield], piece: &Subfield) -> Done {
     let (card, name) = (piece.seen.number, piece.name);
     structure.check_unchanged(structure.number(), name)?;
     if array_of(&structure.view, name.text()).is_some()
         || !whole.span.has(piece.span)
         || is_overlaid(all, piece)
     {
-        let why = Sentence::of_two("% isn't a piece of % of its own", name, whole.name);
-        return Err(RuleStop::refused(card, why));
+        return Err(RuleStop::with(card, "% isn't a piece of % of its own", &[name, whole.name]));
     }
     if piece.decimals() != b' ' && !is_always_read(structure, name) {
         let why = "the number % isn't read by every type";
@@ -114,7 +90,7 @@ fn next_piece(pieces: &[Subfield], column: usize) -> Option<&Subfield> {
 }
 
 /// Returns the calculations that make the whole: each piece is moved to the end of what is there so far.
-fn moves_of(structure: &Structure, whole: &Whole, pieces: &[Subfield]) -> Outcome<List<NewCard>> {
+fn moves_of(structure: &Structure, whole: &Subfield, pieces: &[Subfield]) -> Outcome<Cards> {
     let number = structure.number();
     let mut names = FreshNames::of(b"DS#", 6);
     let mut cards = List::new(structure.view.alloc);
@@ -129,12 +105,17 @@ fn moves_of(structure: &Structure, whole: &Whole, pieces: &[Subfield]) -> Outcom
             } else {
                 names.take(&structure.view, number)?
             };
-            push_piece(&mut cards, made, piece.name, whole.part(into, last, number));
+            push_piece(
+                &mut cards,
+                made,
+                piece.name,
+                Part::of(whole, into, last, number),
+            );
             made = Some(into);
         }
     }
     if let (Some(made), true) = (made, last < whole.span.last) {
-        let part = whole.part(whole.name, whole.span.last, number);
+        let part = Part::of(whole, whole.name, whole.span.last, number);
         cards.push(part.calculation(b"||MOVEL|%|%", made));
     }
     Ok(cards)
@@ -150,6 +131,12 @@ struct Part {
 }
 
 impl Part {
+    /// Returns a field with the columns of a whole up to one of the structure.
+    fn of(whole: &Subfield, name: Word, last: usize, card: usize) -> Part {
+        let length = last.saturating_add(1).saturating_sub(whole.span.first);
+        Part { name, length, card }
+    }
+
     /// Returns a calculation that fills it, and gives it its length.
     fn calculation(&self, template: &[u8], from: Word) -> NewCard {
         calculation(template, &[from, self.name], self.card).with_number(49, 51, self.length)
@@ -157,7 +144,7 @@ impl Part {
 }
 
 /// Appends the calculations that move a piece to the end of a part, after what is there so far.
-fn push_piece(cards: &mut List<NewCard>, made: Option<Word>, piece: Word, part: Part) {
+fn push_piece(cards: &mut Cards, made: Option<Word>, piece: Word, part: Part) {
     let moved = part.calculation(b"||MOVE|%|%", piece);
     match made {
         Some(made) => {

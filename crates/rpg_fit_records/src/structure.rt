@@ -1,8 +1,8 @@
 //! Data structures over input fields.
 
-use crate::put_together::put_together;
-use crate::taken_apart::TakenApart;
-use rpg_fit_deck::{Editor, Seen, Sentence, View, Word};
+use crate::put_together::assemble;
+use crate::taken_apart::take_apart;
+use rpg_fit_deck::{Editor, Seen, View, Word};
 use rpg_fit_terms::is_name_on;
 use rpg_fit_words::{
     Done, Line, List, Operand, Outcome, RecordType, RuleStop, is_card, is_structure, lines,
@@ -11,8 +11,7 @@ use rpg_fit_words::{
 
 /// Replaces each data structure: its subfields are read from the columns of the field that fills it.
 pub fn structures(editor: &mut Editor) -> Done {
-    let view = editor.view()?;
-    let types = record_types(&view)?;
+    let types = record_types(&editor.view()?)?;
     for kind in types.iter() {
         if is_structure(&kind.head.card) {
             replace(editor, kind)?;
@@ -101,11 +100,13 @@ impl Structure<'_> {
         self.kind.head.number
     }
 
-    /// Returns its columns.
-    pub fn span(&self) -> Span {
-        Span {
-            first: 1,
-            last: self.end,
+    /// Returns its whole, by its own name.
+    pub fn whole(&self) -> Subfield {
+        let (first, last) = (1, self.end);
+        Subfield {
+            seen: self.kind.head,
+            name: self.name,
+            span: Span { first, last },
         }
     }
 
@@ -122,9 +123,8 @@ impl Structure<'_> {
 
     /// Whether a record type reads a field.
     pub fn is_read(&self, name: &[u8]) -> bool {
-        self.types
-            .iter()
-            .any(|kind| !is_structure(&kind.head.card) && reads(kind, name))
+        let mut types = self.types.iter();
+        types.any(|kind| !is_structure(&kind.head.card) && reads(kind, name))
     }
 
     /// Rejects a field that is changed.
@@ -249,31 +249,17 @@ fn replace_filled(editor: &mut Editor, structure: &Structure) -> Done {
     let read = read.checked()?;
     if structure.name.len() > 0 && structure.is_read(structure.name.text()) {
         if let Some(other) = read.first() {
-            let why = Sentence::of_two("% and % are both read", structure.name, other.name);
-            return Err(RuleStop::refused(structure.number(), why));
+            let names = [structure.name, other.name];
+            return Err(RuleStop::with(structure.number(), "% and % are both read", &names));
         }
-        let apart = TakenApart {
-            structure,
-            parent: structure.name,
-            span: structure.span(),
-            decimals: b' ',
-        };
-        return apart.replace(editor);
+        return take_apart(editor, structure, structure.whole());
     }
     match read {
         [] => {
             let why = "a data structure that no record fills";
             Err(RuleStop::because(structure.number(), why))
         }
-        [parent] if !structure.is_name_used() => {
-            let apart = TakenApart {
-                structure,
-                parent: parent.name,
-                span: parent.span,
-                decimals: parent.decimals(),
-            };
-            apart.replace(editor)
-        }
-        pieces => put_together(editor, structure, pieces),
+        [parent] if !structure.is_name_used() => take_apart(editor, structure, *parent),
+        pieces => assemble(editor, structure, pieces),
     }
 }

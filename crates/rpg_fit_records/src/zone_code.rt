@@ -4,8 +4,8 @@ use crate::zone::{same_digit, same_zone};
 use rpg_fit_deck::{Editor, MOST_CARDS, Seen, Sentence, View, Word};
 use rpg_fit_terms::address_after;
 use rpg_fit_words::{
-    Constant, Done, Indicator, List, NewCard, Outcome, RecordType, RuleStop, is_or, put_cards,
-    record_types, remove_cards,
+    Cards, Constant, DeckTypes, Done, Indicator, List, NewCard, Outcome, RecordType, RuleStop,
+    is_or, put_cards, remove_cards,
 };
 use std::alloc::Global;
 
@@ -17,12 +17,11 @@ const MOST: usize = 100;
 
 /// Replaces codes by zone or digit: an alternative for each character that has it, and conditions on all of them for a code with N.
 pub fn zone_codes(editor: &mut Editor) -> Done {
-    let view = editor.view()?;
-    let types = record_types(&view)?;
-    for kind in types.iter() {
-        let cards = kind.code_cards(view.alloc);
+    let deck = DeckTypes::of(editor)?;
+    for kind in deck.types.iter() {
+        let cards = kind.code_cards(editor.alloc());
         if has_zone_code(cards.checked()?) {
-            rewrite_type(editor, &view, kind, cards.as_slice())?;
+            rewrite_type(editor, &deck.view, kind, cards.as_slice())?;
         }
     }
     Ok(())
@@ -30,14 +29,10 @@ pub fn zone_codes(editor: &mut Editor) -> Done {
 
 /// Whether one of some cards has a code by zone or digit.
 fn has_zone_code(cards: &[Seen]) -> bool {
-    for seen in cards {
-        for column in CODES {
-            if matches!(seen.card.column(column.saturating_add(5)), b'Z' | b'D') {
-                return true;
-            }
-        }
-    }
-    false
+    cards.iter().any(|seen| {
+        let mut columns = CODES.into_iter();
+        columns.any(|column| matches!(seen.card.column(column.saturating_add(5)), b'Z' | b'D'))
+    })
 }
 
 /// A code of a record type, with the characters that it stands for.
@@ -108,14 +103,18 @@ fn count_of(codes: &[Code]) -> usize {
     count
 }
 
-/// The cards that replace those of a type's codes.
+/// The cards that replace those of a type's codes, and its alternatives so far.
 #[derive(Drop)]
 struct Punch {
-    cards: List<NewCard>,
+    cards: Cards,
     /// The last card.
     last: NewCard,
     /// How many codes the last card has.
     held: usize,
+    /// How many alternatives there are.
+    count: usize,
+    /// The indicator of the last alternative.
+    indicator: Indicator,
 }
 
 impl Punch {
@@ -127,6 +126,8 @@ impl Punch {
                 number: head.number,
             },
             held: 0,
+            count: 0,
+            indicator: Indicator::at(&head.card, 19),
         }
     }
 
@@ -173,6 +174,27 @@ impl Punch {
             self.push(code, *character);
         }
     }
+
+    /// Appends the alternatives of codes. `head`: the number of the type's card.
+    fn push_alternatives(&mut self, first: &Seen, codes: &[Code], head: usize) -> Done {
+        let count = count_of(codes);
+        if count > MOST {
+            return Err(RuleStop::about(head, "% alternatives", Word::of_number(count)));
+        }
+        let own = Indicator::at(&first.card, 19);
+        self.indicator = if own.is_blank() { self.indicator } else { own };
+        for number in 0..count {
+            if self.count > 0 {
+                self.begin(or_card(first, self.indicator));
+            }
+            self.push_codes(codes, number);
+            self.count = self.count.saturating_add(1);
+            if self.cards.as_slice().len() > 2 * MOST_CARDS {
+                return Err(RuleStop::TooMany);
+            }
+        }
+        Ok(())
+    }
 }
 
 /// Returns the card that begins another alternative.
@@ -184,64 +206,28 @@ fn or_card(first: &Seen, indicator: Indicator) -> NewCard {
         .with(21, 41, &[])
 }
 
-/// A type's alternatives so far.
-#[derive(Drop)]
-struct Rewriting {
-    punch: Punch,
-    count: usize,
-    /// The indicator of the last alternative.
-    indicator: Indicator,
-}
-
-impl Rewriting {
-    /// Appends the alternatives of codes. `head`: the number of the type's card.
-    fn push(&mut self, first: &Seen, codes: &[Code], head: usize) -> Done {
-        let count = count_of(codes);
-        if count > MOST {
-            return Err(RuleStop::about(head, "% alternatives", Word::of_number(count)));
-        }
-        let own = Indicator::at(&first.card, 19);
-        self.indicator = if own.is_blank() { self.indicator } else { own };
-        for number in 0..count {
-            if self.count > 0 {
-                self.punch.begin(or_card(first, self.indicator));
-            }
-            self.punch.push_codes(codes, number);
-            self.count = self.count.saturating_add(1);
-            if self.punch.cards.as_slice().len() > 2 * MOST_CARDS {
-                return Err(RuleStop::TooMany);
-            }
-        }
-        Ok(())
-    }
-}
-
 /// Replaces the codes of a type.
 fn rewrite_type(editor: &mut Editor, view: &View, kind: &RecordType, cards: &[Seen]) -> Done {
     let head = &kind.head;
-    let mut rewriting = Rewriting {
-        punch: Punch::new(view.alloc, head),
-        count: 0,
-        indicator: Indicator::at(&head.card, 19),
-    };
+    let mut punch = Punch::new(view.alloc, head);
     for alternative in cards.chunk_by(|_, next| !is_or(next)) {
         let codes = codes_of(view.alloc, alternative)?;
         let first = alternative.first().unwrap_or(head);
-        rewriting.push(first, codes.checked()?, head.number)?;
+        punch.push_alternatives(first, codes.checked()?, head.number)?;
     }
-    put_codes(editor, view, kind, &rewriting)
+    put_codes(editor, view, kind, &punch)
 }
 
 /// Replaces the cards of a type's codes.
-fn put_codes(editor: &mut Editor, view: &View, kind: &RecordType, rewriting: &Rewriting) -> Done {
+fn put_codes(editor: &mut Editor, view: &View, kind: &RecordType, punch: &Punch) -> Done {
     let head = &kind.head;
     let (one, several) = (
         "codes by zone or digit: % alternative of characters",
         "codes by zone or digit: % alternatives of characters",
     );
-    let sentence = Sentence::counted(one, several, rewriting.count);
+    let sentence = Sentence::counted(one, several, punch.count);
     editor.report(head.number, sentence);
-    let Punch { cards, last, .. } = &rewriting.punch;
+    let Punch { cards, last, .. } = punch;
     let following = address_after(view, head.at);
     match cards.checked()? {
         [first, more @ ..] => {

@@ -33,20 +33,16 @@ impl NewCard {
     }
 
     /// Returns this card with a text in columns.
-    pub fn with(self, first: usize, last: usize, text: &[u8]) -> NewCard {
-        NewCard {
-            card: self.card.with(first, last, text),
-            number: self.number,
-        }
+    pub fn with(mut self, first: usize, last: usize, text: &[u8]) -> NewCard {
+        self.card.put(first, last, text);
+        self
     }
 
     /// Returns this card with a number at the end of columns.
-    pub fn with_number(self, first: usize, last: usize, number: usize) -> NewCard {
+    pub fn with_number(mut self, first: usize, last: usize, number: usize) -> NewCard {
         let digits = Word::of_number(number);
-        NewCard {
-            card: self.card.with_right(first, last, digits.text()),
-            number: self.number,
-        }
+        self.card = self.card.with_right(first, last, digits.text());
+        self
     }
 }
 

@@ -93,16 +93,6 @@ impl Conjunction {
         self.terms.get(..self.length).unwrap_or(&[])
     }
 
-    /// Returns how many terms it has.
-    pub fn len(&self) -> usize {
-        self.length
-    }
-
-    /// Whether it has no terms, and so always holds.
-    pub fn is_empty(&self) -> bool {
-        self.length == 0
-    }
-
     /// Rejects more than 60 terms, for a card.
     pub fn check(&self, card: usize) -> Done {
         if self.is_too_long {
@@ -177,11 +167,6 @@ impl Conjunction {
     /// Whether it never holds together with another one: an indicator would have to be on and off.
     pub fn clashes_with(&self, other: &Conjunction) -> bool {
         self.is_against(self) || other.is_against(other) || self.is_against(other)
-    }
-
-    /// Whether it has the same terms in the same order as another one.
-    pub fn is_same(&self, other: &Conjunction) -> bool {
-        self.terms() == other.terms()
     }
 
     /// Whether it holds at the first output, when only L0 and 1P are on.

@@ -13,12 +13,8 @@ pub struct Form {
 }
 
 impl Form {
-    /// Returns the form of a number with this many digits and no decimals.
-    fn of_digits(length: usize) -> Form {
-        Form {
-            length,
-            decimals: b'0',
-        }
+    fn of(length: usize, decimals: u8) -> Form {
+        Form { length, decimals }
     }
 
     /// Whether it is a number.
@@ -53,11 +49,17 @@ fn table_at(card: &Card, name: &[u8], first: usize, length: usize) -> Option<Arr
     Some(Array {
         name: Word::of(name),
         entries: card.number(36, 39)?,
-        form: Form {
-            length: card.number(length, length.saturating_add(2))?,
-            decimals: card.column(length.saturating_add(4)),
-        },
+        form: Form::of(
+            card.number(length, length.saturating_add(2))?,
+            card.column(length.saturating_add(4)),
+        ),
     })
+}
+
+/// Whether a card defines a table or an array with this name.
+pub fn is_table(seen: &Seen, name: &[u8]) -> bool {
+    let card = &seen.card;
+    is_card(seen, b'E') && (card.value(27, 32) == name || card.value(46, 51) == name)
 }
 
 /// Returns the table or array with this name, the last one in the deck.
@@ -88,10 +90,8 @@ fn input_form(seen: &Seen, name: &[u8]) -> Option<Form> {
     }
     let last = card.number(48, 51)?;
     let first = card.number(44, 47)?;
-    Some(Form {
-        length: last.saturating_add(1).saturating_sub(first),
-        decimals: card.column(52),
-    })
+    let length = last.saturating_add(1).saturating_sub(first);
+    Some(Form::of(length, card.column(52)))
 }
 
 /// Returns the form that a calculation gives its result.
@@ -99,10 +99,7 @@ fn result_form(seen: &Seen, name: &[u8]) -> Option<Form> {
     if !is_card(seen, b'C') || seen.card.value(43, 48) != name {
         return None;
     }
-    Some(Form {
-        length: seen.card.number(49, 51)?,
-        decimals: seen.card.column(52),
-    })
+    Some(Form::of(seen.card.number(49, 51)?, seen.card.column(52)))
 }
 
 /// Returns the form of a field: its first one as an input field, or else as a result.
@@ -117,25 +114,15 @@ fn field_form(view: &View, name: &[u8]) -> Option<Form> {
     found
 }
 
-/// Returns the length of UDATE and PAGE, whatever the cards say.
-fn fixed_length(name: &[u8]) -> Option<usize> {
-    match name {
-        b"UDATE" => Some(6),
-        b"PAGE" => Some(4),
-        _ => None,
-    }
-}
-
-/// Returns the form of a name, without its index, or None if nothing defines it.
+/// Returns the form of a name, without its index, or None if nothing defines it. UDATE and PAGE have theirs whatever the cards say.
 pub fn form_of(view: &View, name: &[u8]) -> Option<Form> {
     if let Some(table) = table_of(view, name) {
         return Some(table.form);
     }
-    if let Some(length) = fixed_length(name) {
-        return Some(Form::of_digits(length));
-    }
-    match field_form(view, name) {
-        None if is_date_part(name) => Some(Form::of_digits(2)),
-        form => form,
+    match name {
+        b"UDATE" => Some(Form::of(6, b'0')),
+        b"PAGE" => Some(Form::of(4, b'0')),
+        _ if is_date_part(name) => field_form(view, name).or(Some(Form::of(2, b'0'))),
+        _ => field_form(view, name),
     }
 }

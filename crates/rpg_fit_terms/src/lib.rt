@@ -15,7 +15,7 @@ mod stop;
 
 pub use cards::{NewCard, address_after, is_card, put_cards};
 pub use condition::{Conjunction, Term};
-pub use form::{Array, Form, array_of, form_of};
+pub use form::{Array, Form, array_of, form_of, is_table};
 pub use free_indicator::{FreeIndicators, free_halt};
 pub use fresh::{FreshNames, fresh_name, unused_prefix};
 pub use indicator::Indicator;

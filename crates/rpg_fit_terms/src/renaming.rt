@@ -1,6 +1,6 @@
 //! Renames fields and arrays of a deck.
 
-use crate::cards::is_card;
+use crate::form::is_table;
 use crate::fresh::FreshNames;
 use crate::name::{Columns, name_columns};
 use crate::operand::Operand;
@@ -56,9 +56,7 @@ pub fn rename(editor: &mut Editor, view: &View, old: &[u8], new: &[u8], with: us
 /// Returns the number of the card that defines an array, or 0.
 fn card_of(view: &View, name: &[u8]) -> usize {
     for seen in view.cards.iter() {
-        if is_card(seen, b'E')
-            && (seen.card.value(27, 32) == name || seen.card.value(46, 51) == name)
-        {
+        if is_table(seen, name) {
             return seen.number;
         }
     }
@@ -116,7 +114,7 @@ impl ShortNames {
         let card = card_of(&view, name);
         let new = self.shorter(&view, name, room, card)?;
         let remark = "% is called %, so that an index has room";
-        editor.report(card, Sentence::of_two(remark, old, new));
+        editor.report(card, Sentence::with(remark, &[old, new]));
         rename(editor, &view, name, new.text(), card);
         Ok(new)
     }

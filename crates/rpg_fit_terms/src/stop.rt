@@ -43,6 +43,11 @@ impl RuleStop {
     pub fn about(card: usize, why: &'static str, word: Word) -> RuleStop {
         RuleStop::refused(card, Sentence::about(why, word))
     }
+
+    /// Rejects the deck for a card, with a sentence about several words.
+    pub fn with(card: usize, why: &'static str, words: &[Word]) -> RuleStop {
+        RuleStop::refused(card, Sentence::with(why, words))
+    }
 }
 
 impl From<AllocError> for RuleStop {

@@ -23,7 +23,8 @@ impl Constant {
     pub fn of(quoted: &[u8]) -> Constant {
         let mut constant = Constant::empty();
         let mut is_second = false;
-        for character in between_quotes(quoted) {
+        let last = quoted.len().saturating_sub(1);
+        for character in quoted.get(1..last).unwrap_or(&[]) {
             if *character == b'\'' && is_second {
                 is_second = false;
             } else {
@@ -54,9 +55,4 @@ impl Constant {
     pub fn text(&self) -> &[u8] {
         self.characters.get(..self.length).unwrap_or(&[])
     }
-}
-
-/// Returns a text without its first and last character.
-fn between_quotes(text: &[u8]) -> &[u8] {
-    text.get(1..text.len().saturating_sub(1)).unwrap_or(&[])
 }

@@ -12,16 +12,13 @@ pub fn file_name(file: &Seen) -> &[u8] {
     file.card.value(7, 14)
 }
 
-/// Whether an F card describes a primary or secondary file.
-fn is_read(card: &Card) -> bool {
-    matches!(card.column(15), b'I' | b'C' | b'U') && matches!(card.column(16), b'P' | b'S')
-}
-
 /// Returns the cards of the primary and secondary files.
 pub fn files_read(view: &View) -> List<Seen> {
     let mut found = List::new(view.alloc);
     for seen in &view.cards {
-        if is_card(seen, b'F') && is_read(&seen.card) {
+        let is_read = matches!(seen.card.column(15), b'I' | b'C' | b'U')
+            && matches!(seen.card.column(16), b'P' | b'S');
+        if is_read && is_card(seen, b'F') {
             found.push(*seen);
         }
     }
@@ -71,12 +68,6 @@ impl FileTypes {
             all,
             indicators,
         })
-    }
-
-    /// Returns how many types the file has.
-    pub fn count(&self) -> usize {
-        let all = self.all.iter();
-        all.filter(|kind| kind.is_of(self.file.text())).count()
     }
 
     /// Whether an indicator is one of its types'.

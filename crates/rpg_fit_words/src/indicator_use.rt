@@ -90,25 +90,19 @@ pub fn indicator_uses(view: &View) -> List<IndicatorUse> {
     found
 }
 
-/// Whether an indicator is turned on or off by an input field, or outside detail calculations.
-fn is_set_elsewhere(view: &View, one: &IndicatorUse) -> bool {
-    match one.kind {
-        UseKind::Field => true,
-        UseKind::Result => !is_in_detail(view, one.at),
-        UseKind::Type | UseKind::Asked => false,
-    }
-}
-
 /// Rejects the deck, for a card, if an indicator that a rule tests at the start of detail may have been turned on or off by anything
 /// but its record types: by an input field, or outside detail calculations. Detail calculations change it only for the next record,
 /// which turns it off.
 pub fn check_only_type(view: &View, indicator: Indicator, card: usize) -> Done {
     let uses = indicator_uses(view);
     for one in uses.checked()? {
-        if one.indicator == indicator && is_set_elsewhere(view, one) {
+        let is_set = one.indicator == indicator
+            && (matches!(one.kind, UseKind::Field)
+                || matches!(one.kind, UseKind::Result) && !is_in_detail(view, one.at));
+        if is_set {
             let why = "indicator % of its type is turned on or off by card % too";
             let other = Word::of_number(one.number);
-            return Err(RuleStop::refused(card, Sentence::of_two(why, indicator.word(), other)));
+            return Err(RuleStop::with(card, why, &[indicator.word(), other]));
         }
     }
     Ok(())

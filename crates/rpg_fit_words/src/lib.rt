@@ -6,7 +6,6 @@ mod apart;
 mod columns;
 mod constant;
 mod file;
-mod first_output;
 mod flagged;
 mod group;
 mod indicator_use;
@@ -21,23 +20,20 @@ pub use apart::Apart;
 pub use columns::Columns;
 pub use constant::Constant;
 pub use file::{FileTypes, file_card, file_name, files_read, record_length, with_record_length};
-pub use first_output::{
-    has_overflow, is_field_put_first, is_overflow, is_put_first, is_total_skipped_late,
-    reaches_overflow,
-};
-pub use flagged::{Flagged, push_conditioned, under_flag};
-pub use group::{Group, Section, groups, groups_now};
+pub use flagged::push_conditioned;
+pub use group::{Group, Section, groups};
 pub use indicator_use::{IndicatorUse, UseKind, check_only_type, indicator_uses};
 pub use line::{
-    Alternative, DeckLines, Line, Time, lines, name_files, push_conditions, remove_cards,
+    Alternative, DeckLines, Line, Time, lines, name_files, operand_on, push_conditions,
+    push_copies, remove_cards,
 };
-pub use list::List;
+pub use list::{Cards, Conditions, List};
 pub use place::{Place, before_output, insert_at};
-pub use printer::{Printer, overflow_of, printer_of};
-pub use record_type::{RecordType, is_or, is_structure, name_types, record_types};
+pub use printer::{Printer, printer_card};
+pub use record_type::{DeckTypes, RecordType, is_or, is_structure, name_types, record_types};
 pub use rpg_fit_terms::{
     Array, Conjunction, Done, Form, FreeIndicators, FreshNames, Indicator, NewCard, Operand,
     Outcome, RuleStop, ShortNames, Term, array_of, entry, form_of, fresh_name, is_card,
-    is_date_part, is_name_used, put_cards, unused_prefix,
+    is_date_part, is_name_used, is_table, put_cards, unused_prefix,
 };
 pub use template::calculation;

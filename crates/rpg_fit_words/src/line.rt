@@ -1,6 +1,6 @@
 //! Output lines.
 
-use crate::list::List;
+use crate::list::Cards;
 use crate::record_type::is_or;
 use rpg_fit_deck::{Editor, Seen, View, Word};
 use rpg_fit_terms::{Conjunction, Done, NewCard, Operand, Outcome, is_card};
@@ -67,6 +67,11 @@ fn continues(seen: &Seen) -> bool {
     seen.card.is_blank(7, 13) && (matches!(seen.card.columns(14, 16), b"AND") || is_or(seen))
 }
 
+/// Returns what an output field prints: a name, and its index.
+pub fn operand_on(field: &Seen) -> Operand<'_> {
+    Operand::of(field.card.value(32, 37))
+}
+
 fn alternative_at(seen: &Seen) -> Alternative {
     Alternative {
         card: *seen,
@@ -108,11 +113,21 @@ impl Line {
         remove_cards(editor, self.fields.as_slice(), with);
     }
 
+    /// Whether it is printed at the first output.
+    pub fn is_put_first(&self) -> bool {
+        let mut alternatives = self.alternatives.iter();
+        self.time.is_detail() && alternatives.any(|one| one.condition.holds_first())
+    }
+
+    /// Whether one of its fields is printed at the first output.
+    pub fn is_field_put_first(&self, field: &Seen) -> bool {
+        self.is_put_first() && Conjunction::at(&field.card, 23).holds_first()
+    }
+
     /// Whether it blanks a field, or an entry of an array, after printing it.
     pub fn blanks(&self, name: &[u8]) -> bool {
-        self.fields.iter().any(|field| {
-            field.card.column(39) == b'B' && Operand::of(field.card.value(32, 37)).name == name
-        })
+        let mut fields = self.fields.iter();
+        fields.any(|field| field.card.column(39) == b'B' && operand_on(field).name == name)
     }
 
     /// Returns a copy of its record card, with its file's name on it.
@@ -121,48 +136,35 @@ impl Line {
     }
 
     /// Appends a copy of this line with another record card and other alternatives, at least one, of at most 60 conditions.
-    pub fn push_copy(
-        &self,
-        cards: &mut List<NewCard>,
-        head: NewCard,
-        alternatives: &[Conjunction],
-    ) -> Done {
-        push_conditions(cards, head, alternatives)?;
+    pub fn push_copy(&self, cards: &mut Cards, head: NewCard, when: &[Conjunction]) -> Done {
+        push_conditions(cards, head, when)?;
         push_copies(cards, self.fields.as_slice());
         Ok(())
     }
 }
 
 /// Appends a record card with alternatives, at least one, of at most 60 conditions.
-pub fn push_conditions(
-    cards: &mut List<NewCard>,
-    head: NewCard,
-    alternatives: &[Conjunction],
-) -> Done {
+pub fn push_conditions(cards: &mut Cards, head: NewCard, alternatives: &[Conjunction]) -> Done {
     let mut first = head;
     for condition in alternatives {
         condition.check(head.number)?;
         cards.push(first.with(23, 31, condition.columns(0).text()));
         push_and_cards(cards, condition, head.number);
-        first = condition_card(b"OR", head.number);
+        first = NewCard::of_form(b'O', head.number).with(14, 16, b"OR");
     }
     Ok(())
 }
 
-/// Returns an AND or OR card without conditions.
-fn condition_card(word: &[u8], number: usize) -> NewCard {
-    NewCard::of_form(b'O', number).with(14, 16, word)
-}
-
 /// Appends the AND cards that an alternative needs after its first card.
-fn push_and_cards(cards: &mut List<NewCard>, condition: &Conjunction, number: usize) {
+fn push_and_cards(cards: &mut Cards, condition: &Conjunction, number: usize) {
     for part in 1..condition.cards() {
-        cards.push(condition_card(b"AND", number).with(23, 31, condition.columns(part).text()));
+        let and = NewCard::of_form(b'O', number).with(14, 16, b"AND");
+        cards.push(and.with(23, 31, condition.columns(part).text()));
     }
 }
 
 /// Appends copies of cards.
-pub(crate) fn push_copies(copies: &mut List<NewCard>, cards: &[Seen]) {
+pub fn push_copies(copies: &mut Cards, cards: &[Seen]) {
     for seen in cards {
         copies.push(NewCard::copy(seen));
     }

@@ -1,7 +1,13 @@
 //! Lists that rules fill.
 
-use rpg_fit_terms::{Done, Outcome, RuleStop};
+use rpg_fit_terms::{Conjunction, Done, NewCard, Outcome, RuleStop};
 use std::alloc::Global;
+
+/// Cards that a rule makes.
+pub type Cards = List<NewCard>;
+
+/// Conditions of which one must hold.
+pub type Conditions = List<Conjunction>;
 
 /// A list of values. If memory runs out for one, it remembers that, so that only `check` and `checked` return an error.
 #[derive(Drop)]

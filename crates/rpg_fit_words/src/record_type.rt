@@ -101,6 +101,22 @@ pub fn record_types(view: &View) -> Outcome<Vec<RecordType>> {
     Ok(found)
 }
 
+/// A deck's cards, and its record types.
+#[derive(Drop)]
+pub struct DeckTypes {
+    pub view: View,
+    pub types: Vec<RecordType>,
+}
+
+impl DeckTypes {
+    /// Returns those of a deck in its present form.
+    pub fn of(editor: &Editor) -> Outcome<DeckTypes> {
+        let view = editor.view()?;
+        let types = record_types(&view)?;
+        Ok(DeckTypes { view, types })
+    }
+}
+
 /// Puts the name of its file on each type's card, as part of the change of the card `with`.
 pub fn name_types(editor: &mut Editor, types: &[RecordType], with: usize) {
     for kind in types {
