@@ -6,19 +6,12 @@ use rpg_cli_answers::{
     report_in_place, tell_made,
 };
 use rpg_cli_files::{
-    FileFault, KeptFile, LineTarget, Opened, Pending, Reason, RecordSource, input_file, kept_file,
-    lines, records,
+    FileFault, KeptFile, Opened, Pending, Reason, input_file, kept_file, lines, records,
 };
 use rpg_cli_words::{FileArgument, PaperArgument, PaperArguments, Request, is_standard};
-use rpg_files::most_tries;
-use rpg_pdf::{PaperFault, PaperForm, Settings, paper};
+use rpg_pdf::{PaperFault, PaperForm, Press, Settings};
 use std::alloc::Global;
-use std::fs::OpenFile;
-use std::io::{self, BufWriter, ErrorKind, Read, Write};
 use std::rt::Files;
-
-/// How many bytes of the PDF are buffered.
-const WRITE_ROOM: usize = 65_536;
 
 /// The number of a page after the most that a print may have.
 const PAGE_TOO_MANY: u32 = 100_000;
@@ -30,12 +23,8 @@ fn settings_of(arguments: PaperArguments) -> Option<Settings> {
         PaperArgument::Letter => PaperForm::Letter,
         PaperArgument::Fanfold => PaperForm::Fanfold,
     };
-    Settings::of(
-        form,
-        u32::from(arguments.length),
-        u32::from(arguments.columns),
-        arguments.has_bars,
-    )
+    let (length, columns) = (arguments.length.into(), arguments.columns.into());
+    Settings::of(form, length, columns, arguments.has_bars)
 }
 
 /// Opens the print.
@@ -61,27 +50,11 @@ fn keep_files<R: Files>(
 }
 
 /// Returns the answer for a fault of the PDF.
-fn output_answer(reason: Option<Reason>) -> Answer {
+fn output_answer(reason: Reason) -> Answer {
     Answer::File {
         argument: FileArgument::Pdf,
-        fault: FileFault::Output(reason.unwrap_or(Reason::Other)),
+        fault: FileFault::Output(reason),
     }
-}
-
-/// Reports why a print isn't put on sheets, and returns the answer.
-fn refuse_print<L: Listener>(
-    alloc: Global,
-    request: &Request,
-    fault: PaperFault,
-    page: u32,
-    listener: &mut L,
-) -> Answer {
-    let file = file_of(request, FileArgument::Printed);
-    tell_made(
-        listener,
-        print_diagnostic(alloc, file, request.paper, fault),
-    );
-    Answer::PageRefused { page }
 }
 
 /// Returns the answer for a print that isn't put on sheets. Reports a fault of its own.
@@ -93,78 +66,25 @@ fn early_answer<L: Listener>(
     written: Option<Reason>,
     listener: &mut L,
 ) -> Answer {
-    match fault {
-        PaperFault::Page { number, .. } => refuse_print(alloc, request, fault, number, listener),
-        PaperFault::Pages => refuse_print(alloc, request, fault, PAGE_TOO_MANY, listener),
-        PaperFault::Size => output_answer(Some(Reason::TooLarge)),
-        PaperFault::Write => output_answer(written),
-        PaperFault::Read => Answer::File {
-            argument: FileArgument::Printed,
-            fault: FileFault::Input(read.unwrap_or(Reason::Other)),
-        },
-        PaperFault::NoMemory => Answer::NoMemory,
-    }
-}
-
-/// A reader that reads again after an interrupt. Its device fails after 1,000 interrupts in a row.
-#[derive(Drop)]
-struct Resumed<'a, S> {
-    reader: &'a mut S,
-}
-
-impl<S: Read> Read for Resumed<'_, S> {
-    fn read(&mut self, buf: &mut [u8]) -> io::Result<usize> {
-        for _ in 1..most_tries() {
-            match self.reader.read(buf) {
-                Err(error) if error.kind() == ErrorKind::Interrupted => {}
-                answer => return answer,
-            }
+    let page = match fault {
+        PaperFault::Page { number, .. } => number,
+        PaperFault::Pages => PAGE_TOO_MANY,
+        PaperFault::NoMemory => return Answer::NoMemory,
+        PaperFault::Size => return output_answer(Reason::TooLarge),
+        PaperFault::Write => return output_answer(written.unwrap_or(Reason::Other)),
+        PaperFault::Read => {
+            return Answer::File {
+                argument: FileArgument::Printed,
+                fault: FileFault::Input(read.unwrap_or(Reason::Other)),
+            };
         }
-        self.reader.read(buf)
-    }
-}
-
-/// Writes the PDF of a print, and flushes it.
-fn write_paper<S: Read, T: Write>(
-    alloc: Global,
-    request: &Request,
-    source: &mut S,
-    target: &mut T,
-) -> Result<u32, PaperFault> {
-    let Some(settings) = settings_of(request.paper) else {
-        return Err(PaperFault::Pages);
     };
-    let pages = paper(alloc, settings, Resumed { reader: source }, target)?;
-    match target.flush() {
-        Ok(()) => Ok(pages),
-        Err(_) => Err(PaperFault::Write),
-    }
-}
-
-/// Like `write_paper`, for the files of the request. Reports what ends it early.
-fn write_file<
-    F: Read + Drop,
-    S: Read + Drop,
-    T: Write + OpenFile + Drop,
-    P: Write + Drop,
-    L: Listener,
->(
-    alloc: Global,
-    request: &Request,
-    mut source: RecordSource<F, S>,
-    target: LineTarget<'_, T, P>,
-    listener: &mut L,
-) -> Result<u32, Answer> {
-    let Ok(mut writer) = BufWriter::with_capacity(alloc, WRITE_ROOM, target) else {
-        return Err(Answer::NoMemory);
-    };
-    match write_paper(alloc, request, &mut source, &mut writer) {
-        Ok(pages) => Ok(pages),
-        Err(fault) => {
-            let (read, written) = (source.fault(), writer.get_ref().fault());
-            Err(early_answer(alloc, request, fault, read, written, listener))
-        }
-    }
+    let file = file_of(request, FileArgument::Printed);
+    tell_made(
+        listener,
+        print_diagnostic(alloc, file, request.paper, fault),
+    );
+    Answer::PageRefused { page }
 }
 
 /// Writes the PDF of an open print, unless that would lose a file.
@@ -182,8 +102,19 @@ fn write_opened<R: Files + Input + Print + AllocGlobal, L: Listener>(
     }
     report_in_place(rt.alloc(), request, FileArgument::Pdf, &output, listener);
     named(FileArgument::Pdf, output.empty())?;
+    let Some(settings) = settings_of(request.paper) else {
+        return Err(Answer::PageRefused { page: 1 }.into());
+    };
     let (from, to) = (records(rt, print), lines(rt, output, None));
-    Ok(write_file(rt.alloc(), request, from, to, listener)?)
+    let mut press = Press::new(rt.alloc(), settings, from, to);
+    match press.print() {
+        Ok(pages) => Ok(pages),
+        Err(fault) => {
+            let (read, written) = (press.reader.device().fault(), press.writer.device().fault());
+            let answer = early_answer(rt.alloc(), request, fault, read, written, listener);
+            Err(answer.into())
+        }
+    }
 }
 
 /// Moves the PDF to its place once it is whole, or removes it.

@@ -1,7 +1,6 @@
 //! The diagnostics for a print that isn't put on sheets.
 
 use rpg_cli_diagnostics::{Diagnostic, Draft, FileName};
-use rpg_cli_text::TextWriter;
 use rpg_cli_words::PaperArguments;
 use rpg_pdf::{PageFault, PaperFault};
 use std::alloc::{AllocError, Global};
@@ -14,49 +13,52 @@ const MOST_LINES: usize = 112;
 
 const MOST_COLUMNS: usize = 198;
 
-/// Writes that a page has too many lines, and the option that helps.
-fn write_lines(out: &mut TextWriter, count: usize, length: u16) {
-    if count > MOST_LINES {
-        out.fill(" has {} lines, and 112 are the most", &[count.into()]);
-    } else {
-        out.fill(
-            " has {} lines, and a form has {}: give --length",
-            &[count.into(), length.into()],
-        );
-    }
-}
-
-/// Writes that a line has too many columns, and the option that helps.
-fn write_columns(out: &mut TextWriter, line: u32, count: usize, columns: u16) {
-    out.fill(
-        " line {} has {} columns",
-        &[u64::from(line).into(), count.into()],
-    );
-    if count > MOST_COLUMNS {
-        out.write_str(", and 198 are the most");
-    } else {
-        out.fill(", and a form has {}: give --columns", &[columns.into()]);
-    }
-}
-
-fn write_byte(out: &mut TextWriter, line: u32, column: usize, byte: u8) {
-    out.fill(
-        " line {} column {}: byte ",
-        &[u64::from(line).into(), column.into()],
-    );
-    out.write_char(char::from(HEX[usize::from(byte / 16)]));
-    out.write_char(char::from(HEX[usize::from(byte % 16)]));
-    out.write_str(" is no character");
-}
-
-fn write_page_fault(out: &mut TextWriter, settings: PaperArguments, fault: PageFault) {
+/// Returns the diagnostic for a page that doesn't fit.
+fn page_diagnostic<'a>(
+    draft: Draft<'a>,
+    settings: PaperArguments,
+    page: u64,
+    fault: PageFault,
+) -> Result<Diagnostic<'a>, AllocError> {
     match fault {
         PageFault::Bytes => {
-            out.write_str(" has more than 1,048,576 bytes: a form feed ends a page")
+            let text = "page {} has more than 1,048,576 bytes: a form feed ends a page";
+            draft.filled(text, &[page.into()])
         }
-        PageFault::Lines { count } => write_lines(out, count, settings.length),
-        PageFault::Columns { line, count } => { write_columns(out, line, count, settings.columns) }
-        PageFault::Character { line, column, byte } => write_byte(out, line, column, byte),
+        PageFault::Lines { count } if count > MOST_LINES => {
+            let text = "page {} has {} lines, and 112 are the most";
+            draft.filled(text, &[page.into(), count.into()])
+        }
+        PageFault::Lines { count } => {
+            let text = "page {} has {} lines, and a form has {}: give --length";
+            draft.filled(text, &[page.into(), count.into(), settings.length.into()])
+        }
+        PageFault::Columns { line, count } => {
+            let text = if count > MOST_COLUMNS {
+                "page {} line {} has {} columns, and 198 are the most"
+            } else {
+                "page {} line {} has {} columns, and a form has {}: give --columns"
+            };
+            let (line, columns) = (u64::from(line), settings.columns);
+            draft.filled(
+                text,
+                &[page.into(), line.into(), count.into(), columns.into()],
+            )
+        }
+        PageFault::Character { line, column, byte } => {
+            let text = "page {} line {} column {}: byte {}{} is no character";
+            let high = char::from(HEX[usize::from(byte / 16)]);
+            let low = char::from(HEX[usize::from(byte % 16)]);
+            let line = u64::from(line);
+            let pieces = [
+                page.into(),
+                line.into(),
+                column.into(),
+                high.into(),
+                low.into(),
+            ];
+            draft.filled(text, &pieces)
+        }
     }
 }
 
@@ -67,14 +69,11 @@ pub(crate) fn print_diagnostic(
     settings: PaperArguments,
     fault: PaperFault,
 ) -> Result<Diagnostic<'_>, AllocError> {
-    let mut draft = Draft::error(alloc, file.whole());
-    let out = &mut draft.message;
+    let draft = Draft::error(alloc, file.whole());
     match fault {
         PaperFault::Page { number, fault } => {
-            out.fill("page {}", &[u64::from(number).into()]);
-            write_page_fault(out, settings, fault);
+            page_diagnostic(draft, settings, number.into(), fault)
         }
-        _ => out.write_str("it has more than 99,999 pages"),
+        _ => draft.filled("it has more than 99,999 pages", &[]),
     }
-    draft.finish()
 }

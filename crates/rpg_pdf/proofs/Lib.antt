@@ -1,6 +1,6 @@
--- Lemmas on sheets, the objects of a PDF, and on what becomes of a print.
-pub mod CutLemmas
+-- Lemmas on texts, the objects of a PDF, and on what becomes of a print.
+pub mod MadeLemmas
 pub mod ObjectLemmas
 pub mod PageLemmas
 pub mod PrintLemmas
-pub mod SheetLemmas
+pub mod TextLemmas

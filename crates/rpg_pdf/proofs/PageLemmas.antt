@@ -1,134 +1,74 @@
 -- Strikes and lines, one after another.
-use Rattle.std.proofs.Common.{◌≡◌, ◌==◌, ◌+◌, ◌-◌, ◌<◌, ◌≤◌, ℕ, zero, suc, Bool, true, false, List, [], ◌∷◌, ◌++◌, length, take, get_or, refl, sym, ap, ◌∙◌, arith, append_assoc, append-nil, Option, None, Some, Ok}
-use Rattle.std.proofs.lemmas.List.{flat_map_more, take_all, take_more}
+use Rattle.std.proofs.Common.{◌≡◌, ◌==◌, ◌+◌, ◌/◌, ◌≤◌, ℕ, true, List, [], ◌∷◌, ◌++◌, length, refl, sym, ap, ap₂, ◌∙◌, append_assoc, codes, Option, None, Some}
+use Rattle.std.proofs.lemmas.Bool.{cond-false, cond-true, le-ltb}
 use Rattle.std.proofs.lemmas.List.Splits.{length-slice_split}
-use Rattle.std.proofs.lemmas.List.Sums.{count_by-le-length}
-use Rattle.std.specs.List.{count_by, flat_map, slice_split}
-use Rattle.std.specs.Prelude.{min}
-use Rattle.rpg_pdf.specs.Sheets.{Layout}
-use Rattle.rpg_pdf.specs.Contents.{Shows, bar_text, bars_text, escaped, escaped_byte, first_of, lines_fault, lines_text, strike_fault, strike_text, strikes_fault, strikes_text}
-use Rattle.rpg_pdf.specs.Objects.{entry, kid, kids}
-use Rattle.rpg_pdf.specs.Pages.{IsCut, line_feed_parts, parts_after, strikes}
+use Rattle.std.specs.List.{count_by}
+use Rattle.std.specs.Prelude.{min, nat_lt}
+use Rattle.rpg_pdf.proofs.TextLemmas.{put_more}
+use Rattle.rpg_pdf.specs.Contents.{all_lines_fault, background, bars_text, contents, first_of, lines_fault, lines_text, most_page_bytes, page_fault, strike_fault, strike_text, strikes_fault, strikes_text}
+use Rattle.rpg_pdf.specs.Pages.{lines, lines_in, printed, strikes}
+use Rattle.rpg_pdf.specs.Texts.{filled}
 use Rattle.rpg_pdf.specs.declared.fault.PageFault.{PageFault}
+use Rattle.rpg_pdf.specs.declared.state.Sheet.{Sheet}
 
--- ---- texts that grow
+-- ---- the next strike of a line
 
--- one more text
-put_more : (whole old new one later : List ℕ) → whole ≡ old ++ (one ++ later) → new ≡ old ++ one → whole ≡ new ++ later
-put_more whole old new one later e is = e ∙ sym (append_assoc old one later) ∙ ap (λ t. t ++ later) (sym is)
+pub strike_fits : (s : Sheet) (line : ℕ) (whole : Option PageFault) (parts more : List (List ℕ)) (first : List ℕ) → parts ≡ first ∷ more → whole ≡ strikes_fault s line parts → strike_fault s line first ≡ None
+    → whole ≡ strikes_fault s line more
+strike_fits s line whole parts more first p e none = e ∙ ap (strikes_fault s line) p ∙ ap (λ f. first_of f (strikes_fault s line more)) none
 
--- a text for each element of a list
-each_more : {X : Type 0} (f : X → List ℕ) (start old new : List ℕ) (xs : List X) (i : ℕ) (d : X) → i < length xs → old ≡ start ++ flat_map f (take i xs) → new ≡ old ++ f (get_or xs i d)
-    → new ≡ start ++ flat_map f (take (i + 1) xs)
-each_more f start old new xs i d lt e is =
-    is ∙ ap (λ t. t ++ f (get_or xs i d)) e ∙ flat_map_more f start (take i xs) (get_or xs i d) ∙ ap (λ (t : List _). start ++ flat_map f t) (sym (take_more xs i d lt))
+pub strike_stops : (s : Sheet) (line : ℕ) (whole : Option PageFault) (parts more : List (List ℕ)) (first : List ℕ) (fault : PageFault) → parts ≡ first ∷ more → whole ≡ strikes_fault s line parts
+    → strike_fault s line first ≡ Some fault → whole ≡ Some fault
+strike_stops s line whole parts more first fault p e some = e ∙ ap (strikes_fault s line) p ∙ ap (λ f. first_of f (strikes_fault s line more)) some
 
-each_all : {X : Type 0} (f : X → List ℕ) (start old : List ℕ) (xs : List X) (i : ℕ) → length xs ≤ i → old ≡ start ++ flat_map f (take i xs) → old ≡ start ++ flat_map f xs
-each_all f start old xs i le e = e ∙ ap (λ (t : List _). start ++ flat_map f t) (take_all i xs le)
+pub strike_shown : (s : Sheet) (line k next : ℕ) (whole old new : List ℕ) (parts more : List (List ℕ)) (first : List ℕ) → next ≡ min (k + 1) 3 → parts ≡ first ∷ more
+    → whole ≡ old ++ strikes_text s line k parts → new ≡ old ++ strike_text s line k first → whole ≡ new ++ strikes_text s line next more
+strike_shown s line k next whole old new parts more first n p e is =
+    rw n (put_more whole old new (strike_text s line k first) (strikes_text s line (min (k + 1) 3) more) (e ∙ ap (λ xs. old ++ strikes_text s line k xs) p) is)
 
-pub escaped_more : (start old new text : List ℕ) (i : ℕ) → i < length text → old ≡ start ++ escaped (take i text) → new ≡ old ++ escaped_byte (get_or text i 0) → new ≡ start ++ escaped (take (i + 1) text)
-escaped_more start old new text i lt e is = each_more escaped_byte start old new text i 0 lt e is
+-- ---- the next line of a page
 
-pub escaped_all : (start old text : List ℕ) (i : ℕ) → length text ≤ i → old ≡ start ++ escaped (take i text) → old ≡ start ++ escaped text
-escaped_all start old text i le e = each_all escaped_byte start old text i le e
+pub line_fits : (s : Sheet) (line : ℕ) (whole : Option PageFault) (parts more : List (List ℕ)) (first : List ℕ) → parts ≡ first ∷ more → whole ≡ lines_fault s line parts → strikes_fault s line (strikes first) ≡ None
+    → whole ≡ lines_fault s (line + 1) more
+line_fits s line whole parts more first p e none = e ∙ ap (lines_fault s line) p ∙ ap (λ f. first_of f (lines_fault s (line + 1) more)) none
 
-pub entries_more : (start old new places : List ℕ) (i : ℕ) → i < length places → old ≡ start ++ flat_map entry (take i places) → new ≡ old ++ entry (get_or places i 0)
-    → new ≡ start ++ flat_map entry (take (i + 1) places)
-entries_more start old new places i lt e is = each_more entry start old new places i 0 lt e is
+pub line_stops : (s : Sheet) (line : ℕ) (whole : Option PageFault) (parts more : List (List ℕ)) (first : List ℕ) (fault : PageFault) → parts ≡ first ∷ more → whole ≡ lines_fault s line parts
+    → strikes_fault s line (strikes first) ≡ Some fault → whole ≡ Some fault
+line_stops s line whole parts more first fault p e some = e ∙ ap (lines_fault s line) p ∙ ap (λ f. first_of f (lines_fault s (line + 1) more)) some
 
-pub entries_all : (start old places : List ℕ) (i : ℕ) → length places ≤ i → old ≡ start ++ flat_map entry (take i places) → old ≡ start ++ flat_map entry places
-entries_all start old places i le e = each_all entry start old places i le e
+pub line_shown : (s : Sheet) (line : ℕ) (whole old new : List ℕ) (parts more : List (List ℕ)) (first : List ℕ) → parts ≡ first ∷ more
+    → whole ≡ old ++ lines_text s line parts → new ≡ old ++ strikes_text s line 0 (strikes first) → whole ≡ new ++ lines_text s (line + 1) more
+line_shown s line whole old new parts more first p e is =
+    put_more whole old new (strikes_text s line 0 (strikes first)) (lines_text s (line + 1) more) (e ∙ ap (λ xs. old ++ lines_text s line xs) p) is
 
-one_less : (n : ℕ) → suc n - 1 ≡ n
-one_less n = omega arith
+pub lines_counted : (text : List ℕ) → count_by (λ b. b == 10) text + 1 ≡ length (lines_in text)
+lines_counted text = sym (length-slice_split (λ b. b == 10) text)
 
--- one more bar, and the last
-pub bars_more : (s : Layout) (whole old new : List ℕ) (left line : ℕ) → 0 < left → whole ≡ old ++ bars_text s left line → new ≡ old ++ bar_text s line → whole ≡ new ++ bars_text s (left - 1) (line + 6)
-bars_more s whole old new zero line h e is = absurd (omega arith)
-bars_more s whole old new (suc left) line h e is = rw (one_less left) (put_more whole old new (bar_text s line) (bars_text s left (line + 6)) e is)
+-- ---- the contents of a sheet
 
-pub bars_all : (s : Layout) (whole old : List ℕ) (left line : ℕ) → left ≤ 0 → whole ≡ old ++ bars_text s left line → old ≡ whole
-bars_all s whole old zero line h e = sym (e ∙ append-nil old)
-bars_all s whole old (suc left) line h e = absurd (omega arith)
+pub bars_shown : (s : Sheet) (bar : ℕ) (start first mid last : List ℕ) → s.settings.has_bars ≡ true → bar ≡ (s.settings.length + 5) / 6 → first ≡ start ++ codes "0.88 0.96 0.88 rg\n"
+    → mid ≡ first ++ bars_text s bar → last ≡ mid ++ codes "0 g\n" → last ≡ start ++ background s
+bars_shown s bar start first mid last has n a b d =
+    let all : List ℕ = bars_text s ((s.settings.length + 5) / 6) in
+    let grown : last ≡ start ++ codes "0.88 0.96 0.88 rg\n" ++ all ++ codes "0 g\n" = d ∙ ap (λ t. t ++ codes "0 g\n") (b ∙ ap₂ (λ t k. t ++ bars_text s k) a n) in
+    grown ∙ joined_three start (codes "0.88 0.96 0.88 rg\n") all (codes "0 g\n") ∙ ap (λ t. start ++ t) (sym (cond-true s.settings.has_bars _ _ has))
+  where
+    joined_three : (p q r t : List ℕ) → p ++ q ++ r ++ t ≡ p ++ (q ++ r ++ t)
+    joined_three p q r t = ap (λ l. l ++ t) (append_assoc p q r) ∙ append_assoc p (q ++ r) t
 
--- one more page, and the last
-pub kids_more : (whole old new : List ℕ) (left page : ℕ) → 0 < left → whole ≡ old ++ kids left page → new ≡ old ++ kid page → whole ≡ new ++ kids (left - 1) (page + 1)
-kids_more whole old new zero page h e is = absurd (omega arith)
-kids_more whole old new (suc left) page h e is = rw (one_less left) (put_more whole old new (kid page) (kids left (page + 1)) e is)
-
-pub kids_all : (whole old : List ℕ) (left page : ℕ) → left ≤ 0 → whole ≡ old ++ kids left page → old ≡ whole
-kids_all whole old zero page h e = sym (e ∙ append-nil old)
-kids_all whole old (suc left) page h e = absurd (omega arith)
-
--- ---- the first part of a text
-
-pub rest_shorter : (end : ℕ) (text first rest : List ℕ) (is_last : Bool) → IsCut end text first rest is_last → is_last ≡ false → length rest < length text
-rest_shorter end text first rest is_last cut e = cut.shorter e
-
--- the parts, if others follow, and if none does
-parts_more : (end : ℕ) (text first rest : List ℕ) (is_last : Bool) → IsCut end text first rest is_last → is_last ≡ false
-    → slice_split (λ b. b == end) text ≡ first ∷ slice_split (λ b. b == end) rest
-parts_more end text first rest is_last cut e = cut.parts ∙ ap (λ l. first ∷ parts_after end l rest) e
-
-parts_last : (end : ℕ) (text first rest : List ℕ) (is_last : Bool) → IsCut end text first rest is_last → is_last ≡ true → slice_split (λ b. b == end) text ≡ first ∷ []
-parts_last end text first rest is_last cut e = cut.parts ∙ ap (λ l. first ∷ parts_after end l rest) e
-
--- ---- faults
-
--- a part without a fault
-none_first : (one later whole : Option PageFault) → whole ≡ first_of one later → one ≡ None → whole ≡ later
-none_first one later whole e none = e ∙ ap (λ f. first_of f later) none
-
--- ---- strikes
-
-pub strikes_no_fault : (s : Layout) (line : ℕ) (text rest first more : List ℕ) (is_last : Bool) → IsCut 13 rest first more is_last → is_last ≡ false → strikes_fault s line (strikes text) ≡ strikes_fault s line (strikes rest)
-    → strike_fault s line first ≡ None → strikes_fault s line (strikes text) ≡ strikes_fault s line (strikes more)
-strikes_no_fault s line text rest first more is_last cut e faults none =
-    none_first (strike_fault s line first) (strikes_fault s line (strikes more)) (strikes_fault s line (strikes text)) (faults ∙ ap (strikes_fault s line) (parts_more 13 rest first more is_last cut e)) none
-
-pub strikes_more : (s : Layout) (line k next : ℕ) (whole old new rest first more : List ℕ) (is_last : Bool) → next ≡ min (k + 1) 3 → IsCut 13 rest first more is_last → is_last ≡ false → whole ≡ old ++ strikes_text s line k (strikes rest)
-    → new ≡ old ++ strike_text s line k first → whole ≡ new ++ strikes_text s line next (strikes more)
-strikes_more s line k next whole old new rest first more is_last n cut e text is =
-    rw n (put_more whole old new (strike_text s line k first) (strikes_text s line (min (k + 1) 3) (strikes more)) (text ∙ ap (λ parts. old ++ strikes_text s line k parts) (parts_more 13 rest first more is_last cut e)) is)
-
-pub strikes_last : {X : Type 0} (s : Layout) (line k : ℕ) (text start old new rest first more : List ℕ) (is_last : Bool) (x : X) → IsCut 13 rest first more is_last → is_last ≡ true
-    → strikes_fault s line (strikes text) ≡ strikes_fault s line (strikes rest) → start ++ strikes_text s line 0 (strikes text) ≡ old ++ strikes_text s line k (strikes rest)
-    → strike_fault s line first ≡ None → new ≡ old ++ strike_text s line k first → Shows {X = X} (strikes_fault s line (strikes text)) (strikes_text s line 0 (strikes text)) start new (Ok x)
-strikes_last s line k text start old new rest first more is_last x cut e faults whole none is =
-    let parts = parts_last 13 rest first more is_last cut e in (
-      none_first (strike_fault s line first) None (strikes_fault s line (strikes text)) (faults ∙ ap (strikes_fault s line) parts) none,
-      sym (put_more (start ++ strikes_text s line 0 (strikes text)) old new (strike_text s line k first) [] (whole ∙ ap (λ p. old ++ strikes_text s line k p) parts) is ∙ append-nil new),
+pub page_shown : (s : Sheet) (page text start a b d last : List ℕ) → length page ≤ most_page_bytes → text ≡ printed page → length (lines_in text) ≤ s.settings.length → lines_fault s 0 (lines_in text) ≡ None
+    → a ≡ start ++ background s → b ≡ a ++ filled (codes "BT /F $ Tf\n") (s.font ∷ []) → d ≡ b ++ lines_text s 0 (lines_in text) → last ≡ d ++ codes "ET\n"
+    → (None ≡ page_fault s page) × (page_fault s page ≡ None → last ≡ start ++ contents s page)
+unfolding page_fault contents
+page_shown s page text start a b d last short is few none ea eb ed el =
+    let same : lines_in text ≡ lines page = ap lines_in is in
+    let font : List ℕ = filled (codes "BT /F $ Tf\n") (s.font ∷ []) in
+    let fits : all_lines_fault s (lines_in text) ≡ None = cond-false (nat_lt s.settings.length (length (lines_in text))) _ _ (le-ltb s.settings.length (length (lines_in text)) few) ∙ none in
+    let grown : last ≡ start ++ background s ++ font ++ lines_text s 0 (lines_in text) ++ codes "ET\n" =
+    el ∙ ap (λ t. t ++ codes "ET\n") (ed ∙ ap (λ t. t ++ lines_text s 0 (lines_in text)) (eb ∙ ap (λ t. t ++ font) ea)) in (
+      sym (cond-false (nat_lt most_page_bytes (length page)) _ _ (le-ltb most_page_bytes (length page) short) ∙ ap (all_lines_fault s) (sym same) ∙ fits),
+      λ e. grown ∙ joined_four start (background s) font (lines_text s 0 (lines_in text)) (codes "ET\n") ∙ ap (λ ls. start ++ (background s ++ font ++ lines_text s 0 ls ++ codes "ET\n")) same,
     )
-
--- ---- lines
-
-pub lines_counted : (line whole : ℕ) (rest first more : List ℕ) (is_last : Bool) → IsCut 10 rest first more is_last → is_last ≡ false → line + length (line_feed_parts rest) ≡ whole → line + 1 + length (line_feed_parts more) ≡ whole
-lines_counted line whole rest first more is_last cut e count = omega (arith, count, ap length (parts_more 10 rest first more is_last cut e))
-
-pub lines_no_fault : (s : Layout) (line : ℕ) (text rest first more : List ℕ) (is_last : Bool) → IsCut 10 rest first more is_last → is_last ≡ false
-    → lines_fault s 0 (line_feed_parts text) ≡ lines_fault s line (line_feed_parts rest) → strikes_fault s line (strikes first) ≡ None
-    → lines_fault s 0 (line_feed_parts text) ≡ lines_fault s (line + 1) (line_feed_parts more)
-lines_no_fault s line text rest first more is_last cut e faults none =
-    none_first (strikes_fault s line (strikes first)) (lines_fault s (line + 1) (line_feed_parts more)) (lines_fault s 0 (line_feed_parts text)) (faults ∙ ap (lines_fault s line) (parts_more 10 rest first more is_last cut e)) none
-
-pub lines_more : (s : Layout) (line : ℕ) (whole old new rest first more : List ℕ) (is_last : Bool) → IsCut 10 rest first more is_last → is_last ≡ false → whole ≡ old ++ lines_text s line (line_feed_parts rest)
-    → new ≡ old ++ strikes_text s line 0 (strikes first) → whole ≡ new ++ lines_text s (line + 1) (line_feed_parts more)
-lines_more s line whole old new rest first more is_last cut e text is =
-    put_more whole old new (strikes_text s line 0 (strikes first)) (lines_text s (line + 1) (line_feed_parts more)) (text ∙ ap (λ parts. old ++ lines_text s line parts) (parts_more 10 rest first more is_last cut e)) is
-
-pub lines_last : {X : Type 0} (s : Layout) (line : ℕ) (text start old new rest first more : List ℕ) (is_last : Bool) (x : X) → IsCut 10 rest first more is_last → is_last ≡ true
-    → lines_fault s 0 (line_feed_parts text) ≡ lines_fault s line (line_feed_parts rest) → start ++ lines_text s 0 (line_feed_parts text) ≡ old ++ lines_text s line (line_feed_parts rest)
-    → strikes_fault s line (strikes first) ≡ None → new ≡ old ++ strikes_text s line 0 (strikes first) → Shows {X = X} (lines_fault s 0 (line_feed_parts text)) (lines_text s 0 (line_feed_parts text)) start new (Ok x)
-lines_last s line text start old new rest first more is_last x cut e faults whole none is =
-    let parts = parts_last 10 rest first more is_last cut e in (
-      none_first (strikes_fault s line (strikes first)) None (lines_fault s 0 (line_feed_parts text)) (faults ∙ ap (lines_fault s line) parts) none,
-      sym (put_more (start ++ lines_text s 0 (line_feed_parts text)) old new (strikes_text s line 0 (strikes first)) [] (whole ∙ ap (λ p. old ++ lines_text s line p) parts) is ∙ append-nil new),
-    )
-
--- ---- how many lines
-
-pub few_line_feeds : (text : List ℕ) → count_by (λ b. b == 10) text ≤ length text
-few_line_feeds text = count_by-le-length (λ b. b == 10) text
-
-pub lines_are : (text : List ℕ) → count_by (λ b. b == 10) text + 1 ≡ length (line_feed_parts text)
-lines_are text = sym (length-slice_split (λ b. b == 10) text)
+  where
+    joined_four : (p q r t u : List ℕ) → p ++ q ++ r ++ t ++ u ≡ p ++ (q ++ r ++ t ++ u)
+    joined_four p q r t u = ap (λ l. l ++ t ++ u) (append_assoc p q r) ∙ ap (λ l. l ++ u) (append_assoc p (q ++ r) t) ∙ append_assoc p (q ++ r ++ t) u

@@ -1,7 +1,5 @@
 //! Why a print isn't put on sheets.
 
-use std::alloc::AllocError;
-
 /// Why a page doesn't fit its sheet. Lines and columns are counted from 1.
 #[derive(Clone, Copy)]
 pub enum PageFault {
@@ -13,24 +11,6 @@ pub enum PageFault {
     Columns { line: u32, count: usize },
     /// A byte is no character.
     Character { line: u32, column: usize, byte: u8 },
-}
-
-/// Why the page that is put on a sheet stops.
-#[derive(Clone, Copy)]
-pub(crate) enum PageStop {
-    Fault(PageFault),
-    NoMemory,
-}
-
-impl From<AllocError> for PageStop {
-    ghost use Rattle.std.specs.Prelude.{◌≡◌};
-    ghost use Rattle.rpg_pdf.specs.declared.fault.PageStop.TheVariants.{NoMemory};
-
-    ghost from_gives = { λ _ e. e ≡ NoMemory };
-
-    fn from(_: AllocError) -> Self {
-        PageStop::NoMemory
-    }
 }
 
 /// Why a print isn't put on sheets.
@@ -47,15 +27,4 @@ pub enum PaperFault {
     /// The writer failed.
     Write,
     NoMemory,
-}
-
-impl From<AllocError> for PaperFault {
-    ghost use Rattle.std.specs.Prelude.{◌≡◌};
-    ghost use Rattle.rpg_pdf.specs.declared.fault.PaperFault.TheVariants.{NoMemory};
-
-    ghost from_gives = { λ _ e. e ≡ NoMemory };
-
-    fn from(_: AllocError) -> Self {
-        PaperFault::NoMemory
-    }
 }

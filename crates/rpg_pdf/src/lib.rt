@@ -1,19 +1,20 @@
 //! Prints as PDF: the pages of a print on sheets of paper.
 #![tactic(auto)]
 
-mod contents;
-mod cut;
+ghost use Rattle.rpg_pdf.specs.Objects.{EntriesAreOffsets};
+
 mod fault;
 mod geometry;
-pub mod laws;
-mod numbers;
 mod objects;
 mod page;
 mod press;
-mod printing;
-mod sheet;
 mod state;
+mod text;
 
 pub use fault::{PageFault, PaperFault};
-pub use printing::paper;
-pub use sheet::{PaperForm, Settings};
+pub use state::{PaperForm, Press, Settings};
+
+/// A law about the definitions: each entry of the cross reference table is the offset at which its object begins. Does nothing.
+pub fn entries_are_offsets()
+    ensures { EntriesAreOffsets }
+{}

@@ -1,24 +1,17 @@
-//! The press: it takes a print piece by piece, and writes the objects of its pages.
+//! The press: it reads a print, and writes the sheets of its pages.
 
-ghost use Rattle.std.specs.Prelude.{◌≡◌, ◌==◌, ◌+◌, ◌<◌, ◌≤◌, ◌++◌, ◌∷◌, [], false, ℕ, List, Option, length, IfErr, IfOk, MatchResult, OnOk};
-ghost use Rattle.std.specs.List.{All};
-ghost use Rattle.rpg_pdf.specs.Contents.{heading};
-ghost use Rattle.rpg_pdf.specs.Objects.{catalog, contents_object, font, page_object};
-ghost use Rattle.rpg_pdf.specs.Outcomes.{Completes, IsFault, IsOther, IsPaper, Laid, Reaches, Reading, Sends, SendsObjects, fault_at};
-ghost use Rattle.rpg_pdf.specs.Pages.{IsCut, pages};
-ghost use Rattle.rpg_pdf.specs.Sheets.{Layout, layout_of};
+ghost use Rattle.std.specs.Prelude.{◌≡◌, ◌+◌, ◌<◌, ◌≤◌, ◌∷◌, [], ℕ, List, Ok, IfErr, IfOk, MatchResult, OnOk, false, length};
+ghost use Rattle.rpg_files.specs.Counting.{device_of};
+ghost use Rattle.rpg_pdf.specs.Outcomes.{CanFail, EndsPage, Finishes, HasPrinted, HasSent, IsFault, IsFresh, IsUnsent, ReadsAll, TakesBytes, bytes_left, failures_after, failures_of};
+ghost use Rattle.rpg_pdf.specs.declared.state.Sheet.{Sheet};
+ghost use Rattle.rpg_pdf.specs.Sheets.{sheet_of};
 
-use crate::contents::put_heading;
-use crate::cut::cut;
-use crate::fault::{PageFault, PageStop, PaperFault};
-use crate::objects::{
-    FIRST_BYTES, put_catalog, put_ending, put_font, put_page, put_page_contents, put_tree,
-};
-use crate::page::{MOST_PAGE_BYTES, put_contents};
-use crate::sheet::Sheet;
-use crate::state::{Output, Press};
+use crate::fault::{PageFault, PaperFault};
+use crate::page::MOST_PAGE_BYTES;
+use crate::state::{Made, Press, Settings, Sheet};
+use rpg_files::{Counted, send};
 use std::alloc::{AllocError, Global};
-use std::io::Write;
+use std::io::{Read, Write};
 
 /// The most pages of a print.
 const MOST_PAGES: u32 = 99_999;
@@ -29,287 +22,166 @@ const MOST_BYTES: u64 = 9_999_999_999;
 /// The byte that ends a page.
 const FORM_FEED: u8 = 12;
 
-impl Output {
-    /// Writes bytes.
-    fn send<W: Write>(&mut self, bytes: &[u8], writer: &mut W) -> Result<(), PaperFault>
-        ensures sent { OnOk result (Sends (W.contents writer.old) (W.contents writer.new) self.old self.new bytes.now) }
-        ensures places { self.new.places.items ≡ self.old.places.items }
-        ensures fault { IfErr result IsOther }
+impl<R: Read, W: Write> Press<R, W> {
+    pub fn new(alloc: Global, settings: Settings, reader: R, writer: W) -> Press<R, W>
+        ensures fresh { IsFresh (sheet_of settings) result }
+        ensures reader { device_of result.reader ≡ reader }
+        ensures writer { device_of result.writer ≡ writer }
+        ensures failures { failures_of result ≡ record { reads = 0; writes = 0; is_short = false } }
     {
-        if bytes.len() as u64 > MOST_BYTES - self.at {
+        Press {
+            reader: Counted::new(reader),
+            writer: Counted::new(writer),
+            sheet: Sheet::of(settings),
+            page: Vec::new(alloc),
+            made: Made {
+                out: Vec::new(alloc),
+                entries: Vec::new(alloc),
+                contents: Vec::new(alloc),
+                at: 0,
+            },
+            number: 0,
+            is_short: false,
+        }
+    }
+
+    /// Notes whether memory ran out.
+    fn noted<T>(&mut self, made: Result<T, AllocError>) -> Result<T, PaperFault>
+        ensures made { IfOk result (λ x. (made ≡ Ok x) × (self.new ≡ self.old)) }
+        ensures fault { IfErr result (λ e. (self.new.writer ≡ self.old.writer) × ((s : Sheet) (all : List (List ℕ)) → IsFault s all e)) }
+        ensures failures { failures_of self.new ≡ failures_after (failures_of self.old) result }
+    {
+        match made {
+            Ok(value) => Ok(value),
+            Err(_) => {
+                self.is_short = true;
+                Err(PaperFault::NoMemory)
+            }
+        }
+    }
+
+    /// Writes what was made.
+    fn send(&mut self) -> Result<(), PaperFault>
+        requires { CanFail self.old }
+        ensures sent { MatchResult result (λ _. HasSent W.contents self.old self.new) (IsUnsent W.contents self.old self.new) }
+        ensures failures { failures_of self.new ≡ failures_after (failures_of self.old) result }
+    {
+        let length = self.made.out.len() as u64;
+        if length > MOST_BYTES - self.made.at {
             return Err(PaperFault::Size);
         }
-        if writer.write_all(bytes).is_err() {
+        if send(&mut self.writer, self.made.out.as_slice()).is_err() {
             return Err(PaperFault::Write);
         }
-        self.at += bytes.len() as u64;
+        self.made.at += length;
+        self.made.out.clear();
         Ok(())
     }
 
-    /// Writes an object.
-    fn send_object<W: Write>(&mut self, object: &[u8], writer: &mut W) -> Result<(), PaperFault>
-        ensures sent { OnOk result (SendsObjects (W.contents writer.old) (W.contents writer.new) self.old self.new (object.now ∷ [])) }
-        ensures fault { IfErr result IsOther }
-    {
-        if self.places.push(self.at).is_err() {
-            return Err(PaperFault::NoMemory);
-        }
-        self.send(object, writer)
-    }
-
-    /// Writes a page and its contents.
-    fn send_page<W: Write>(
-        &mut self,
-        object: &mut Vec<u8>,
-        page: u32,
-        contents: &[u8],
-        writer: &mut W,
-    ) -> Result<(), PaperFault>
-        ensures sent { OnOk result (SendsObjects (W.contents writer.old) (W.contents writer.new) self.old self.new (page_object page ∷ (contents_object page contents.now ∷ []))) }
-        ensures fault { IfErr result IsOther }
-    {
-        object.clear();
-        if put_page(object, page).is_err() {
-            return Err(PaperFault::NoMemory);
-        }
-        match self.send_object(object.as_slice(), writer) {
-            Ok(()) => {}
-            Err(fault) => return Err(fault),
-        }
-        object.clear();
-        if put_page_contents(object, page, contents).is_err() {
-            return Err(PaperFault::NoMemory);
-        }
-        self.send_object(object.as_slice(), writer)
-    }
-
-    /// Writes the objects before the first page.
-    fn send_first<W: Write>(
-        &mut self,
-        object: &mut Vec<u8>,
-        writer: &mut W,
-    ) -> Result<(), PaperFault>
-        ensures sent { OnOk result (SendsObjects (W.contents writer.old) (W.contents writer.new) self.old self.new (catalog ∷ (font ∷ []))) }
-        ensures fault { IfErr result IsOther }
-    {
-        object.clear();
-        if put_catalog(object).is_err() {
-            return Err(PaperFault::NoMemory);
-        }
-        match self.send_object(object.as_slice(), writer) {
-            Ok(()) => {}
-            Err(fault) => return Err(fault),
-        }
-        object.clear();
-        if put_font(object).is_err() {
-            return Err(PaperFault::NoMemory);
-        }
-        self.send_object(object.as_slice(), writer)
-    }
-
-    /// Writes the beginning of a file, up to its pages.
-    fn begin<W: Write>(&mut self, object: &mut Vec<u8>, writer: &mut W) -> Result<(), PaperFault>
-        requires nothing { self.old.at ≡ 0 }
-        requires none { self.old.places.items ≡ [] }
-        ensures laid { OnOk result ((s : Layout) → Laid s (W.contents writer.old) (W.contents writer.new) [] self.new) }
-        ensures fault { IfErr result IsOther }
-    {
-        match self.send(FIRST_BYTES, writer) {
-            Ok(()) => {}
-            Err(fault) => return Err(fault),
-        }
-        self.send_first(object, writer)
-    }
-
-    /// Writes what comes after the pages.
-    fn end<W: Write>(
-        &mut self,
-        sheet: &Sheet,
-        object: &mut Vec<u8>,
-        pages: u32,
-        writer: &mut W,
-    ) -> Result<(), PaperFault>
-        ensures whole { OnOk result (Completes (layout_of sheet.now) (W.contents writer.old) (W.contents writer.new) pages self.old) }
-        ensures fault { IfErr result IsOther }
-    {
-        let tree_place = self.at;
-        object.clear();
-        if put_tree(object, sheet, pages).is_err() {
-            return Err(PaperFault::NoMemory);
-        }
-        match self.send(object.as_slice(), writer) {
-            Ok(()) => {}
-            Err(fault) => return Err(fault),
-        }
-        object.clear();
-        let made = put_ending(object, pages, self.at, self.places.as_slice(), tree_place);
-        if made.is_err() {
-            return Err(PaperFault::NoMemory);
-        }
-        self.send(object.as_slice(), writer)
-    }
-}
-
-fn heading_of(alloc: Global, sheet: &Sheet) -> Result<Vec<u8>, AllocError>
-    ensures { IfOk result (λ text. text.items ≡ heading (layout_of sheet.now)) }
-{
-    let mut text = Vec::new(alloc);
-    put_heading(sheet, &mut text)?;
-    Ok(text)
-}
-
-impl Press {
-    /// Begins a PDF.
-    pub fn begun<W: Write>(alloc: Global, sheet: Sheet, writer: &mut W) -> Result<Self, PaperFault>
-        ensures reading { IfOk result (λ press. (print : List ℕ) → Reading (layout_of sheet) (W.contents writer.old) (W.contents writer.new) print print press) }
-        ensures fault { IfErr result IsOther }
-    {
-        let Ok(heading) = heading_of(alloc, &sheet) else {
-            return Err(PaperFault::NoMemory);
-        };
-        let mut object = Vec::new(alloc);
-        let mut output = Output {
-            places: Vec::new(alloc),
-            at: 0,
-        };
-        match output.begin(&mut object, writer) {
-            Ok(()) => {}
-            Err(fault) => return Err(fault),
-        }
-        Ok(Press {
-            sheet,
-            heading,
-            page: Vec::new(alloc),
-            contents: Vec::new(alloc),
-            object,
-            output,
-            number: 0,
-        })
-    }
-
-    /// Returns the fault of the page that was begun, unless that is one too many.
-    fn fault(&self, fault: PageFault) -> PaperFault
-        ensures { result ≡ fault_at self.now.number fault }
-    {
-        if self.number >= MOST_PAGES {
-            return PaperFault::Pages;
-        }
-        PaperFault::Page {
-            number: self.number + 1,
-            fault,
-        }
-    }
-
     /// Writes the page that was begun.
-    fn end_page<W: Write>(&mut self, writer: &mut W) -> Result<(), PaperFault>
-        ensures reached { (s : Layout) (before : Option (List ℕ)) (all later : List (List ℕ))
-            → Reaches s before (W.contents writer.old) all (self.old.page.items ∷ later) self.old
-            → MatchResult result (λ _. Reaches s before (W.contents writer.new) all later self.new) (IsFault s all) }
-        ensures empty { OnOk result (self.new.page.items ≡ []) }
+    fn end_page(&mut self) -> Result<(), PaperFault>
+        requires failures { CanFail self.old }
+        requires few { self.old.number < 99999 }
+        ensures reached { EndsPage W.contents self.old self.new result }
+        ensures moved { OnOk result ((self.new.reader ≡ self.old.reader) × (self.new.page.items ≡ []) × (self.new.number ≡ self.old.number + 1)) }
+        ensures failures { failures_of self.new ≡ failures_after (failures_of self.old) result }
     {
-        if self.number >= MOST_PAGES {
-            return Err(PaperFault::Pages);
+        let made = self
+            .made
+            .add_page(&self.sheet, self.number, self.page.as_slice());
+        if let Some(fault) = self.noted(made)? {
+            let number = self.number + 1;
+            return Err(PaperFault::Page { number, fault });
         }
-        match put_contents(
-            &self.sheet,
-            self.heading.as_slice(),
-            self.page.as_slice(),
-            &mut self.contents,
-        ) {
-            Ok(()) => {}
-            Err(PageStop::NoMemory) => return Err(PaperFault::NoMemory),
-            Err(PageStop::Fault(fault)) => return Err(self.fault(fault)),
-        }
-        match self.output.send_page(
-            &mut self.object,
-            self.number,
-            self.contents.as_slice(),
-            writer,
-        ) {
-            Ok(()) => {}
-            Err(fault) => return Err(fault),
-        }
+        self.send()?;
         self.number += 1;
         self.page.clear();
         Ok(())
     }
 
-    /// Takes bytes of the page that was begun.
-    fn take(&mut self, bytes: &[u8]) -> Result<(), PaperFault>
-        ensures { (s : Layout) (before after : Option (List ℕ)) (print rest : List ℕ) → All (λ b. (b == 12) ≡ false) bytes.now
-            → Reading s before after print (bytes.now ++ rest) self.old
-            → MatchResult result (λ _. Reading s before after print rest self.new) (IsFault s (pages print)) }
+    /// Takes the next byte of the print.
+    fn take(&mut self, byte: u8) -> Result<(), PaperFault>
+        requires { CanFail self.old }
+        ensures reading { TakesBytes W.contents (byte ∷ []) self.old self.new result }
+        ensures moved { OnOk result ((self.new.reader ≡ self.old.reader) × (bytes_left self.new < bytes_left self.old)) }
+        ensures failures { failures_of self.new ≡ failures_after (failures_of self.old) result }
     {
-        if bytes.len() > MOST_PAGE_BYTES.saturating_sub(self.page.as_slice().len()) {
-            return Err(self.fault(PageFault::Bytes));
+        if self.number >= MOST_PAGES {
+            return Err(PaperFault::Pages);
         }
-        match self.page.extend_from_slice(bytes) {
-            Ok(()) => Ok(()),
-            Err(_) => Err(PaperFault::NoMemory),
+        if byte == FORM_FEED {
+            return self.end_page();
         }
+        if self.page.len() >= MOST_PAGE_BYTES {
+            let (number, fault) = (self.number + 1, PageFault::Bytes);
+            return Err(PaperFault::Page { number, fault });
+        }
+        let pushed = self.page.extend_from_slice(&[byte]);
+        self.noted(pushed)
     }
 
-    /// Takes a part of a piece, and writes the page that it ends, unless it is the last part.
-    fn put_part<W: Write>(
-        &mut self,
-        first: &[u8],
-        is_last: bool,
-        writer: &mut W,
-    ) -> Result<(), PaperFault>
-        ensures { (s : Layout) (before : Option (List ℕ)) (print rest left more : List ℕ) → IsCut 12 left first.now more is_last
-            → Reading s before (W.contents writer.old) print (left ++ rest) self.old
-            → MatchResult result (λ _. Reading s before (W.contents writer.new) print (more ++ rest) self.new) (IsFault s (pages print)) }
+    /// Takes the next bytes of the print.
+    fn take_all(&mut self, piece: &[u8]) -> Result<(), PaperFault>
+        requires { CanFail self.old }
+        ensures reading { TakesBytes W.contents piece.now self.old self.new result }
+        ensures moved { OnOk result ((self.new.reader ≡ self.old.reader) × (bytes_left self.new + length piece.now ≤ bytes_left self.old)) }
+        ensures failures { failures_of self.new ≡ failures_after (failures_of self.old) result }
     {
-        match self.take(first) {
-            Ok(()) => {}
-            Err(fault) => return Err(fault),
+        for byte in piece {
+            self.take(*byte)?;
         }
-        if is_last {
-            return Ok(());
-        }
-        match self.end_page(writer) {
-            Ok(()) => Ok(()),
-            Err(fault) => Err(fault),
-        }
+        Ok(())
     }
 
-    /// Takes a piece of the print.
-    #[tactic(auto, using(crate::proofs::PageLemmas::rest_shorter))]
-    pub fn put<W: Write>(&mut self, piece: &[u8], writer: &mut W) -> Result<(), PaperFault>
-        ensures { (s : Layout) (before : Option (List ℕ)) (print rest : List ℕ)
-            → Reading s before (W.contents writer.old) print (piece.now ++ rest) self.old
-            → MatchResult result (λ _. Reading s before (W.contents writer.new) print rest self.new) (IsFault s (pages print)) }
+    /// Reads the print to its end, and writes its pages but for the last.
+    fn read_all(&mut self) -> Result<(), PaperFault>
+        requires { CanFail self.old }
+        ensures reading { ReadsAll R.remaining W.contents self.old self.new result }
+        ensures failures { failures_of self.new ≡ failures_after (failures_of self.old) result }
     {
-        let mut left = piece;
-        'pieces: loop {
-            let part = cut(left, FORM_FEED);
-            match self.put_part(part.first, part.is_last, writer) {
-                Ok(()) => {}
-                Err(fault) => return Err(fault),
+        let mut piece = [0; 4096];
+        'reads: loop {
+            match self.reader.read(&mut piece) {
+                Ok(0) => return Ok(()),
+                Ok(count) => self.take_all(&piece[..count])?,
+                Err(_) => return Err(PaperFault::Read),
             }
-            if part.is_last {
-                return Ok(());
-            }
-            left = part.rest;
         }
     }
 
-    /// Ends the last page and the PDF. Returns how many pages it has.
-    pub fn finish<W: Write>(&mut self, writer: &mut W) -> Result<u32, PaperFault>
-        ensures { (s : Layout) (before : Option (List ℕ)) (print : List ℕ)
-            → Reading s before (W.contents writer.old) print [] self.old
-            → IsPaper s (pages print) before (W.contents writer.new) result }
+    /// Writes the last page and what comes after the pages. Returns how many pages there are.
+    fn finish(&mut self) -> Result<u32, PaperFault>
+        requires { CanFail self.old }
+        ensures paper { Finishes W.contents self.old self.new result }
+        ensures failures { failures_of self.new ≡ failures_after (failures_of self.old) result }
     {
-        match self.end_page(writer) {
-            Ok(()) => {}
-            Err(fault) => return Err(fault),
+        if self.number >= MOST_PAGES {
+            return Err(PaperFault::Pages);
         }
-        match self
-            .output
-            .end(&self.sheet, &mut self.object, self.number, writer)
-        {
+        self.end_page()?;
+        let made = self.made.add_end(&self.sheet, self.number);
+        self.noted(made)?;
+        self.send()?;
+        match self.writer.flush() {
             Ok(()) => Ok(self.number),
-            Err(fault) => Err(fault),
+            Err(_) => Err(PaperFault::Write),
         }
+    }
+
+    /// Writes the PDF of the print: a sheet for each page. Returns how many there are.
+    ///
+    /// Memory use grows with the longest page, by 49 bytes a page, and at the end by 50 more.
+    pub fn print(&mut self) -> Result<u32, PaperFault>
+        requires fresh { IsFresh self.old.sheet self.old }
+        requires failures { CanFail self.old }
+        // However short the reads are, the bytes are those of the definition, and a fault of the print is its first.
+        ensures paper { HasPrinted R.remaining W.contents self.old self.new result }
+        // A fault of a device or of memory is reported as that, and no other is.
+        ensures failures { failures_of self.new ≡ failures_after (failures_of self.old) result }
+    {
+        let made = self.made.add_first();
+        self.noted(made)?;
+        self.read_all()?;
+        self.finish()
     }
 }

@@ -1,36 +1,70 @@
-//! What was made of a print so far.
+//! Settings, sheets, and what was made of a print so far.
 
-ghost use Rattle.std.specs.Prelude.{◌≡◌, ◌≤◌};
-ghost use Rattle.rpg_pdf.specs.Sheets.{layout_of};
-ghost use Rattle.rpg_pdf.specs.Contents.{heading as heading_text};
+ghost use Rattle.std.specs.Prelude.{◌≤◌, length};
 
-use crate::sheet::Sheet;
+use rpg_files::Counted;
 
-/// What was written.
+/// A form of paper.
+#[derive(Clone, Copy)]
+pub enum PaperForm {
+    A4,
+    Letter,
+    /// 14 by 11 inches, lying across.
+    Fanfold,
+}
+
+/// How pages are put on sheets.
+#[derive(Clone, Copy)]
+pub struct Settings {
+    pub(crate) form: PaperForm,
+    pub(crate) length: u32,
+    pub(crate) columns: u32,
+    pub(crate) has_bars: bool,
+    ghost some_lines: { 1 ≤ length },
+    ghost few_lines: { length ≤ 112 },
+    ghost some_columns: { 20 ≤ columns },
+    ghost few_columns: { columns ≤ 198 },
+}
+
+/// A sheet of paper, and where lines and columns are on it.
+#[derive(Clone, Copy)]
+pub(crate) struct Sheet {
+    pub settings: Settings,
+    pub width: u32,
+    pub height: u32,
+    pub font: u32,
+    pub lead: u32,
+    pub left: u32,
+    pub top: u32,
+}
+
+/// What was made of a PDF so far.
 #[derive(Drop)]
-pub(crate) struct Output {
-    /// Where the objects begin.
-    pub places: Vec<u64>,
+pub(crate) struct Made {
+    /// What is written next.
+    pub out: Vec<u8>,
+    /// The table's entries of the objects after the catalog.
+    pub entries: Vec<u8>,
+    /// The contents of a sheet.
+    pub contents: Vec<u8>,
     /// How many bytes were written.
     pub at: u64,
     ghost few_bytes: { at ≤ 9999999999 },
 }
 
-/// What was made of a print so far.
+/// Puts a print on sheets, from a reader to a writer.
 #[derive(Drop)]
-pub(crate) struct Press {
-    pub sheet: Sheet,
-    /// What the contents of each sheet begin with.
-    pub heading: Vec<u8>,
+pub struct Press<R, W> {
+    pub reader: Counted<R>,
+    pub writer: Counted<W>,
+    pub(crate) sheet: Sheet,
     /// The bytes of the page that was begun.
-    pub page: Vec<u8>,
-    /// The contents of a sheet.
-    pub contents: Vec<u8>,
-    /// An object.
-    pub object: Vec<u8>,
-    pub output: Output,
-    /// How many pages were written.
-    pub number: u32,
-    ghost prepared: { heading.items ≡ heading_text (layout_of sheet) },
+    pub(crate) page: Vec<u8>,
+    pub(crate) made: Made,
+    /// How many pages were made.
+    pub(crate) number: u32,
+    /// Whether memory ran out.
+    pub(crate) is_short: bool,
+    ghost short_page: { length page.items ≤ 1048576 },
     ghost few_pages: { number ≤ 99999 },
 }

@@ -1,5 +1,0 @@
-use Rattle.rpg_pdf.proofs.ObjectLemmas.{entries}
-use Rattle.rpg_pdf.proofs.laws.entries_are_offsets.Goals as goal
-
-pub returns : goal.returns
-returns c = entries
