@@ -11,17 +11,6 @@ pub enum PaperArgument {
     Fanfold,
 }
 
-impl PaperArgument {
-    /// Returns the form with a name, A4 if there is none.
-    fn of(name: Option<&str>) -> PaperArgument {
-        match name {
-            Some("letter") => PaperArgument::Letter,
-            Some("fanfold") => PaperArgument::Fanfold,
-            _ => PaperArgument::A4,
-        }
-    }
-}
-
 /// How pages are put on paper.
 #[derive(Clone, Copy)]
 pub struct PaperArguments {
@@ -36,7 +25,11 @@ pub struct PaperArguments {
 impl PaperArguments {
     pub(crate) fn of(given: &ArgMatches<'_>) -> PaperArguments {
         PaperArguments {
-            form: PaperArgument::of(given.get_str("form")),
+            form: match given.get_str("form") {
+                Some("letter") => PaperArgument::Letter,
+                Some("fanfold") => PaperArgument::Fanfold,
+                _ => PaperArgument::A4,
+            },
             length: given.get_one::<u16>("length").unwrap_or(66),
             columns: given.get_one::<u16>("columns").unwrap_or(132),
             has_bars: given.get_flag("bars"),

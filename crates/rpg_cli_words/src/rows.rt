@@ -55,54 +55,48 @@ replace '--replace <C>' can be used only with '--csv'
 delimiter '--delimiter <C>' can be used only with '--csv' or '--to-csv'
 decimal '--decimal <C>' can be used only with '--csv' or '--to-csv'";
 
-/// Returns the character that an argument names: one that no number has, and no quotation mark.
-fn character(text: &str) -> Option<u8> {
-    match text.as_bytes() {
-        [byte] if b' ' <= *byte && *byte <= b'~' => {
-            let is_taken = byte.is_ascii_alphanumeric() || matches!(*byte, b'"' | b'-' | b'+');
-            (!is_taken).then_some(*byte)
-        }
-        _ => None,
-    }
-}
+const CHARACTERS: &str =
+    "'--delimiter <C>', '--group <C>' and '--replace <C>' need one character from blank to ~, no letter, digit, \", - or +; a delimiter may be tab";
 
-/// Returns the delimiter that an argument names.
-fn delimiter(text: &str) -> Option<u8> {
-    if text == "tab" {
-        return Some(b'\t');
+/// Returns the character that an argument names, if it is given: one that no number has, and no quotation mark.
+fn character(given: &ArgMatches<'_>, name: &str) -> Result<Option<u8>, &'static str> {
+    let Some(text) = given.get_str(name) else {
+        return Ok(None);
+    };
+    match text.as_bytes() {
+        [b'"' | b'-' | b'+' | b'0'..=b'9' | b'A'..=b'Z' | b'a'..=b'z'] => Err(CHARACTERS),
+        [byte] if matches!(*byte, b' '..=b'~') => Ok(Some(*byte)),
+        _ if name == "delimiter" && text == "tab" => Ok(Some(b'\t')),
+        _ => Err(CHARACTERS),
     }
-    character(text)
 }
 
 /// Returns the decimal point that an argument names.
-fn decimal(text: &str) -> Option<u8> {
+fn decimal(text: Option<&str>) -> Result<u8, &'static str> {
     match text {
-        "." => Some(b'.'),
-        "," => Some(b','),
-        _ => None,
+        None | Some(".") => Ok(b'.'),
+        Some(",") => Ok(b','),
+        Some(_) => Err("'--decimal <C>' needs . or ,"),
     }
 }
 
 impl<'a> RowArguments<'a> {
-    /// Returns the arguments, if rows are converted.
-    pub(crate) fn of(given: &ArgMatches<'a>) -> Option<Self> {
+    /// Reads the arguments, if rows are converted. The error is what is wrong with one of them.
+    pub(crate) fn read(given: &ArgMatches<'a>) -> Result<Option<Self>, &'static str> {
         let way = match (given.get_flag("csv"), given.get_flag("to-csv")) {
             (true, _) => RowsWay::ToLines,
             (false, true) => RowsWay::ToRows,
-            (false, false) => return None,
+            (false, false) => return Ok(None),
         };
-        Some(RowArguments {
+        Ok(Some(RowArguments {
             way,
             columns: given.get_str("columns"),
             has_header: !given.get_flag("no-header"),
-            delimiter: given
-                .get_str("delimiter")
-                .and_then(delimiter)
-                .unwrap_or(b','),
-            decimal: given.get_str("decimal").and_then(decimal).unwrap_or(b'.'),
-            group: given.get_str("group").and_then(character),
-            replacement: given.get_str("replace").and_then(character),
-        })
+            delimiter: character(given, "delimiter")?.unwrap_or(b','),
+            group: character(given, "group")?,
+            replacement: character(given, "replace")?,
+            decimal: decimal(given.get_str("decimal"))?,
+        }))
     }
 
     /// Whether two of its characters are one, except that cells and numbers may both have commas.
@@ -145,34 +139,21 @@ fn first_excluded(given: &ArgMatches<'_>) -> Option<&'static str> {
 
 /// Returns what is wrong with the arguments for comma-separated values.
 pub(crate) fn bad_rows(given: &ArgMatches<'_>) -> Option<&'static str> {
-    let Some(rows) = RowArguments::of(given) else {
+    if !given.get_flag("csv") && !given.get_flag("to-csv") {
         return first_given(given);
-    };
+    }
     let excluded = first_excluded(given);
     if excluded.is_some() {
         return excluded;
     }
-    if rows.way == RowsWay::ToRows && given.get_str("file").is_none() {
+    if given.get_flag("to-csv") && given.get_str("file").is_none() {
         return Some("'--to-csv' needs '--file <NAME>', the input file whose lines IN has");
     }
-    if has_bad_character(given) {
-        return Some(
-            "'--delimiter <C>', '--group <C>' and '--replace <C>' need one character from blank to ~, no letter, digit, \", - or +; a delimiter may be tab",
-        );
-    }
-    match given.get_str("decimal").map(decimal) {
-        Some(None) => Some("'--decimal <C>' needs . or ,"),
-        _ if rows.mixes() => Some(
+    match RowArguments::read(given) {
+        Err(message) => Some(message),
+        Ok(Some(rows)) if rows.mixes() => Some(
             "'--delimiter <C>', '--decimal <C>' and '--group <C>' need different characters, but each of two may be , where cells are quoted",
         ),
-        _ => None,
+        Ok(_) => None,
     }
-}
-
-/// Whether an argument that needs a character has none.
-fn has_bad_character(given: &ArgMatches<'_>) -> bool {
-    let delimiter = given.get_str("delimiter").map(delimiter);
-    let group = given.get_str("group").map(character);
-    let replacement = given.get_str("replace").map(character);
-    delimiter == Some(None) || group == Some(None) || replacement == Some(None)
 }
