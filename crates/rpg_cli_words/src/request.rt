@@ -4,14 +4,12 @@ ghost use Rattle.std.specs.Prelude.{◌<◌};
 
 use crate::building::matches_of;
 use crate::faults::bad_value;
-use crate::merging::{LinesWay, in_and_out, push_merged};
+use crate::merging::{LinesWay, RowArguments, in_and_out, push_merged};
 use crate::options::{
-    AnswerArguments, CardsWanted, LookArguments, RecordFraming, RecordsWay, TableArgument,
-    WarningArguments,
+    AnswerArguments, CardsWanted, LookArguments, PaperArguments, RecordFraming, RecordsWay,
+    TableArgument, WarningArguments,
 };
-use crate::paper::PaperArguments;
 use crate::refusal::{Refusal, unread};
-use crate::rows::RowArguments;
 use clap::ArgMatches;
 use rpg_cli_values::{DateArgument, byte_of};
 use std::alloc::{AllocError, Global};
