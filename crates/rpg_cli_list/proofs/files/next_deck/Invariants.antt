@@ -1,5 +1,5 @@
 use Rattle.std.proofs.Common.{length}
-use Rattle.rpg_cli_list.proofs.tables.next_deck.Given as goal
+use Rattle.rpg_cli_list.proofs.files.next_deck.Given as goal
 
 abbrev pub decreases-loop-card : goal.decreases-loop-card
 decreases-loop-card l = length l.rest.now
