@@ -1,6 +1,6 @@
 use Rattle.std.proofs.Common.{arith}
 use Rattle.rpg_cli_trace.proofs.Entries.{value_in}
-use Rattle.rpg_cli_trace.proofs.values.number_at.Goals as goal
+use Rattle.rpg_cli_trace.proofs.changes.number_at.Goals as goal
 
 pub number-requires : goal.number-requires
 number-requires g c =

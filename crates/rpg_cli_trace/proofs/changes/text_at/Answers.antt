@@ -1,6 +1,6 @@
 use Rattle.std.proofs.Common.{arith}
 use Rattle.rpg_cli_trace.proofs.Entries.{value_in}
-use Rattle.rpg_cli_trace.proofs.values.text_at.Goals as goal
+use Rattle.rpg_cli_trace.proofs.changes.text_at.Goals as goal
 
 pub text-requires : goal.text-requires
 text-requires g c =
