@@ -2,7 +2,7 @@ use Rattle.std.proofs.Common.{rules, ap, ◌∙◌}
 use Rattle.rpg_cli_programs.proofs.Spelled.{faultless}
 use Rattle.rpg_object.specs.Program.{reading}
 use Rattle.rpg_program.specs.Kept.{IsProgram}
-use Rattle.rpg_cli_programs.proofs.translation.compile_to_object.Goals as goal
+use Rattle.rpg_cli_programs.proofs.judging.compile_to_object.Goals as goal
 
 pub returns-clause-ok : goal.returns-clause-ok
 returns-clause-ok c =
