@@ -5,16 +5,17 @@ ghost use Rattle.rpg_cli_reports.specs.Saying.{PrintsALine};
 use rpg_cli_answers::{Answer, CommandStop, Listener, Reasons};
 use rpg_cli_conversions::{fit_file, records_file};
 use rpg_cli_paper::paper_file;
-use rpg_cli_programs::{cards_file, check_files, compile_files, list_file, show_file, verify_file};
+use rpg_cli_programs::Session;
 use rpg_cli_reports::{
-    Outlet, StandardError, StandardStreams, conclude, explain, refuse, report_unwritten, say,
+    Outlet, StandardError, StandardStreams, conclude, explain, refuse, report_unwritten,
 };
 use rpg_cli_run::{go_files, run_files};
 use rpg_cli_words::{
-    Colours, CommandName, Format, Request, join_codes, refuse_bytes, refuse_same_file,
+    Colours, CommandName, Format, Refusal, Request, join_codes, refuse_bytes, refuse_same_file,
     refuse_unreplaced, request_of,
 };
-use std::io::{Error, ErrorKind, Write};
+use std::alloc::AllocError;
+use std::io::{ErrorKind, Write};
 use std::process::ExitCode;
 use std::rt::{Clock, Env, Files};
 use std::{env, io};
@@ -25,14 +26,14 @@ fn answer_to<R: Clock + Env + Files + Input + Print + AllocGlobal, L: Listener>(
     listener: &mut L,
 ) -> Result<Answer, CommandStop> {
     match request.command {
-        CommandName::Compile => compile_files(rt, request, listener),
-        CommandName::Check => check_files(rt, request, listener),
-        CommandName::List => list_file(rt, request, listener),
-        CommandName::Cards => cards_file(rt, request, listener),
+        CommandName::Compile => Session::of(rt, request, listener).compile(),
+        CommandName::Check => Session::of(rt, request, listener).check(),
+        CommandName::List => Session::of(rt, request, listener).list(),
+        CommandName::Cards => Session::of(rt, request, listener).convert_cards(),
         CommandName::Records => records_file(rt, request, listener),
         CommandName::Fit => fit_file(rt, request, listener),
-        CommandName::Verify => verify_file(rt, request, listener),
-        CommandName::Show => show_file(rt, request, listener),
+        CommandName::Verify => Session::of(rt, request, listener).verify(),
+        CommandName::Show => Session::of(rt, request, listener).show(),
         CommandName::Run => run_files(rt, request, listener),
         CommandName::Go => go_files(rt, request, listener),
         CommandName::Paper => paper_file(rt, request, listener),
@@ -57,12 +58,9 @@ fn obey<R: Clock + Env + Files + Input + Print + Eprint + AllocGlobal, W: Write,
         Err(CommandStop::Job { answer, reasons }) => {
             conclude(alloc, request, &answer, reasons, out, listener)
         }
-        Err(CommandStop::SameFile(same)) => refuse(
-            rt,
-            &refuse_same_file(alloc, same),
-            out,
-            listener,
-        ),
+        Err(CommandStop::SameFile(same)) => {
+            refuse(rt, &refuse_same_file(alloc, same), out, listener)
+        }
         Err(CommandStop::Unreplaced(unreplaced)) => {
             refuse(rt, &refuse_unreplaced(alloc, unreplaced), out, listener)
         }
@@ -100,10 +98,7 @@ fn run_on_streams<R: Clock + Env + Files + Input + Print + Eprint + AllocGlobal>
     is_terminal: bool,
 ) -> u8 {
     match request_of(rt.alloc(), arguments) {
-        Err(refusal) => {
-            let mut listener = StandardStreams::new(rt, Format::Text, false);
-            refuse(rt, &refusal, &mut io::writer(rt), &mut listener)
-        }
+        Err(refusal) => refuse_on_streams(rt, &refusal),
         Ok(mut request) => {
             let has_colours = has_colours(rt, request.answer.colours, is_terminal);
             let mut listener = StandardStreams::new(rt, request.answer.format, has_colours);
@@ -112,22 +107,10 @@ fn run_on_streams<R: Clock + Env + Files + Input + Print + Eprint + AllocGlobal>
     }
 }
 
-/// Rejects arguments that can't be read, since one isn't UTF-8 or memory ran out.
-fn refuse_arguments<R: Print + Eprint + AllocGlobal>(rt: &R, error: &Error) -> u8 {
-    let mut out = io::writer(rt);
+/// Prints why there is no request, and returns the exit status.
+fn refuse_on_streams<R: Print + Eprint + AllocGlobal>(rt: &R, refusal: &Refusal) -> u8 {
     let mut listener = StandardStreams::new(rt, Format::Text, false);
-    if error.kind() == ErrorKind::OutOfMemory {
-        say(
-            rt.alloc(),
-            &mut out,
-            Outlet::STANDARD_OUTPUT,
-            Format::Text,
-            &Answer::NoMemory,
-            &mut listener,
-        )
-    } else {
-        refuse(rt, &refuse_bytes(rt.alloc()), &mut out, &mut listener)
-    }
+    refuse(rt, refusal, &mut io::writer(rt), &mut listener)
 }
 
 /// Whether a variable of the environment is on: 0 turns it off. None if it isn't set, or empty.
@@ -158,7 +141,10 @@ pub(crate) fn main_with<R: Clock + Env + Files + Input + Print + Eprint + AllocG
 ) -> ExitCode {
     let status = match arguments(rt) {
         Ok(arguments) => run_on_streams(rt, arguments.as_slice(), is_terminal),
-        Err(error) => refuse_arguments(rt, &error),
+        Err(error) if error.kind() == ErrorKind::OutOfMemory => {
+            refuse_on_streams(rt, &Refusal::from(AllocError))
+        }
+        Err(_) => refuse_on_streams(rt, &refuse_bytes(rt.alloc())),
     };
     ExitCode::from(status)
 }

@@ -2,20 +2,15 @@
 #![tactic(auto)]
 
 mod answer;
-mod in_place;
-mod json_answer;
-mod objects;
-mod reading;
 mod sharing;
 mod stop;
 mod text;
 
 pub use answer::{Answer, Line, RefusedRow, named};
-pub use in_place::{file_at, file_of, report_in_place, report_placed};
-pub use json_answer::json_line;
-pub use objects::source_object;
-pub use reading::{source_bytes, system_path};
 pub use rpg_cli_files::{Listener, remark_made, tell_all, tell_made};
-pub use sharing::{NamedFile, refuse_replacing, refuse_same_file};
-pub use stop::{CommandStop, Reasons};
-pub use text::line;
+pub use sharing::{
+    NamedFile, file_at, file_of, refuse_replacing, refuse_same_file, report_in_place,
+    report_placed, source_bytes, system_path,
+};
+pub use stop::{CommandStop, Reasons, source_object};
+pub use text::{json_line, line};

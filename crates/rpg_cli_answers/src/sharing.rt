@@ -1,9 +1,19 @@
-//! Files that must not be written: that two arguments name, or that an output may not replace.
+//! The files that arguments name: sources, which are read from their paths or from standard input; files that must not be written, since two
+//! arguments name them, or an output may not replace them; outputs that are written in place, or that a command replaced before it failed.
 
 use crate::answer::{Answer, named};
-use rpg_cli_files::{FileFault, FileIdentity, Opened, Pending, begins_with, identity, identity_at};
-use rpg_cli_words::{Existing, FileArgument, SameFile, Shared, Unreplaced, may_replace};
+use rpg_cli_diagnostics::{Draft, FileName};
+use rpg_cli_files::{
+    FileFault, FileIdentity, Listener, Opened, Patient, Pending, Reason, Replaces, begins_with,
+    file_bytes, identity, identity_at, remark_made, tell_made,
+};
+use rpg_cli_text::TextWriter;
+use rpg_cli_words::{
+    Existing, FileArgument, Request, SameFile, Shared, Unreplaced, is_standard, may_replace,
+};
+use std::alloc::Global;
 use std::fs::OpenFile;
+use std::io::{Error, ErrorKind, Read};
 use std::rt::Files;
 
 /// An argument, and the regular file that it names, if any.
@@ -37,11 +47,10 @@ impl NamedFile {
 
     /// Returns the file that an argument may name.
     pub fn named<R: Files>(rt: &R, argument: FileArgument, path: Option<&str>) -> NamedFile {
-        let identity = match path {
-            Some(path) => identity_at(rt, path),
-            None => None,
-        };
-        NamedFile { argument, identity }
+        NamedFile {
+            argument,
+            identity: path.and_then(|path| identity_at(rt, path)),
+        }
     }
 
     /// Returns an open file of a job, or the one that a standard stream is redirected to, which the
@@ -116,5 +125,96 @@ pub fn refuse_replacing<R: Files>(
         Ok(())
     } else {
         Err(Unreplaced { written, existing })
+    }
+}
+
+/// Returns a file of an argument as diagnostics name it.
+pub fn file_at(argument: FileArgument, path: &str) -> FileName<'_> {
+    FileName {
+        path,
+        role: argument.name(),
+    }
+}
+
+/// Returns the file that an argument names.
+pub fn file_of<'a>(request: &Request<'a>, argument: FileArgument) -> FileName<'a> {
+    file_at(argument, request.file(argument))
+}
+
+/// Reports an output that is written in place, if its old contents were to be kept.
+pub fn report_in_place<F, L: Listener>(
+    alloc: Global,
+    request: &Request,
+    argument: FileArgument,
+    file: &Opened<F>,
+    listener: &mut L,
+) {
+    if let Some(why) = file.in_place() {
+        let place = file_of(request, argument).whole();
+        let pieces = [argument.name().into(), why.into()];
+        let note = Draft::note(alloc, place).filled("{} is written in place: {}", &pieces);
+        tell_made(listener, note);
+    }
+}
+
+/// Reports a new file that was moved to its place, if there is one, since the command fails all the same.
+pub fn report_placed<L: Listener>(
+    alloc: Global,
+    argument: FileArgument,
+    file: &Option<Pending<'_>>,
+    listener: &mut L,
+) {
+    if let Some(file) = file {
+        let mut out = TextWriter::new(alloc);
+        let sentence = match file.replaces() {
+            Replaces::Nothing => "{} was made by this run",
+            Replaces::File => "{} was replaced by what this run wrote",
+        };
+        out.fill_one(sentence, argument.name());
+        remark_made(listener, file_at(argument, file.place()), out.finish());
+    }
+}
+
+/// The most bytes of a source.
+const MOST_BYTES: usize = 16_777_216;
+
+fn input_fault(error: &Error) -> FileFault {
+    match error.kind() {
+        ErrorKind::OutOfMemory => FileFault::NoMemory,
+        kind => FileFault::Input(Reason::of(kind)),
+    }
+}
+
+/// Reads all of standard input.
+fn input_bytes<R: Input + AllocGlobal>(rt: &R) -> Result<Vec<u8>, FileFault> {
+    let mut bytes = Vec::new(rt.alloc());
+    match Patient::new(rt.reader())
+        .take(MOST_BYTES as u64 + 1)
+        .read_to_end(&mut bytes)
+    {
+        Ok(_) if bytes.len() <= MOST_BYTES => Ok(bytes),
+        Ok(_) => Err(FileFault::TooLarge),
+        Err(error) => Err(input_fault(&error)),
+    }
+}
+
+/// Reads a source from a file or from standard input.
+pub fn source_bytes<R: Files + Input + AllocGlobal>(
+    rt: &R,
+    path: &str,
+) -> Result<Vec<u8>, FileFault> {
+    if is_standard(path) {
+        input_bytes(rt)
+    } else {
+        file_bytes(rt, path)
+    }
+}
+
+/// Returns the path by which the system knows a source.
+pub fn system_path(path: &str) -> &str {
+    if is_standard(path) {
+        "/dev/stdin"
+    } else {
+        path
     }
 }

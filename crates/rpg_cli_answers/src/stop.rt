@@ -1,9 +1,11 @@
-//! What ends a command before its work is done.
+//! What ends a command before its work is done, and the answer for one of several sources as a JSON object.
 
 use crate::answer::Answer;
+use json::Writer;
+use rpg_cli_diagnostics::{Made, line_of};
 use rpg_cli_files::Reason;
 use rpg_cli_words::{SameFile, Unreplaced};
-use std::alloc::AllocError;
+use std::alloc::{AllocError, Global};
 
 /// What ends a command before its work is done.
 #[derive(Clone, Copy)]
@@ -65,4 +67,18 @@ impl From<Reason> for CommandStop {
     fn from(reason: Reason) -> CommandStop {
         CommandStop::Unshown(reason)
     }
+}
+
+/// Returns the answer for one of several sources, as an object on a line of its own.
+pub fn source_object(alloc: Global, path: &str, answer: &str, status: u8) -> Made<String> {
+    let mut out = Writer::new(Vec::new(alloc));
+    out.begin_object()?;
+    out.key("file")?;
+    out.string(path)?;
+    out.key("answer")?;
+    out.string(answer)?;
+    out.key("status")?;
+    out.u64(status.into())?;
+    out.end_object()?;
+    line_of(out)
 }

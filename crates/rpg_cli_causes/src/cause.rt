@@ -2,13 +2,13 @@
 
 use crate::data::write_data;
 use crate::files::{write_file, write_movement};
-use crate::labels::{write_nowhere, write_target, write_twice};
-use crate::missing::{write_column, write_field, write_rounding};
-use crate::names::{write_redefined, write_undefined};
+use crate::names::{write_nowhere, write_redefined, write_target, write_twice, write_undefined};
 use crate::operands::{write_editing, write_index, write_operand};
 use crate::order::{write_order, write_stray};
 use crate::places::{write_join, write_outside};
-use crate::sizes::{write_bad_indicator, write_limit, write_size};
+use crate::sizes::{
+    write_bad_indicator, write_column, write_field, write_limit, write_rounding, write_size,
+};
 use crate::spot::{SourceCards, Spot};
 use rpg_cli_text::TextWriter;
 use rpg_faults::{CardFault, Cause, OperandCause, OrderCause};
@@ -93,9 +93,8 @@ fn text_of(spot: Spot<'_>, entry: Option<&Entry>) -> Option<Root> {
 /// Returns a text field used as a number or edited: the marked field, or factor 1 if factor 2 is of another kind.
 fn text_root(spot: Spot<'_>) -> Option<Root> {
     match text_of(spot, spot.entry()) {
-        Some(root) => Some(root),
         None if spot.column() == 33 => text_of(spot, spot.first_factor()),
-        None => None,
+        root => root,
     }
 }
 
@@ -103,13 +102,10 @@ fn text_root(spot: Spot<'_>) -> Option<Root> {
 fn root_in(spot: Spot<'_>, cause: &Cause) -> Option<Root> {
     match cause {
         Cause::UndefinedName(name) => Some(Root::Unknown(padded(name.as_slice()))),
-        Cause::Operand(
-            OperandCause::TextOperand { .. }
-            | OperandCause::EditedText(_)
-            | OperandCause::Unlike { .. },
-        ) => text_root(spot),
+        Cause::Operand(OperandCause::TextOperand { .. } | OperandCause::EditedText(_))
+        | Cause::Operand(OperandCause::Unlike { .. })
+        | Cause::Editing(_) => text_root(spot),
         Cause::Order(OrderCause::Early { card, .. }) => Some(Root::Later(*card)),
-        Cause::Editing(_) => text_root(spot),
         _ => None,
     }
 }

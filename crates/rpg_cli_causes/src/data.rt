@@ -22,17 +22,14 @@ fn write_need(out: &mut TextWriter, need: Need) {
 
 const TOO_WIDE: &str = ": {} entries a card of {} columns take {}, and a card has 80";
 
+const ENTRY: &str = ": entry {} of {}, on card {}, ";
+
 fn write_entry(out: &mut TextWriter, spot: Spot<'_>, cause: &EntryCause) {
     let text = spot
         .data_of_card(cause.card, cause.column, usize::from(cause.length))
         .unwrap_or(&[]);
     let name = cause.name.as_slice();
-    out.fill_three(
-        ": entry {} of {}, on card {}, ",
-        cause.number,
-        name,
-        cause.card,
-    );
+    out.fill_three(ENTRY, cause.number, name, cause.card);
     let sentence = match cause.fault {
         EntryFault::NoNumber => "is \"{}\", which isn't a number",
         EntryFault::Lower => "is \"{}\", which is lower than entry {}",

@@ -1,13 +1,10 @@
 //! Explains why a card has a fault of F1 to F18: the name, the other card, the limit and the number.
 #![tactic(auto)]
 
-mod card_lines;
 mod cause;
 mod data;
 mod files;
 mod forms;
-mod labels;
-mod missing;
 mod names;
 mod near;
 mod operands;
@@ -16,7 +13,6 @@ mod places;
 mod sizes;
 mod spot;
 
-pub use card_lines::CardLines;
 pub use cause::{Root, root_of, write_cause};
 pub use near::NearNames;
-pub use spot::{SourceCards, definer};
+pub use spot::{CardLines, SourceCards, definer};

@@ -3,7 +3,7 @@
 
 ghost use Rattle.std.specs.Prelude.{◌≤◌, length};
 
-use crate::labels::given_on;
+use crate::names::given_on;
 use crate::spot::Spot;
 use rpg_cards::{Named, SpecCard, given_form};
 use rpg_cli_text::{TextWriter, is_near};
@@ -68,23 +68,11 @@ pub struct NearNames {
 
 /// Whether a fault has a name that no card defines.
 const fn has_unknown_name(fault: &CardFault) -> bool {
-    matches!(
-        &fault.cause,
-        Some(
-            Cause::UndefinedName(_)
-                | Cause::File(FileCause::Unknown { .. })
-                | Cause::Nowhere(NowhereCause::Absent(_))
-        )
-    )
-}
-
-fn any_has_unknown_name(faults: &[&CardFault]) -> bool {
-    for fault in faults {
-        if has_unknown_name(fault) {
-            return true;
-        }
+    match &fault.cause {
+        Some(Cause::UndefinedName(_) | Cause::File(FileCause::Unknown { .. })) => true,
+        Some(Cause::Nowhere(NowhereCause::Absent(_))) => true,
+        _ => false,
     }
-    false
 }
 
 impl NearNames {
@@ -100,7 +88,7 @@ impl NearNames {
             whole: HashSet::new(alloc),
             places: HashMap::new(alloc),
         };
-        if any_has_unknown_name(faults) {
+        if faults.iter().any(|fault| has_unknown_name(fault)) {
             for card in cards {
                 names.note_card(card)?;
             }
@@ -154,13 +142,15 @@ impl NearNames {
     }
 
     fn next_of(&self, places: &[usize], name: &[u8], from: usize) -> usize {
-        for place in places {
-            if matches!(self.at(*place), Some(known) if from <= *place && is_near(name, known.name.as_slice()))
-            {
-                return *place;
-            }
-        }
-        self.names.len()
+        let is_next = |place: &usize| match self.at(*place) {
+            Some(known) => from <= *place && is_near(name, known.name.as_slice()),
+            None => false,
+        };
+        places
+            .iter()
+            .copied()
+            .find(is_next)
+            .unwrap_or(self.names.len())
     }
 
     pub(crate) fn at(&self, place: usize) -> Option<&KnownName> {

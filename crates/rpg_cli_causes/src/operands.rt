@@ -51,7 +51,10 @@ pub(crate) fn write_operand(out: &mut TextWriter, spot: Spot<'_>, cause: &Operan
         OperandCause::Unwritable => {
             out.write_str("UDATE is the date, and no calculation can change it");
         }
-        OperandCause::TooFew { found, searched } => write_too_few(out, spot, *found, *searched),
+        OperandCause::TooFew { found, searched } => {
+            write_entries(out, spot.text_in(ColumnRange::ResultName), *found);
+            out.fill_one(TOO_FEW, *searched);
+        }
         OperandCause::EditedText(text) => write_edited(out, spot, text),
         OperandCause::BlankedDate(name) => out.fill_one(
             "{} is the date, and can't be blanked: take B out of column 39",
@@ -69,11 +72,6 @@ fn write_unlike(out: &mut TextWriter, operation: &[u8], first: FieldForm, second
 }
 
 const TOO_FEW: &str = "what is searched has {}: the result needs as many";
-
-fn write_too_few(out: &mut TextWriter, spot: Spot<'_>, found: u16, searched: u16) {
-    write_entries(out, spot.text_in(ColumnRange::ResultName), found);
-    out.fill_one(TOO_FEW, searched);
-}
 
 fn write_edited(out: &mut TextWriter, spot: Spot<'_>, text: &TextField) {
     let name = match &text.name {

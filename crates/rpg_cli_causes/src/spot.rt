@@ -1,6 +1,5 @@
-//! A fault's card among the others, and its contents.
+//! A fault's card among the others, and its contents; the lines of a source's cards.
 
-use crate::card_lines::CardLines;
 use crate::near::NearNames;
 use rpg_card_index::IndexedCards;
 use rpg_cards::{Defined, SpecCard};
@@ -37,31 +36,22 @@ pub(crate) struct Spot<'a> {
 pub(crate) fn text_at(line: &[u8], first: usize, last: usize) -> &[u8] {
     let before = first.saturating_sub(1);
     let text = trimmed(line.get(before..last.min(line.len())).unwrap_or(&[]));
-    for (place, byte) in text.iter().enumerate() {
-        if *byte != b' ' {
-            return text.get(place..).unwrap_or(&[]);
-        }
-    }
-    &[]
+    let blanks = text.iter().take_while(|byte| **byte == b' ').count();
+    text.get(blanks..).unwrap_or(&[])
 }
 
 impl<'a> Spot<'a> {
     pub fn of(source: SourceCards<'a>, line: &'a [u8], fault: &CardFault) -> Option<Self> {
-        let card = card_at(source.cards.as_slice(), fault.card)?;
-        let columns = fault.columns;
         Some(Spot {
             source,
             line,
-            card,
-            columns,
+            card: card_at(source.cards.as_slice(), fault.card)?,
+            columns: fault.columns,
         })
     }
 
     pub fn column(self) -> u8 {
-        match self.columns {
-            Some(columns) => columns.column,
-            None => 0,
-        }
+        self.columns.map_or(0, |columns| columns.column)
     }
 
     pub fn text_in(self, range: ColumnRange) -> &'a [u8] {
@@ -70,10 +60,8 @@ impl<'a> Spot<'a> {
     }
 
     pub fn is_extension(self, number: u16) -> bool {
-        match card_at(self.source.cards.as_slice(), number) {
-            Some(card) => card.extension().is_some(),
-            None => false,
-        }
+        let card = card_at(self.source.cards.as_slice(), number);
+        card.is_some_and(|card| card.extension().is_some())
     }
 
     pub fn operation(self) -> &'a [u8] {
@@ -126,43 +114,62 @@ impl<'a> Spot<'a> {
 
 /// Returns the first card that defines a name.
 pub fn definer<'a>(cards: &'a [SpecCard], name: &[u8]) -> Option<&'a SpecCard> {
-    for card in cards {
-        if defines(card, name) {
-            return Some(card);
-        }
-    }
-    None
+    cards.iter().find(|card| defines(card, name))
 }
 
 /// Returns the card with this number. No more cards come before it than its number says, and only comments are left out.
 fn card_at(cards: &[SpecCard], number: u16) -> Option<&SpecCard> {
-    let mut rest = cards.get(..usize::from(number)).unwrap_or(cards);
-    while let Some((card, before)) = rest.split_last() {
-        if card.number <= number {
-            return if card.number == number {
-                Some(card)
-            } else {
-                None
-            };
-        }
-        rest = before;
-    }
-    None
+    let before = cards.get(..usize::from(number)).unwrap_or(cards);
+    let card = before.iter().rfind(|card| card.number <= number)?;
+    (card.number == number).then_some(card)
 }
 
 fn defines(card: &SpecCard, name: &[u8]) -> bool {
     let definitions = card.definitions();
-    for definition in definitions.as_slice() {
-        if definition.name.as_slice() == name {
-            return true;
-        }
-    }
-    false
+    let mut definitions = definitions.as_slice().iter();
+    definitions.any(|definition| definition.name.as_slice() == name)
 }
 
 fn factor_entry(factor: &Option<Factor>) -> Option<&Entry> {
     match factor {
         Some(Factor::Entry(entry)) => Some(entry),
         Some(Factor::Literal(_)) | None => None,
+    }
+}
+
+/// Iterates over the lines of a source.
+#[derive(Drop)]
+pub struct CardLines<'a> {
+    rest: &'a [u8],
+    line: &'a [u8],
+    card: u16,
+}
+
+impl<'a> CardLines<'a> {
+    pub fn of(source: &'a [u8]) -> Self {
+        CardLines {
+            rest: source,
+            line: &[],
+            card: 0,
+        }
+    }
+
+    /// Whether lines come after the last one requested.
+    pub fn has_more(&self) -> bool {
+        !self.rest.is_empty()
+    }
+
+    /// Returns the line of a card, which isn't before the last one requested. Empty for card 0 and for cards after the
+    /// last.
+    pub fn line_of(&mut self, card: u16) -> &'a [u8] {
+        for _ in self.card..card {
+            if self.rest.is_empty() {
+                self.line = &[];
+                break;
+            }
+            (self.line, self.rest) = rpg_text::first_line(self.rest);
+        }
+        self.card = self.card.max(card);
+        self.line
     }
 }

@@ -7,13 +7,11 @@ mod card;
 mod features;
 mod operations;
 mod pattern;
-mod range;
 mod refused;
 mod sheets;
 mod shift;
 mod unread;
 
-pub use pattern::{character_at, text_in};
-pub use range::begins_range;
+pub use pattern::{begins_range, character_at, text_in};
 pub use refused::{before_comma, capitalised, write_bad_columns, write_form_type};
 pub use unread::{has_card_number, pointed_at};

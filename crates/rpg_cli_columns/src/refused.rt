@@ -2,8 +2,7 @@
 
 use crate::card::CardKind;
 use crate::operations::{add_near_operations, is_operation};
-use crate::pattern::{character_at, text_in, write_columns};
-use crate::range::{Range, WantedRange, range_of};
+use crate::pattern::{Range, WantedRange, character_at, range_of, text_in, write_columns};
 use crate::shift::{add_card_move, add_moves, is_readable};
 use crate::unread::{Unread, feature_at, has_number_after};
 use rpg_cli_diagnostics::Draft;
@@ -52,12 +51,7 @@ pub fn write_form_type(draft: &mut Draft<'_>, line: &[u8]) {
 
 /// Whether a card begins with an asterisk, as if it were a comment.
 fn is_starred(line: &[u8]) -> bool {
-    for byte in line {
-        if *byte != b' ' {
-            return *byte == b'*';
-        }
-    }
-    false
+    line.iter().copied().find(|byte| *byte != b' ') == Some(b'*')
 }
 
 const NUMBER_AFTER: &str =
@@ -112,12 +106,10 @@ pub fn capitalised(line: &[u8], columns: ColumnFault) -> Option<[u8; 80]> {
 
 /// Returns a text up to its first comma.
 pub fn before_comma(text: &[u8]) -> &[u8] {
-    for (place, byte) in text.iter().enumerate() {
-        if *byte == b',' {
-            return text.get(..place).unwrap_or(text);
-        }
+    match text.iter().position(|byte| *byte == b',') {
+        Some(place) => text.get(..place).unwrap_or(text),
+        None => text,
     }
-    text
 }
 
 /// Returns the length of a name in a factor, up to its index, if that is too long.
@@ -197,22 +189,15 @@ fn write_column_numbers(out: &mut TextWriter, columns: ColumnFault) {
 
 /// Whether a text has a small letter.
 fn has_small_letter(text: &[u8]) -> bool {
-    for byte in text {
-        if byte.is_ascii_lowercase() {
-            return true;
-        }
-    }
-    false
+    text.iter().any(|byte| byte.is_ascii_lowercase())
 }
 
 /// Whether a text is a letter, and letters and digits after it.
 fn is_word(text: &[u8]) -> bool {
-    for byte in text {
-        if !byte.is_ascii_uppercase() && !byte.is_ascii_digit() {
-            return false;
-        }
-    }
     matches!(text, [b'A'..=b'Z', ..])
+        && text
+            .iter()
+            .all(|byte| matches!(byte, b'A'..=b'Z' | b'0'..=b'9'))
 }
 
 /// Whether columns that may have a text between apostrophes have the first apostrophe and no other.
@@ -221,12 +206,8 @@ fn is_unclosed(line: &[u8], columns: ColumnFault) -> bool {
     if !matches!((column, last), (18, 27) | (33, 42) | (45, 70)) {
         return false;
     }
-    for place in column.saturating_add(1)..=last {
-        if character_at(line, usize::from(place)) == b'\'' {
-            return false;
-        }
-    }
-    character_at(line, usize::from(column)) == b'\''
+    let is_apostrophe = |place: u8| character_at(line, usize::from(place)) == b'\'';
+    is_apostrophe(column) && !(column.saturating_add(1)..=last).any(is_apostrophe)
 }
 
 /// Writes what the columns may hold.
@@ -246,12 +227,7 @@ fn write_wanted(out: &mut TextWriter, line: &[u8], columns: ColumnFault, range: 
 
 /// Whether all columns of a range are filled.
 fn is_full(line: &[u8], first: u8, last: u8) -> bool {
-    for column in first..=last {
-        if character_at(line, usize::from(column)) == b' ' {
-            return false;
-        }
-    }
-    true
+    (first..=last).all(|column| character_at(line, usize::from(column)) != b' ')
 }
 
 /// Writes that a name which continues from the columns before these may be too long for its own.

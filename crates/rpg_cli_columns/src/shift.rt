@@ -1,8 +1,7 @@
 //! Texts that are shifted by a column or two from the columns they belong in.
 
 use crate::card::CardKind;
-use crate::pattern::{character_at, write_columns};
-use crate::range::{WantedRange, range_of};
+use crate::pattern::{WantedRange, character_at, range_of, write_columns};
 use rpg_cli_diagnostics::Draft;
 use rpg_sheet::{Card, ColumnFault};
 use rpg_text::has_only_characters;
@@ -68,12 +67,9 @@ impl Move {
 fn has_room(line: &[u8], run: Run, by: Move) -> bool {
     let first = by.applied_to(run.first);
     let last = by.applied_to(run.last);
-    for column in first..=last {
-        if !run.has(column) && character_at(line, column) != b' ' {
-            return false;
-        }
-    }
-    first > 0 && last <= COLUMNS
+    let mut columns = first..=last;
+    let is_free = columns.all(|column| run.has(column) || character_at(line, column) == b' ');
+    is_free && first > 0 && last <= COLUMNS
 }
 
 /// Returns the character in a column after a text is shifted.
@@ -138,21 +134,13 @@ fn word_at(line: &[u8], column: usize) -> Run {
 }
 
 fn word_end(line: &[u8], column: usize) -> usize {
-    for at in column..LAST {
-        if character_at(line, at.saturating_add(1)) == b' ' {
-            return at;
-        }
-    }
-    LAST
+    let mut columns = column..LAST;
+    let end = columns.find(|at| character_at(line, at.saturating_add(1)) == b' ');
+    end.unwrap_or(LAST)
 }
 
 fn first_filled(line: &[u8]) -> Option<usize> {
-    for column in FIRST..=LAST {
-        if character_at(line, column) != b' ' {
-            return Some(column);
-        }
-    }
-    None
+    (FIRST..=LAST).find(|column| character_at(line, *column) != b' ')
 }
 
 /// Returns the whole text of a card from a column on.

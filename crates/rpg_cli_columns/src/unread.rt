@@ -49,12 +49,8 @@ impl Unread {
 
 /// Whether one of some patterns fits a card from a column on.
 fn any_is_at(line: &[u8], column: u8, patterns: &str) -> bool {
-    for pattern in patterns.split(' ') {
-        if is_at(line, usize::from(column), pattern.as_bytes()) {
-            return true;
-        }
-    }
-    false
+    let mut patterns = patterns.split(' ');
+    patterns.any(|pattern| is_at(line, usize::from(column), pattern.as_bytes()))
 }
 
 /// Whether rejected columns of a card are those of a place and match one of its patterns.
@@ -81,13 +77,7 @@ fn first_at(letter: u8, line: &[u8], columns: ColumnFault) -> Option<Unread> {
 
 /// Whether columns 1 to 5 hold only blanks and a number, as a card's may.
 pub fn has_card_number(line: &[u8]) -> bool {
-    for column in 1..FORM_TYPE {
-        let character = character_at(line, column);
-        if character != b' ' && !character.is_ascii_digit() {
-            return false;
-        }
-    }
-    true
+    (1..FORM_TYPE).all(|column| matches!(character_at(line, column), b' ' | b'0'..=b'9'))
 }
 
 /// The first and the last column after those that RPG II uses.
@@ -101,14 +91,10 @@ pub(crate) fn has_number_after(line: &[u8], columns: ColumnFault) -> bool {
     if columns.column < AFTER.column {
         return false;
     }
-    for column in AFTER.column..=AFTER.last {
-        let character = character_at(line, usize::from(column));
-        let is_before = column == AFTER.column && character == b' ';
-        if !is_before && !character.is_ascii_digit() {
-            return false;
-        }
-    }
-    true
+    let is_digit = |column: u8| character_at(line, usize::from(column)).is_ascii_digit();
+    let is_blank = character_at(line, usize::from(AFTER.column)) == b' ';
+    (is_blank || is_digit(AFTER.column))
+        && (AFTER.column.saturating_add(1)..=AFTER.last).all(is_digit)
 }
 
 /// Returns which feature of RPG II rejected columns hold, and the workaround; None if they hold no known feature.

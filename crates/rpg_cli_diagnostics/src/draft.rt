@@ -1,6 +1,6 @@
 //! Diagnostics under construction.
 
-use crate::value::{Child, Diagnostic, Level, Place};
+use crate::value::{Child, Diagnostic, Level, Made, Place};
 use rpg_cli_text::{Piece, TextWriter, Topic};
 use std::alloc::{AllocError, Global};
 
@@ -56,40 +56,23 @@ impl<'a> Draft<'a> {
             self.ran_out = true;
             return;
         };
-        if self.children.push(Child { place, message }).is_err() {
-            self.ran_out = true;
-        }
+        self.ran_out |= self.children.push(Child { place, message }).is_err();
     }
 
     /// Adds a remark about the same place, which isn't shown again.
     pub fn remark(&mut self, message: TextWriter) {
-        let place = match self.place {
-            Some(place) => Some(place.without_picture()),
-            None => None,
-        };
+        let place = self.place.map(|place| place.without_picture());
         self.add(place, message);
     }
 
     /// Returns the diagnostic, after a sentence with a piece at each of its places.
-    ///
-    /// # Errors
-    ///
-    /// Memory ran out for one of its parts.
-    pub fn filled(
-        mut self,
-        sentence: &str,
-        pieces: &[Piece<'_>],
-    ) -> Result<Diagnostic<'a>, AllocError> {
+    pub fn filled(mut self, sentence: &str, pieces: &[Piece<'_>]) -> Made<Diagnostic<'a>> {
         self.message.fill(sentence, pieces);
         self.finish()
     }
 
     /// Returns the diagnostic.
-    ///
-    /// # Errors
-    ///
-    /// Memory ran out for one of its parts.
-    pub fn finish(self) -> Result<Diagnostic<'a>, AllocError> {
+    pub fn finish(self) -> Made<Diagnostic<'a>> {
         let Draft {
             level,
             place,
@@ -128,7 +111,7 @@ impl<'a> Diagnostics<'a> {
     }
 
     /// Adds a diagnostic. After one that memory ran out for, none is added.
-    pub fn push(&mut self, made: Result<Diagnostic<'a>, AllocError>) {
+    pub fn push(&mut self, made: Made<Diagnostic<'a>>) {
         match made {
             Ok(diagnostic) if !self.ran_out => {
                 self.ran_out = self.list.push(diagnostic).is_err();

@@ -1,47 +1,32 @@
 //! A diagnostic as a JSON object: docs/diagnostics.schema.json describes it.
 
-use crate::value::{At, Columns, Diagnostic, Level, Line, Place};
+use crate::value::{At, Columns, Diagnostic, Level, Line, Made, Place};
 use json::Writer;
 use rpg_cli_text::{TextWriter, Topic};
 use rpg_text::trimmed;
 use std::alloc::{AllocError, Global};
 
-fn write_member(out: &mut Writer, name: &str, text: &str) -> Result<(), AllocError> {
+fn write_member(out: &mut Writer, name: &str, text: &str) -> Made<()> {
     out.key(name)?;
     out.string(text)
 }
 
-fn write_number(out: &mut Writer, name: &str, number: u64) -> Result<(), AllocError> {
+fn write_number(out: &mut Writer, name: &str, number: u64) -> Made<()> {
     out.key(name)?;
     out.u64(number)
 }
 
 /// Writes the first column and the one after the last, under these names.
-fn write_columns(
-    out: &mut Writer,
-    first: &str,
-    last: &str,
-    columns: Columns,
-) -> Result<(), AllocError> {
+fn write_columns(out: &mut Writer, first: &str, last: &str, columns: Columns) -> Made<()> {
     write_number(out, first, columns.first as u64)?;
     write_number(out, last, (columns.last as u64).saturating_add(1))
 }
 
-/// Returns a line as it is shown.
-fn shown_line(alloc: Global, line: Line<'_>) -> Result<String, AllocError> {
-    let mut text = TextWriter::new(alloc);
-    text.write_shown(trimmed(line.bytes));
-    text.finish()
-}
-
 /// Writes the text of a line, with its columns.
-fn write_marked(
-    alloc: Global,
-    out: &mut Writer,
-    line: Line<'_>,
-    columns: Columns,
-) -> Result<(), AllocError> {
-    let shown = shown_line(alloc, line)?;
+fn write_marked(alloc: Global, out: &mut Writer, line: Line, columns: Columns) -> Made<()> {
+    let mut shown = TextWriter::new(alloc);
+    shown.write_shown(trimmed(line.bytes));
+    let shown = shown.finish()?;
     out.key("text")?;
     out.begin_array()?;
     out.begin_object()?;
@@ -51,7 +36,7 @@ fn write_marked(
     out.end_array()
 }
 
-fn write_line(alloc: Global, out: &mut Writer, line: Line<'_>) -> Result<(), AllocError> {
+fn write_line(alloc: Global, out: &mut Writer, line: Line<'_>) -> Made<()> {
     write_number(out, "line_start", line.number)?;
     write_number(out, "line_end", line.number)?;
     let Some(columns) = line.columns else {
@@ -64,15 +49,12 @@ fn write_line(alloc: Global, out: &mut Writer, line: Line<'_>) -> Result<(), All
     write_marked(alloc, out, line, columns)
 }
 
-fn write_at(alloc: Global, out: &mut Writer, at: At<'_>) -> Result<(), AllocError> {
+fn write_at(alloc: Global, out: &mut Writer, at: At<'_>) -> Made<()> {
     match at {
         At::Whole => Ok(()),
         At::Line(line) => write_line(alloc, out, line),
-        At::Record {
-            number: record,
-            byte,
-        } => {
-            write_number(out, "record", record)?;
+        At::Record { number, byte } => {
+            write_number(out, "record", number)?;
             write_number(out, "byte", byte)
         }
         At::Row(row) => write_number(out, "row", row),
@@ -80,26 +62,16 @@ fn write_at(alloc: Global, out: &mut Writer, at: At<'_>) -> Result<(), AllocErro
     }
 }
 
-/// Writes which argument names the file, if that is known.
-fn write_role(out: &mut Writer, role: &str) -> Result<(), AllocError> {
-    if role.is_empty() {
-        return Ok(());
-    }
-    write_member(out, "role", role)
-}
-
 /// Writes the places: one, or none.
-fn write_spans(
-    alloc: Global,
-    out: &mut Writer,
-    place: Option<Place<'_>>,
-) -> Result<(), AllocError> {
+fn write_spans(alloc: Global, out: &mut Writer, place: Option<Place>) -> Made<()> {
     out.key("spans")?;
     out.begin_array()?;
     if let Some(place) = place {
         out.begin_object()?;
         write_member(out, "file_name", place.file.path)?;
-        write_role(out, place.file.role)?;
+        if !place.file.role.is_empty() {
+            write_member(out, "role", place.file.role)?;
+        }
         write_at(alloc, out, place.at)?;
         out.end_object()?;
     }
@@ -107,7 +79,7 @@ fn write_spans(
 }
 
 /// Returns a paragraph as one line.
-fn joined(alloc: Global, paragraph: &str) -> Result<String, AllocError> {
+fn joined(alloc: Global, paragraph: &str) -> Made<String> {
     let mut text = TextWriter::new(alloc);
     for character in paragraph.chars() {
         text.write_char(if character == '\n' { ' ' } else { character });
@@ -116,7 +88,7 @@ fn joined(alloc: Global, paragraph: &str) -> Result<String, AllocError> {
 }
 
 /// Writes a code, and what to do.
-fn write_topic(alloc: Global, out: &mut Writer, topic: Topic) -> Result<(), AllocError> {
+fn write_topic(alloc: Global, out: &mut Writer, topic: Topic) -> Made<()> {
     let mut code = TextWriter::new(alloc);
     topic.write_code(&mut code);
     let code = code.finish()?;
@@ -135,7 +107,7 @@ fn write_open(
     message: &str,
     code: Option<Topic>,
     place: Option<Place<'_>>,
-) -> Result<(), AllocError> {
+) -> Made<()> {
     out.begin_object()?;
     write_member(out, "level", level.text())?;
     write_member(out, "message", message)?;
@@ -150,7 +122,7 @@ fn write_open(
 }
 
 /// Ends an object whose children are complete.
-pub fn end_object(out: &mut Writer) -> Result<(), AllocError> {
+pub fn end_object(out: &mut Writer) -> Made<()> {
     out.end_array()?;
     out.end_object()
 }
@@ -161,17 +133,13 @@ pub fn write_note_object(
     out: &mut Writer,
     place: Option<Place<'_>>,
     message: &str,
-) -> Result<(), AllocError> {
+) -> Made<()> {
     write_open(alloc, out, Level::Note, message, None, place)?;
     end_object(out)
 }
 
 /// Writes a diagnostic as an object with its remarks. More of them may follow before [`end_object`].
-pub fn begin_object(
-    alloc: Global,
-    out: &mut Writer,
-    told: &Diagnostic<'_>,
-) -> Result<(), AllocError> {
+pub fn begin_object(alloc: Global, out: &mut Writer, told: &Diagnostic) -> Made<()> {
     let message = told.message.as_str();
     write_open(alloc, out, told.level, message, told.code, told.place)?;
     for child in &told.children {
@@ -181,7 +149,7 @@ pub fn begin_object(
 }
 
 /// Returns what was written, as a line.
-pub fn line_of(out: Writer) -> Result<String, AllocError> {
+pub fn line_of(out: Writer) -> Made<String> {
     let mut bytes = out.into_inner();
     bytes.push(b'\n')?;
     match String::from_utf8(bytes) {

@@ -32,10 +32,7 @@ pub fn write_card(out: &mut TextWriter, line: &[u8]) {
 
 /// Writes a ruler in tens of columns, long enough for the text of a line and for its columns.
 fn write_ruler(out: &mut TextWriter, line: Line<'_>) {
-    let last = match line.columns {
-        Some(columns) => columns.last,
-        None => 0,
-    };
+    let last = line.columns.map_or(0, |columns| columns.last);
     let columns = trimmed(line.bytes).len().max(last).min(COLUMNS);
     out.write_str(RULER.get(..(columns + 9) / 10 * 10).unwrap_or(RULER));
 }
@@ -58,14 +55,15 @@ fn write_marks(out: &mut TextWriter, line: Line<'_>, columns: Columns) {
 }
 
 fn write_mark_line(out: &mut TextWriter, line: Line<'_>, columns: Columns, has_colours: bool) {
+    let (begin, end) = if has_colours {
+        (BOLD_RED, PLAIN)
+    } else {
+        ("", "")
+    };
     out.write_str(MARGIN);
-    if has_colours {
-        out.write_str(BOLD_RED);
-    }
+    out.write_str(begin);
     write_marks(out, line, columns);
-    if has_colours {
-        out.write_str(PLAIN);
-    }
+    out.write_str(end);
     out.write_char('\n');
 }
 

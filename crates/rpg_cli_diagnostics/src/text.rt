@@ -6,10 +6,7 @@ use rpg_cli_text::TextWriter;
 
 /// Returns the first column of a line; 1 if the whole line is meant.
 fn column_of(line: Line<'_>) -> usize {
-    match line.columns {
-        Some(columns) => columns.first,
-        None => 1,
-    }
+    line.columns.map_or(1, |columns| columns.first)
 }
 
 /// Writes the file, and a line with its column.
@@ -31,11 +28,15 @@ fn write_head(out: &mut TextWriter, place: Option<Place<'_>>, level: Level) {
 
 /// Writes the line of a place, if it is shown.
 fn write_shown_line(out: &mut TextWriter, place: Option<Place<'_>>, has_colours: bool) {
-    if let Some(place) = place {
-        if let At::Line(line) = place.at {
-            if line.is_shown {
-                write_picture(out, line, has_colours);
-            }
+    if let Some(
+        Place {
+            at: At::Line(line),
+            ..
+        },
+    ) = place
+    {
+        if line.is_shown {
+            write_picture(out, line, has_colours);
         }
     }
 }

@@ -1,6 +1,10 @@
 //! What a diagnostic says, and where it points.
 
 use rpg_cli_text::Topic;
+use std::alloc::AllocError;
+
+/// What was made, unless memory ran out for it.
+pub type Made<T> = Result<T, AllocError>;
 
 /// How bad it is.
 #[derive(Clone, Copy, PartialEq, Eq)]
@@ -91,46 +95,36 @@ impl<'a> FileName<'a> {
 
     /// A line of the file with these columns, of which there is no picture.
     pub fn unshown(self, number: u64, columns: Option<Columns>, bytes: &'a [u8]) -> Place<'a> {
-        Place {
-            file: self,
-            at: At::Line(Line {
-                number,
-                columns,
-                bytes,
-                new: &[],
-                is_shown: false,
-            }),
-        }
+        let at = At::Line(Line {
+            number,
+            columns,
+            bytes,
+            new: &[],
+            is_shown: false,
+        });
+        Place { file: self, at }
     }
 
     /// A card of the file. Card 0 is the source as a whole, which is shown as its first line, without a picture.
     pub fn card(self, card: u16, columns: Option<Columns>, bytes: &'a [u8]) -> Place<'a> {
-        Place {
-            file: self,
-            at: At::Line(Line {
-                number: u64::from(card.max(1)),
-                columns,
-                bytes,
-                new: &[],
-                is_shown: card > 0,
-            }),
-        }
+        let place = self.unshown(u64::from(card.max(1)), columns, bytes);
+        place.with_picture(card > 0)
     }
 }
 
 impl<'a> Place<'a> {
+    /// Returns the same place, with a picture if it is a line and that is wanted.
+    fn with_picture(self, is_shown: bool) -> Place<'a> {
+        let at = match self.at {
+            At::Line(line) => At::Line(Line { is_shown, ..line }),
+            at => at,
+        };
+        Place { at, ..self }
+    }
+
     /// Returns the same place, without a picture.
     pub fn without_picture(self) -> Place<'a> {
-        match self.at {
-            At::Line(line) => Place {
-                at: At::Line(Line {
-                    is_shown: false,
-                    ..line
-                }),
-                ..self
-            },
-            _ => self,
-        }
+        self.with_picture(false)
     }
 }
 

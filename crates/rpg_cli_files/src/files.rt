@@ -1,12 +1,11 @@
-//! Whole files, by path.
+//! Whole files, by path; why a file failed, and devices that are interrupted again and again.
 
-ghost use Rattle.std.specs.Prelude.{◌≡◌, ◌-◌, ◌^◌, ◌<◌, ◌≤◌, length, IfOk};
+ghost use Rattle.std.specs.Prelude.{◌≡◌, ◌-◌, ◌^◌, ◌<◌, ◌≤◌, length, IfOk, Ok};
 ghost use Rattle.std.specs.Io.KnownBytes.{Keeps};
 ghost use Rattle.rpg_files.specs.Counting.{device_of, faults_after, faults_of};
 
-use crate::patience::Patient;
-use crate::reason::Reason;
-use rpg_files::Counted;
+use rpg_files::{Counted, most_tries};
+use std::alloc::AllocError;
 use std::fs::{self, File, Metadata, OpenFile};
 use std::io::{self, Error, ErrorKind, Read, Write};
 use std::os::unix::fs::MetadataExt;
@@ -27,6 +26,12 @@ pub enum FileFault {
     /// A file that is read as a whole is longer than 16,777,216 bytes.
     TooLarge,
     NoMemory,
+}
+
+impl From<AllocError> for FileFault {
+    fn from(_: AllocError) -> Self {
+        FileFault::NoMemory
+    }
 }
 
 fn input_fault(error: Error) -> FileFault {
@@ -117,9 +122,7 @@ pub fn file_bytes<R: Files + AllocGlobal>(rt: &R, path: &str) -> Result<Vec<u8>,
     let (file, about) = opened(rt, path)?;
     // A byte more than the file has, so that the read that finds its end has room.
     let room = about.len().min(MOST_BYTES as u64) as usize + 1;
-    let Ok(mut bytes) = Vec::with_capacity(rt.alloc(), room) else {
-        return Err(FileFault::NoMemory);
-    };
+    let mut bytes = Vec::with_capacity(rt.alloc(), room)?;
     Patient::new(file)
         .take(MOST_BYTES as u64 + 1)
         .read_to_end(&mut bytes)
@@ -158,5 +161,120 @@ pub fn flush_device<W: Write>(writer: &mut Counted<W>) -> Result<(), FileFault>
     match writer.flush() {
         Ok(()) => Ok(()),
         Err(error) => Err(output_fault(error)),
+    }
+}
+
+/// How many calls of a device in a row were interrupted.
+#[derive(Clone, Copy)]
+pub(crate) struct Patience {
+    interrupts: u32,
+}
+
+impl Patience {
+    pub const NEW: Patience = Patience { interrupts: 0 };
+
+    /// Takes the answer of a call. Returns it, but after 1,000 interrupts in a row a fault: nothing tries again then.
+    pub fn of(&mut self, answer: io::Result<usize>) -> io::Result<usize>
+        ensures { IfOk result (λ n. answer ≡ Ok n) }
+    {
+        match answer {
+            Err(error) if error.kind() == ErrorKind::Interrupted => {
+                self.interrupts = self.interrupts.saturating_add(1);
+                if self.interrupts >= most_tries() {
+                    Err(Error::from(ErrorKind::Other))
+                } else {
+                    Err(error)
+                }
+            }
+            other => {
+                self.interrupts = 0;
+                other
+            }
+        }
+    }
+}
+
+/// A reader that fails after 1,000 interrupts in a row.
+#[derive(Drop)]
+pub struct Patient<R> {
+    reader: R,
+    patience: Patience,
+}
+
+impl<R: Read> Patient<R> {
+    pub fn new(reader: R) -> Patient<R> {
+        Patient {
+            reader,
+            patience: Patience::NEW,
+        }
+    }
+}
+
+impl<R: Read> Read for Patient<R> {
+    fn read(&mut self, buf: &mut [u8]) -> io::Result<usize> {
+        self.patience.of(self.reader.read(buf))
+    }
+}
+
+/// Why a file can't be opened, read, created or written, as far as the system distinguishes reasons.
+#[derive(Clone, Copy)]
+pub enum Reason {
+    Missing,
+    NotAllowed,
+    /// All names that were tried for a new file are taken.
+    Taken,
+    /// A new file can't be given to the group of the old one.
+    Group,
+    Folder,
+    /// A part of the path is a file.
+    NoFolder,
+    ReadOnly,
+    Full,
+    /// The arguments allow no more bytes.
+    Limit,
+    TooLarge,
+    /// The reader of the output closed it.
+    Closed,
+    Name,
+    /// A folder can't be written as a file, a device doesn't exist, or another fault.
+    Other,
+}
+
+impl Reason {
+    pub fn of(kind: ErrorKind) -> Self {
+        match kind {
+            ErrorKind::NotFound => Reason::Missing,
+            ErrorKind::PermissionDenied => Reason::NotAllowed,
+            ErrorKind::AlreadyExists => Reason::Taken,
+            ErrorKind::IsADirectory => Reason::Folder,
+            ErrorKind::NotADirectory => Reason::NoFolder,
+            ErrorKind::ReadOnlyFilesystem => Reason::ReadOnly,
+            ErrorKind::StorageFull | ErrorKind::QuotaExceeded => Reason::Full,
+            ErrorKind::FileTooLarge => Reason::TooLarge,
+            ErrorKind::BrokenPipe => Reason::Closed,
+            ErrorKind::InvalidFilename | ErrorKind::FilesystemLoop | ErrorKind::InvalidInput => {
+                Reason::Name
+            }
+            _ => Reason::Other,
+        }
+    }
+
+    /// Returns the reason in words.
+    pub fn text(self) -> &'static str {
+        match self {
+            Reason::Missing => "no such file or directory",
+            Reason::NotAllowed => "permission denied",
+            Reason::Taken => "file exists",
+            Reason::Group => "its group can't be given to a new file",
+            Reason::Folder => "is a directory",
+            Reason::NoFolder => "a part of the path is no directory",
+            Reason::ReadOnly => "the file system is read-only",
+            Reason::Full => "no space left on device",
+            Reason::Limit => "--most-bytes allows no more",
+            Reason::TooLarge => "the file would be too large",
+            Reason::Closed => "nobody reads it",
+            Reason::Name => "no file can have that name",
+            Reason::Other => "the system refuses it",
+        }
     }
 }

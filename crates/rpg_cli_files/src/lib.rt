@@ -4,22 +4,17 @@
 
 mod files;
 mod listener;
-mod patience;
 mod pending;
-mod reason;
 mod replacing;
 mod sending;
 mod streams;
-mod window;
 
 pub use files::{
-    FileFault, FileIdentity, begins_with, file_bytes, flush_device, identity, identity_at,
-    input_file, output_file,
+    FileFault, FileIdentity, Patient, Reason, begins_with, file_bytes, flush_device, identity,
+    identity_at, input_file, output_file,
 };
 pub use listener::{Listener, remark_made, tell_all, tell_made};
-pub use patience::Patient;
 pub use pending::{KeptFile, Pending, kept_file};
-pub use reason::Reason;
 pub use replacing::{InPlace, Replaces, write_bytes};
 pub use sending::{send_line, send_text};
 pub use streams::{LineTarget, Opened, RecordSource, lines, records};

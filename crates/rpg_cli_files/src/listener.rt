@@ -1,6 +1,6 @@
 //! Where a command prints its text, apart from the line of its answer.
 
-use crate::reason::Reason;
+use crate::files::Reason;
 use rpg_cli_diagnostics::{Diagnostic, Diagnostics, FileName, Place};
 use std::alloc::AllocError;
 

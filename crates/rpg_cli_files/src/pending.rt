@@ -119,9 +119,7 @@ impl<'a> Pending<'a> {
     /// Whether a path leads to the file's place, where there may be no file yet: the new one is found beside it.
     pub fn goes_to<R: Files + AllocGlobal>(&self, rt: &R, path: &str) -> Result<bool, FileFault> {
         let Target { path, .. } = target_of(rt, path)?;
-        let Ok(beside) = name_beside(rt.alloc(), path.as_str(), self.number) else {
-            return Err(FileFault::NoMemory);
-        };
+        let beside = name_beside(rt.alloc(), path.as_str(), self.number)?;
         let own = identity_at(rt, self.new.as_str());
         Ok(own.is_some() && identity_at(rt, beside.as_str()) == own)
     }

@@ -1,10 +1,9 @@
 //! A file that is written completely before it replaces the existing one.
 
-use crate::files::{FileFault, beside_fault, output_fault};
+use crate::files::{FileFault, Reason, beside_fault, output_fault};
 use crate::listener::{Listener, tell_made};
-use crate::reason::Reason;
 use crate::sending::send_bytes;
-use rpg_cli_diagnostics::{Diagnostic, Draft, FileName};
+use rpg_cli_diagnostics::{Draft, FileName};
 use std::alloc::{AllocError, Global};
 use std::fs::{self, File, Metadata, OpenFile};
 use std::io::{ErrorKind, Write};
@@ -100,10 +99,8 @@ fn is_stream(path: &str) -> bool {
 /// Returns where the link at a path leads.
 fn linked<R: Files + AllocGlobal>(rt: &R, path: &str) -> Result<String, FileFault> {
     let link = fs::read_link(rt, path).map_err(output_fault)?;
-    match Path::new(path).with_file_name(rt.alloc(), link.as_str()) {
-        Ok(target) => Ok(target.into_string()),
-        Err(_) => Err(FileFault::NoMemory),
-    }
+    let target = Path::new(path).with_file_name(rt.alloc(), link.as_str())?;
+    Ok(target.into_string())
 }
 
 /// A place without links on its last part: its path, and what exists there.
@@ -115,9 +112,7 @@ pub(crate) struct Target {
 
 /// Follows the links at a path.
 pub(crate) fn target_of<R: Files + AllocGlobal>(rt: &R, path: &str) -> Result<Target, FileFault> {
-    let Ok(mut path) = format!(in rt.alloc(); "{path}") else {
-        return Err(FileFault::NoMemory);
-    };
+    let mut path = format!(in rt.alloc(); "{path}")?;
     for _ in 0..LINKS {
         let place = match fs::symlink_metadata(rt, path.as_str()) {
             _ if is_stream(path.as_str()) => Place::Other,
@@ -147,9 +142,7 @@ fn numbered_beside<R: Files + AllocGlobal>(
     number: u32,
     replaces: Replaces,
 ) -> Result<Option<Beside<R::File>>, FileFault> {
-    let Ok(path) = name_beside(rt.alloc(), path, number) else {
-        return Err(FileFault::NoMemory);
-    };
+    let path = name_beside(rt.alloc(), path, number)?;
     match File::create_new(rt, path.as_str()) {
         Ok(file) => Ok(Some(Beside {
             file,
@@ -168,22 +161,20 @@ const LEFT: &str =
 const SEVERAL_LEFT: &str =
     "{}.0.new to {}.{}.new were left by runs that were killed, or other runs write them: remove them if none runs";
 
+const NOT_REMOVED: &str = "it is left there, since it can't be removed: {}";
+
 /// Begins a note on a file, whose argument isn't known.
 fn note(alloc: Global, path: &str) -> Draft<'_> {
     Draft::note(alloc, FileName { path, role: "" }.whole())
 }
 
-/// Returns the note that files of other runs are beside a file, so many of them.
-fn taken_note(alloc: Global, path: &str, count: u32) -> Result<Diagnostic<'_>, AllocError> {
-    let (name, last) = (path.as_bytes(), u64::from(count.saturating_sub(1)));
-    let sentence = if count == 1 { LEFT } else { SEVERAL_LEFT };
-    note(alloc, path).filled(sentence, &[name.into(), name.into(), last.into()])
-}
-
 /// Reports the names beside a file that other runs have taken, so many of them.
 pub(crate) fn report_taken<L: Listener>(alloc: Global, path: &str, count: u32, listener: &mut L) {
     if count > 0 {
-        tell_made(listener, taken_note(alloc, path, count));
+        let (name, last) = (path.as_bytes(), u64::from(count - 1));
+        let sentence = if count == 1 { LEFT } else { SEVERAL_LEFT };
+        let pieces = [name.into(), name.into(), last.into()];
+        tell_made(listener, note(alloc, path).filled(sentence, &pieces));
     }
 }
 
@@ -201,14 +192,6 @@ fn new_beside<R: Files + AllocGlobal>(
     Err(FileFault::Beside(Reason::Taken))
 }
 
-/// Returns the note that a new file can't be removed.
-fn left_note(alloc: Global, path: &str, reason: Reason) -> Result<Diagnostic<'_>, AllocError> {
-    note(alloc, path).filled(
-        "it is left there, since it can't be removed: {}",
-        &[reason.text().into()],
-    )
-}
-
 /// Removes a new file, if it is there. Reports one that can't be removed.
 pub(crate) fn remove_new<R: Files + AllocGlobal, L: Listener>(
     rt: &R,
@@ -217,8 +200,9 @@ pub(crate) fn remove_new<R: Files + AllocGlobal, L: Listener>(
 ) {
     if let Err(error) = fs::remove_file(rt, path) {
         if error.kind() != ErrorKind::NotFound {
-            let reason = Reason::of(error.kind());
-            tell_made(listener, left_note(rt.alloc(), path, reason));
+            let reason = Reason::of(error.kind()).text();
+            let told = note(rt.alloc(), path).filled(NOT_REMOVED, &[reason.into()]);
+            tell_made(listener, told);
         }
     }
 }
@@ -336,9 +320,8 @@ pub fn write_bytes<R: Files + AllocGlobal, L: Listener>(
     listener: &mut L,
 ) -> Result<(), FileFault> {
     let written = match new_file(rt, path, listener) {
-        Ok(written) => written,
         Err(FileFault::Beside(_)) => return overwrite(rt, path, bytes),
-        Err(fault) => return Err(fault),
+        written => written?,
     };
     let Written { target, writing } = written;
     match writing {

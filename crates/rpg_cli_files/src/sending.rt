@@ -5,7 +5,7 @@ ghost use Rattle.std.specs.Io.KnownBytes.{Appends, WriteAppends};
 ghost use Rattle.rpg_files.specs.Sending.{AppendsFirst, AppendsPrefix};
 ghost use Rattle.rpg_text.specs.Lines.{with_line_feed};
 
-use crate::reason::Reason;
+use crate::files::Reason;
 use rpg_files::most_tries;
 use std::io::{ErrorKind, Write};
 

@@ -1,12 +1,10 @@
-//! The sources of records and targets of printed lines: files, or the standard streams.
+//! The sources of records and targets of printed lines: files, or the standard streams; and the bytes that were read last, for the
+//! diagnostic of a halt.
 
 ghost use Rattle.std.specs.Prelude.{◌≡◌, ◌≤◌, min, IfSome, None};
 
-use crate::files::{FileFault, empty_file};
-use crate::patience::Patience;
-use crate::reason::Reason;
+use crate::files::{FileFault, Patience, Reason, empty_file};
 use crate::replacing::InPlace;
-use crate::window::Window;
 use std::alloc::Global;
 use std::cell::Cell;
 use std::fs::OpenFile;
@@ -136,24 +134,11 @@ fn fault_of<T>(answer: &io::Result<T>) -> Option<Reason> {
 
 impl<F, S> RecordSource<F, S> {
     /// Returns the same source, which keeps the bytes that it reads last: at least all of the last line. Without memory it keeps none.
-    pub fn keeping(self, alloc: Global) -> RecordSource<F, S> {
-        let RecordSource {
-            from,
-            fault,
-            patience,
-            ..
-        } = self;
-        let window = if matches!(from, Source::Nothing) {
-            Window::closed(alloc)
-        } else {
-            Window::open(alloc)
-        };
-        RecordSource {
-            from,
-            fault,
-            patience,
-            window,
+    pub fn keeping(mut self, alloc: Global) -> RecordSource<F, S> {
+        if !matches!(self.from, Source::Nothing) {
+            self.window = Window::open(alloc);
         }
+        self
     }
 
     /// Returns why the last read failed, if it did.
@@ -257,5 +242,57 @@ impl<F: Write + OpenFile, P: Write> Write for LineTarget<'_, F, P> {
             Target::New(file) => file.sync_all(),
             Target::StandardOutput(printer) => printer.flush(),
         }
+    }
+}
+
+/// How many earlier bytes are kept at least: more than the longest line that can be a record.
+const EARLIER: usize = 16_384;
+
+/// Room for the most bytes that a job reads at once, with as many earlier ones before and after what is dropped.
+const ROOM: usize = 65_536 + 3 * EARLIER;
+
+/// The bytes that were read last. Its memory is allocated once; without it, it stays empty.
+#[derive(Drop)]
+pub(crate) struct Window {
+    bytes: Vec<u8>,
+}
+
+impl Window {
+    /// A window that keeps nothing.
+    pub fn closed(alloc: Global) -> Window {
+        Window {
+            bytes: Vec::new(alloc),
+        }
+    }
+
+    pub fn open(alloc: Global) -> Window {
+        match Vec::with_capacity(alloc, ROOM) {
+            Ok(bytes) => Window { bytes },
+            Err(_) => Window::closed(alloc),
+        }
+    }
+
+    /// Keeps bytes that were read, in place of earlier ones if there is no room for all.
+    pub fn add(&mut self, bytes: &[u8]) {
+        if self.bytes.capacity() < ROOM {
+            return;
+        }
+        if self.bytes.len().saturating_add(bytes.len()) > ROOM && self.bytes.len() > EARLIER {
+            let from = self.bytes.len() - EARLIER;
+            self.bytes.copy_within(from.., 0);
+            self.bytes.truncate(EARLIER);
+        }
+        let _ = self.bytes.extend_from_slice(bytes);
+    }
+
+    /// Whether the last bytes, so many of them, have a line feed.
+    pub fn has_line_feed(&self, left: usize) -> bool {
+        let from = self.bytes.len().saturating_sub(left);
+        self.bytes[from..].contains(&b'\n')
+    }
+
+    /// Returns the bytes.
+    pub fn into_bytes(self) -> Vec<u8> {
+        self.bytes
     }
 }

@@ -1,20 +1,22 @@
-//! Halts.
+//! Halts, and the columns of a record that should be a number but aren't.
 
-use crate::columns::{BadInput, bad_columns, columns_of};
 use crate::held::{HaltedRecord, Lower};
-use crate::lines::write_indexed_fields;
-use crate::record::{bad_byte, write_too_long};
-use crate::source::{HaltedSource, add_source};
-use crate::types::{add_commas, add_types};
-use rpg_cli_diagnostics::{Columns, Diagnostic, Draft, FileName, Level, Place as FilePlace};
+use crate::source::HaltedSource;
+use crate::types::{add_commas, add_types, write_indexed_fields, write_too_long};
+use rpg_cli_diagnostics::{Columns, Diagnostic, Draft, FileName, Level, Made, Place as FilePlace};
 use rpg_cli_messages::write_byte_cause;
 use rpg_cli_refusals::write_instruction_at;
 use rpg_cli_text::{TextWriter, Topic};
+use rpg_decimal::read_zoned;
+use rpg_program::form::Kind;
+use rpg_program::forms::{form_at, kind_of};
 use rpg_program::halt::Halt;
-use rpg_program::input::InputFile;
+use rpg_program::input::{InputField, InputFile};
+use rpg_program::rows::Rows;
 use rpg_program::section::{Place, Section};
+use rpg_text::is_character;
 use rpg_verify::Verified;
-use std::alloc::{AllocError, Global};
+use std::alloc::Global;
 
 /// A halt in a cycle, counted from 1, and the place of the instruction that halted, if one did.
 #[derive(Clone, Copy)]
@@ -111,17 +113,13 @@ enum RecordProblem<'a> {
 }
 
 impl<'a> RecordProblem<'a> {
-    fn of(
-        program: &'a Verified,
-        halted: HaltedCycle,
-        record: &'a HaltedRecord<'_>,
-    ) -> Option<Self> {
+    fn of(program: &'a Verified, halted: HaltedCycle, record: &'a HaltedRecord) -> Option<Self> {
         let rows = program.program().rows();
         match (halted.place, halted.halt) {
             (None, Halt::BadRecord) => {
                 let text = record.text;
                 let length = usize::from(rows.input_length(record.file));
-                match bad_byte(text) {
+                match text.iter().position(|byte| !is_character(*byte)) {
                     Some(place) => Some(RecordProblem::Byte(place, text)),
                     None if text.len() > length => Some(RecordProblem::TooLong(length, text)),
                     None => None,
@@ -140,11 +138,9 @@ impl<'a> RecordProblem<'a> {
     fn columns(self) -> Option<(Columns, &'a [u8])> {
         let (first, last, text) = match self {
             RecordProblem::Nothing => return None,
-            RecordProblem::Input(bad, text) => (
-                usize::from(bad.input.from),
-                usize::from(bad.input.to),
-                text,
-            ),
+            RecordProblem::Input(bad, text) => {
+                (bad.input.from.into(), bad.input.to.into(), text)
+            }
             RecordProblem::Byte(before, text) | RecordProblem::TooLong(before, text) => {
                 let column = before.saturating_add(1);
                 (column, column, text)
@@ -159,16 +155,14 @@ impl<'a> RecordProblem<'a> {
 fn write_columns(out: &mut TextWriter, bad: BadInput, text: &[u8]) {
     let BadInput { input, column, .. } = bad;
     let character = text.get(column.saturating_sub(1)..column).unwrap_or(&[]);
-    out.fill(
-        ": columns {} to {} are \"{}\", and {} in column {} isn't a digit",
-        &[
-            input.from.into(),
-            input.to.into(),
-            columns_of(text, input).into(),
-            character.into(),
-            column.into(),
-        ],
+    let columns = columns_of(text, input);
+    out.fill_three(
+        ": columns {} to {} are \"{}\"",
+        input.from,
+        input.to,
+        columns,
     );
+    out.fill_two(", and {} in column {} isn't a digit", character, column);
 }
 
 const LOWER: &str = "match value \"{}\" is lower than \"{}\" of ";
@@ -245,12 +239,11 @@ impl<'a> HaltContext<'a> {
                 out.fill_one("record {} was the last one", record)
             }
             (Some((_, record)), _, _) => out.fill_one("it was record {}", record),
-            (None, _, Some(secondary)) if has_two_files(self.program) => out.fill_three(
-                "it was cycle {} over {} and {}",
-                cycle,
-                self.names.primary.path.as_bytes(),
-                secondary.path.as_bytes(),
-            ),
+            (None, _, Some(secondary)) if has_two_files(self.program) => {
+                let (first, second) = (self.names.primary.path, secondary.path);
+                out.fill_one("it was cycle {} over ", cycle);
+                out.fill_two("{} and {}", first.as_bytes(), second.as_bytes());
+            }
             (None, _, _) if before == 0 => {
                 out.write_str("it was the first cycle, which reads record 1")
             }
@@ -283,22 +276,6 @@ fn place_of(
     }
 }
 
-/// Adds what else is wrong with the record of a halt.
-fn add_record<'a>(
-    draft: &mut Draft<'a>,
-    program: &Verified,
-    found: RecordProblem<'_>,
-    record: &HaltedRecord<'_>,
-    source: Option<HaltedSource<'a>>,
-) {
-    let rows = program.program().rows();
-    match found {
-        RecordProblem::Input(_, _) => add_commas(draft, rows, record),
-        RecordProblem::NoType(_) => add_types(draft, rows, record, source),
-        _ => {}
-    }
-}
-
 /// Returns the diagnostic for a halt of a job by this program over the records of these files. The record shows what was wrong with it and,
 /// of two files, which it came from; the program's source shows which card it was.
 pub fn halt_diagnostic<'a>(
@@ -308,13 +285,9 @@ pub fn halt_diagnostic<'a>(
     halted: HaltedCycle,
     record: Option<&'a HaltedRecord<'_>>,
     source: Option<HaltedSource<'a>>,
-) -> Result<Diagnostic<'a>, AllocError> {
-    let found = match record {
-        Some(record) => RecordProblem::of(program, halted, record).unwrap_or(
-            RecordProblem::Nothing,
-        ),
-        None => RecordProblem::Nothing,
-    };
+) -> Made<Diagnostic<'a>> {
+    let found = record.and_then(|record| RecordProblem::of(program, halted, record));
+    let found = found.unwrap_or(RecordProblem::Nothing);
     let context = HaltContext {
         names,
         program,
@@ -331,14 +304,60 @@ pub fn halt_diagnostic<'a>(
             RecordProblem::Input(bad, _) => Some(bad),
             _ => None,
         };
-        add_source(&mut draft, program, halted, bad, source);
+        source.add_cards(&mut draft, program.program(), halted, bad);
     }
-    if let Some(record) = record {
-        add_record(&mut draft, program, found, record, source);
+    let rows = program.program().rows();
+    match (record, found) {
+        (Some(record), RecordProblem::Input(_, _)) => add_commas(&mut draft, rows, record),
+        (Some(record), RecordProblem::NoType(_)) => add_types(&mut draft, rows, record, source),
+        _ => {}
     }
     let mut remark = draft.text();
     context.write_cycle(&mut remark);
     context.write_kept(&mut remark);
     draft.add(Some(context.file().whole()), remark);
     draft.finish()
+}
+
+/// An input field whose columns aren't a number, by its record type and its place there, both counted from 0.
+#[derive(Clone, Copy)]
+pub(crate) struct BadInput {
+    pub row: usize,
+    pub number: usize,
+    pub input: InputField<u16>,
+    /// The column whose character isn't a digit, counted from 1.
+    pub column: usize,
+}
+
+pub(crate) fn columns_of(text: &[u8], input: InputField<u16>) -> &[u8] {
+    let from = usize::from(input.from).saturating_sub(1);
+    text.get(from..usize::from(input.to)).unwrap_or(&[])
+}
+
+/// Returns the column of the first character that isn't allowed in a numeric input field, if there is one.
+fn bad_column(rows: &Rows, text: &[u8], input: InputField<u16>) -> Option<usize> {
+    let part = columns_of(text, input);
+    if part.is_empty() || part.len() > 15 {
+        return None;
+    }
+    match (kind_of(form_at(rows, input.field)), read_zoned(part)) {
+        (Kind::Number, Err(bad)) => Some(usize::from(input.from).saturating_add(bad.spot)),
+        _ => None,
+    }
+}
+
+/// Returns the first columns of a record that should be a number but aren't, in the order of its type's input fields.
+pub(crate) fn bad_columns(rows: &Rows, record: &HaltedRecord<'_>) -> Option<BadInput> {
+    let row = record.row?;
+    for (number, input) in rows.types.get(row)?.inputs.iter().enumerate() {
+        if let Some(column) = bad_column(rows, record.filled(), *input) {
+            return Some(BadInput {
+                row,
+                number,
+                input: *input,
+                column,
+            });
+        }
+    }
+    None
 }

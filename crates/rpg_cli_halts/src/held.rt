@@ -63,16 +63,6 @@ fn first_column(fields: &[ControlField]) -> usize {
     usize::from(column)
 }
 
-fn line_feeds(bytes: &[u8]) -> u64 {
-    let mut count = 0u64;
-    for byte in bytes {
-        if *byte == b'\n' {
-            count = count.saturating_add(1);
-        }
-    }
-    count
-}
-
 /// A record of a file: its text, padded to its length, and its match value.
 #[derive(Drop)]
 struct Taken {
@@ -125,7 +115,8 @@ impl<'a> LastRead<'a> {
 /// Returns the number of the last earlier record with a match value, if it is among the bytes.
 fn followed(program: &Verified, read: LastRead<'_>, taken: &mut Taken) -> Option<u64> {
     let (before, _) = read.parted();
-    let mut number = read.number.saturating_sub(line_feeds(before));
+    let lines = before.iter().filter(|byte| **byte == b'\n').count();
+    let mut number = read.number.saturating_sub(lines as u64);
     let mut found = None;
     // A line that isn't the first of the file may have lost its beginning.
     let mut is_whole = number == 1;

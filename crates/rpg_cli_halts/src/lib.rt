@@ -1,11 +1,8 @@
 //! The diagnostic for a job that halted.
 #![tactic(auto)]
 
-mod columns;
 mod halts;
 mod held;
-mod lines;
-mod record;
 mod source;
 mod types;
 

@@ -10,7 +10,7 @@ use Rattle.rpg_cli_answers.specs.declared.answer.Answer.{Answer}
 use Rattle.rpg_cli_answers.specs.declared.answer.Answer.TheVariants as answers
 use Rattle.rpg_cli_jobs.specs.Dated.{date_answer}
 use Rattle.rpg_cli_jobs.specs.Limits.{asked_answer, limit_of}
-use Rattle.rpg_cli_jobs.specs.declared.wanted.WantedFiles.{WantedFiles}
+use Rattle.rpg_cli_jobs.specs.declared.limits.WantedFiles.{WantedFiles}
 use Rattle.rpg_cli_words.specs.declared.request.Request.{Request}
 
 -- the path of a file that the program has; one that it hasn't is ignored

@@ -6,13 +6,12 @@ ghost use Rattle.std.specs.List.{list_all};
 ghost use Rattle.rpg_cli_jobs.specs.Dated as words;
 
 use rpg_cli_answers::{Answer, Listener, tell_made};
-use rpg_cli_diagnostics::{Diagnostic, Draft, Level};
+use rpg_cli_diagnostics::{Draft, Level};
 use rpg_cli_show_fields::uses_date;
 use rpg_cli_values::{DateOrder, are_no_date};
 use rpg_cli_words::{DateArgument, Request};
 use rpg_engine::{Program, RunFault};
 use rpg_today::today;
-use std::alloc::{AllocError, Global};
 use std::rt::{Clock, Env, Files};
 
 /// Requires a date if the program uses it and the arguments have none.
@@ -21,13 +20,8 @@ pub(crate) fn has_date(program: &Program, date: Option<DateArgument<'_>>) -> Res
 {
     match date {
         Some(_) => Ok(()),
-        None => {
-            if uses_date(program) {
-                Err(Answer::DateWanted)
-            } else {
-                Ok(())
-            }
-        }
+        None if uses_date(program) => Err(Answer::DateWanted),
+        None => Ok(()),
     }
 }
 
@@ -66,12 +60,7 @@ fn todays_digits<R: Clock + Env + Files + AllocGlobal>(
     }
 }
 
-fn odd_date_diagnostic(alloc: Global, text: &str) -> Result<Diagnostic<'static>, AllocError> {
-    Draft::new(alloc, Level::Warning, None, None).filled(
-        "--date {} isn't a calendar date: UDATE holds it as it is",
-        &[text.into()],
-    )
-}
+const ODD_DATE: &str = "--date {} isn't a calendar date: UDATE holds it as it is";
 
 /// Reads the clock if the arguments ask for today's date, and warns about six digits that aren't a calendar date.
 pub fn settle_date<R: Clock + Env + Files + AllocGlobal, L: Listener>(
@@ -85,7 +74,8 @@ pub fn settle_date<R: Clock + Env + Files + AllocGlobal, L: Listener>(
             request.set_today(todays_digits(rt, order)?);
         }
         Some(DateArgument::Written(text)) if are_no_date(text) => {
-            tell_made(listener, odd_date_diagnostic(rt.alloc(), text));
+            let draft = Draft::new(rt.alloc(), Level::Warning, None, None);
+            tell_made(listener, draft.filled(ODD_DATE, &[text.into()]));
         }
         _ => {}
     }

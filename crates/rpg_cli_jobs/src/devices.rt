@@ -1,7 +1,7 @@
 //! The files of a run: opened, compared with one another, emptied, and read and written as devices.
 
 use crate::keeping::Kept;
-use crate::wanted::WantedFiles;
+use crate::limits::WantedFiles;
 use rpg_cli_answers::{
     Answer, CommandStop, Listener, NamedFile, named, refuse_replacing, refuse_same_file,
     report_in_place, system_path,
@@ -11,9 +11,7 @@ use rpg_cli_files::{
     records,
 };
 use rpg_cli_words::{FileArgument, Request, is_standard};
-use std::alloc::Global;
 use std::cell::Cell;
-use std::fs::OpenFile;
 use std::io::Printer;
 use std::rt::Files;
 
@@ -34,29 +32,16 @@ pub fn open_files<'a, R: Files + AllocGlobal, L: Listener>(
     kept: &mut Kept<'a>,
     listener: &mut L,
 ) -> Result<RunFiles<R::File>, Answer> {
-    let input = read_file(rt, FileArgument::Input, request.input)?;
-    let secondary = read_file(rt, FileArgument::Secondary, wanted.secondary)?;
-    let print = written_file(
-        rt,
-        request,
-        FileArgument::Print,
-        request.print,
-        &mut kept.print,
-        listener,
-    )?;
-    let disk = written_file(
-        rt,
-        request,
-        FileArgument::Disk,
-        wanted.disk,
-        &mut kept.disk,
-        listener,
-    )?;
+    let keeps = request.keeps;
+    let (print, disk) = (
+        (FileArgument::Print, request.print),
+        (FileArgument::Disk, wanted.disk),
+    );
     Ok(RunFiles {
-        input,
-        secondary,
-        print,
-        disk,
+        input: read_file(rt, FileArgument::Input, request.input)?,
+        secondary: read_file(rt, FileArgument::Secondary, wanted.secondary)?,
+        print: written_file(rt, keeps, print, &mut kept.print, listener)?,
+        disk: written_file(rt, keeps, disk, &mut kept.disk, listener)?,
     })
 }
 
@@ -73,19 +58,19 @@ fn read_file<R: Files>(
     }
 }
 
-/// Opens a file for writing, if there is one, or creates a new one beside it, which goes into `new`.
+/// Opens the file of an argument for writing, if there is one, or creates a new one beside it, which goes into `new`.
 fn written_file<'a, R: Files + AllocGlobal, L: Listener>(
     rt: &R,
-    request: &Request,
-    argument: FileArgument,
-    path: Option<&'a str>,
+    keeps: bool,
+    output: (FileArgument, Option<&'a str>),
     new: &mut Option<Pending<'a>>,
     listener: &mut L,
 ) -> Result<Opened<R::File>, Answer> {
+    let (argument, path) = output;
     match path {
         None => Ok(Opened::Nothing),
         Some(path) if is_standard(path) => Ok(Opened::Standard),
-        Some(path) if request.keeps => {
+        Some(path) if keeps => {
             let KeptFile { opened, pending } = named(argument, kept_file(rt, path, listener))?;
             *new = pending;
             Ok(opened)
@@ -141,23 +126,8 @@ fn refuse_program<R: Files>(
     }
 }
 
-/// Empties an output file. Reports one that is written in place, though it was to be kept, and what other runs left beside it.
-fn empty_file<F: OpenFile, L: Listener>(
-    alloc: Global,
-    request: &Request,
-    argument: FileArgument,
-    file: &Opened<F>,
-    new: &Option<Pending<'_>>,
-    listener: &mut L,
-) -> Result<(), Answer> {
-    if let Some(new) = new {
-        new.report_taken(alloc, listener);
-    }
-    report_in_place(alloc, request, argument, file, listener);
-    named(argument, file.empty())
-}
-
-/// Empties the output files, unless another argument names one of them, or it isn't replaced.
+/// Empties the output files, unless another argument names one of them, or it isn't replaced. Reports one that is written in place, though
+/// it was to be kept, and what other runs left beside it.
 pub fn empty_files<R: Files + AllocGlobal, L: Listener>(
     rt: &R,
     request: &Request,
@@ -166,23 +136,17 @@ pub fn empty_files<R: Files + AllocGlobal, L: Listener>(
     listener: &mut L,
 ) -> Result<(), CommandStop> {
     refuse_shared(rt, request, files, kept)?;
-    let alloc = rt.alloc();
-    empty_file(
-        alloc,
-        request,
-        FileArgument::Print,
-        &files.print,
-        &kept.print,
-        listener,
-    )?;
-    Ok(empty_file(
-        alloc,
-        request,
-        FileArgument::Disk,
-        &files.disk,
-        &kept.disk,
-        listener,
-    )?)
+    for (argument, file, new) in [
+        (FileArgument::Print, &files.print, &kept.print),
+        (FileArgument::Disk, &files.disk, &kept.disk),
+    ] {
+        if let Some(new) = new {
+            new.report_taken(rt.alloc(), listener);
+        }
+        report_in_place(rt.alloc(), request, argument, file, listener);
+        named(argument, file.empty())?;
+    }
+    Ok(())
 }
 
 /// What a run reads and writes.

@@ -54,14 +54,6 @@ fn put_in_place<R: Files>(rt: &R, file: &Option<Pending<'_>>) -> Result<(), File
     }
 }
 
-/// Returns what became of a file, if the new one was left beside its place.
-fn left_text(file: &Pending<'_>) -> &'static str {
-    match file.replaces() {
-        Replaces::Nothing => "not made",
-        Replaces::File => "left as it was",
-    }
-}
-
 /// Returns the message about a file that stays as it was: what became of it, and where its part is.
 fn left_message(
     alloc: Global,
@@ -69,13 +61,12 @@ fn left_message(
     file: &Pending<'_>,
     part: &str,
 ) -> Result<String, AllocError> {
+    let sentence = match file.replaces() {
+        Replaces::Nothing => "{} is not made; what this run wrote is in {}",
+        Replaces::File => "{} is left as it was; what this run wrote is in {}",
+    };
     let mut out = TextWriter::new(alloc);
-    out.fill_three(
-        "{} is {}; what this run wrote is in {}",
-        argument.name(),
-        left_text(file),
-        part.as_bytes(),
-    );
+    out.fill_two(sentence, argument.name(), part.as_bytes());
     out.finish()
 }
 
@@ -90,17 +81,6 @@ fn leave_part<R: Files + AllocGlobal, L: Listener>(
         let part = pending.leave_part(rt);
         let message = left_message(rt.alloc(), argument, pending, part);
         remark_made(listener, file_at(argument, pending.place()), message);
-    }
-}
-
-/// Removes a new file, if there is one.
-fn remove<R: Files + AllocGlobal, L: Listener>(
-    rt: &R,
-    file: &Option<Pending<'_>>,
-    listener: &mut L,
-) {
-    if let Some(pending) = file {
-        pending.discard(rt, listener);
     }
 }
 
@@ -221,8 +201,11 @@ impl<'a> Kept<'a> {
             }
             Disposition::Left => self.leave_all(rt, listener),
             Disposition::Removed => {
-                remove(rt, &self.print, listener);
-                remove(rt, &self.disk, listener);
+                for file in [&self.print, &self.disk] {
+                    if let Some(pending) = file {
+                        pending.discard(rt, listener);
+                    }
+                }
             }
         }
         ran

@@ -6,11 +6,9 @@ mod devices;
 mod keeping;
 mod limits;
 mod running;
-mod wanted;
 
 pub use dating::settle_date;
 pub use devices::{Devices, RunFiles, devices_of, empty_files, open_files};
 pub use keeping::Kept;
-pub use limits::{program_of, source_files};
+pub use limits::{WantedFiles, program_of, report_wanted, source_files};
 pub use running::{Running, run_counted};
-pub use wanted::{WantedFiles, report_wanted};

@@ -1,11 +1,11 @@
-//! The files of a source.
+//! The files of a source, and its tables and arrays.
 
-use rpg_cards::{FileUse, SpecCard, use_of};
-use rpg_cli_list_names::{By, Mentions, overflow_of};
+use rpg_cards::{FileUse, SpecCard, is_table, use_of};
+use rpg_cli_list_names::{By, Done, Mentions, overflow_of};
 use rpg_cli_show_fields::{name_text, write_named};
 use rpg_cli_text::TextWriter;
-use rpg_sheet_specs::{FileSpec, Word};
-use std::alloc::{AllocError, Global};
+use rpg_sheet_specs::{DataSpec, ExtensionSpec, FileSpec, TableSpec, Word};
+use std::alloc::Global;
 
 /// The columns before the other cards that name a file.
 const NAMED: usize = 23;
@@ -44,11 +44,7 @@ fn named_file(card: &SpecCard) -> Option<&Word<8>> {
 }
 
 /// Notes the cards of record types and lines that name a file.
-fn note_users(
-    mentions: &mut Mentions,
-    cards: &[SpecCard],
-    name: &Word<8>,
-) -> Result<(), AllocError> {
+fn note_users(mentions: &mut Mentions, cards: &[SpecCard], name: &Word<8>) -> Done {
     for card in cards {
         match named_file(card) {
             Some(file) if file == name => mentions.note(By::Using, card.number)?,
@@ -73,34 +69,18 @@ fn write_file(out: &mut TextWriter, card: u16, file: &FileSpec) {
     out.write_str(", named on ");
 }
 
-/// Whether one of these cards describes the file.
-fn is_among(cards: &[SpecCard], name: &Word<8>) -> bool {
-    for card in cards {
-        match card.file() {
-            Some(file) if file.name == *name => return true,
-            _ => {}
-        }
-    }
-    false
-}
-
 /// Writes a row for each file, for the first card that describes it, with the cards of record types and lines that name it.
-pub(crate) fn write_files(
-    alloc: Global,
-    out: &mut TextWriter,
-    cards: &[SpecCard],
-) -> Result<(), AllocError> {
-    let mut is_first = true;
+pub(crate) fn write_files(alloc: Global, out: &mut TextWriter, cards: &[SpecCard]) -> Done {
+    let mut heading = "\nFILES\n";
     for (place, card) in cards.iter().enumerate() {
         let Some(file) = card.file() else {
             continue;
         };
-        if is_first {
-            out.write_str("\nFILES\n");
-        }
-        is_first = false;
+        out.write_str(heading);
+        heading = "";
         let before = cards.get(..place).unwrap_or(&[]);
-        if !is_among(before, &file.name) {
+        let mut files = before.iter().filter_map(|card| card.file());
+        if !files.any(|other| other.name == file.name) {
             write_file(out, card.number, file);
             let mut mentions = Mentions::new(alloc);
             note_users(&mut mentions, cards, &file.name)?;
@@ -109,4 +89,77 @@ pub(crate) fn write_files(
         }
     }
     Ok(())
+}
+
+const HEADING: &str =
+    "\nTABLES AND ARRAYS\n  card  name    is     entries  length  decimals  sequence   data\n";
+
+/// Writes a table or an array of an E card, whose data come after a card.
+fn write_table(
+    out: &mut TextWriter,
+    card: u16,
+    extension: &ExtensionSpec,
+    table: &TableSpec,
+    beginning: Option<u16>,
+) {
+    let row = if is_table(&table.name) {
+        "  {:>4}  {:<6}  table"
+    } else {
+        "  {:>4}  {:<6}  array"
+    };
+    out.fill_two(row, card, name_text(table.name.as_slice()));
+    out.fill_two("  {:>7}  {:>6}  ", extension.entries, table.length);
+    write_decimals(out, table.decimals);
+    let order = if table.ascending { "ascending" } else { "" };
+    out.fill_one("  {:<9}  ", order);
+    match (extension.entries_per_card, &extension.alternating) {
+        (None, _) => out.write_str("no data"),
+        (Some(count), None) => out.fill("{} on a card", &[count.into()]),
+        (Some(count), Some(_)) => out.fill("{} pairs on a card", &[count.into()]),
+    }
+    if let Some(beginning) = beginning {
+        out.fill(", after card {}", &[beginning.into()]);
+    }
+    out.end_line();
+}
+
+/// Returns the next card after which data come, and moves on to the cards after it.
+fn next_deck(rest: &mut &[SpecCard]) -> Option<u16> {
+    while let Some((card, following)) = rest.split_first() {
+        *rest = following;
+        if matches!(card.data(), Some(DataSpec::Begin)) {
+            return Some(card.number);
+        }
+    }
+    None
+}
+
+/// Writes decimals in their column, for tables and fields.
+pub(crate) fn write_decimals(out: &mut TextWriter, decimals: Option<u8>) {
+    match decimals {
+        Some(decimals) => out.fill("{:>8}", &[decimals.into()]),
+        None => out.write_str("        "),
+    }
+}
+
+/// Writes a row for each table and array of the E cards. The data come in the order of the E cards that have data: where they are is known
+/// if these are all tables of the source.
+pub(crate) fn write_tables(out: &mut TextWriter, cards: &[SpecCard], are_all: bool) {
+    let mut decks = if are_all { cards } else { &[] };
+    let mut heading = HEADING;
+    for card in cards {
+        let Some(extension) = card.extension() else {
+            continue;
+        };
+        out.write_str(heading);
+        heading = "";
+        let beginning = match extension.entries_per_card {
+            Some(_) => next_deck(&mut decks),
+            None => None,
+        };
+        write_table(out, card.number, extension, &extension.table, beginning);
+        if let Some(table) = &extension.alternating {
+            write_table(out, card.number, extension, table, beginning);
+        }
+    }
 }

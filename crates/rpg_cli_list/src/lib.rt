@@ -2,13 +2,8 @@
 #![tactic(auto)]
 
 mod cards;
-mod chart;
 mod files;
 mod lines;
-mod listing;
-mod order;
-mod picture;
 mod records;
-mod tables;
 
-pub use listing::source_listing;
+pub use cards::source_listing;

@@ -1,26 +1,26 @@
-//! Lines: when each is written, its layout, and where its fields are.
+//! Charts of lines and records, drawn below a ruler; and lines: when each is written, its layout, and where its fields are.
 
-use crate::chart::{Chart, first_place};
 use crate::files::{length_words, write_heading};
-use crate::picture::picture_of;
 use rpg_card_index::IndexedCards;
-use rpg_cards::{FileUse, SpecCard, in_places, time_of, use_of};
+use rpg_cards::{Defined, FileUse, SpecCard, in_places, time_of, use_of};
 use rpg_cli_show_fields::{
     name_text, time_word, write_code, write_quoted, write_spacing, write_when,
 };
 use rpg_cli_text::TextWriter;
+use rpg_decimal::fit;
+use rpg_edit::edit_at_end;
 use rpg_edit_marks::Fill;
+use rpg_edit_widths::{EditWord, How, width};
 use rpg_faults_operands::fill_in;
+use rpg_program::form::{FieldForm, Kind};
 use rpg_program::line::Spacing;
 use rpg_sheet_specs::{
     Entry, EntryIndex, FileSpec, Movement, OutputField, OutputRecord, OutputSpec, Within,
 };
+use rpg_text::trimmed;
 
 fn lines_in<const FIRST: u8, const LAST: u8>(column: Option<Within<FIRST, LAST>>) -> u8 {
-    match column {
-        Some(lines) => lines.number(),
-        None => 0,
-    }
+    column.map_or(0, |lines| lines.number())
 }
 
 /// Returns how the form moves: if all four columns are blank, it spaces one line after.
@@ -150,15 +150,13 @@ fn write_line(
     if let Some(file) = file {
         write_chart(out, source, file.record_length, after);
     }
-    let mut is_first = true;
+    let mut heading = "    card  places     printed\n";
     for card in after {
         match card.output() {
             Some(OutputSpec::Record(_)) => break,
             Some(OutputSpec::Field(field)) => {
-                if is_first {
-                    out.write_str("    card  places     printed\n");
-                }
-                is_first = false;
+                out.write_str(heading);
+                heading = "";
                 write_field(out, source, card.number, field);
             }
             Some(OutputSpec::And(_) | OutputSpec::Or(_)) | None => {}
@@ -188,5 +186,153 @@ pub(crate) fn write_lines(out: &mut TextWriter, source: &IndexedCards) {
         is_first = false;
         write_head(out, card.number, record, file, after);
         write_line(out, source, file, after);
+    }
+}
+
+/// The most places that are drawn, as many as a printed line can have.
+pub(crate) const MOST_DRAWN: u16 = 132;
+
+const MARGIN: &str = "          ";
+
+/// A ruler: a digit at each tenth place, a plus at each fifth.
+const RULER: &str =
+    "....+....1....+....2....+....3....+....4....+....5....+....6....+....7....+....8....+....9....+....0....+....1....+....2....+....3..";
+
+pub(crate) fn write_ruler(out: &mut TextWriter, places: usize) {
+    out.write_str(RULER.get(..places).unwrap_or(RULER));
+}
+
+/// The places of a line, or the columns of a record.
+#[derive(Clone, Copy)]
+pub(crate) struct Chart {
+    places: [u8; 132],
+    length: usize,
+}
+
+/// Returns the first place of a text that ends at `end`, counted from 1; None if it would begin before place 1.
+pub(crate) fn first_place(width: usize, end: u16) -> Option<usize> {
+    usize::from(end).checked_sub(width)?.checked_add(1)
+}
+
+impl Chart {
+    /// Returns `length` places, each holding `empty` until something is drawn.
+    pub fn new(length: u16, empty: u8) -> Self {
+        Chart {
+            places: [empty; 132],
+            length: usize::from(length.min(MOST_DRAWN)),
+        }
+    }
+
+    /// Draws a character in all places of a range.
+    pub fn fill(&mut self, first: u16, last: u16, character: u8) {
+        let before = usize::from(first).saturating_sub(1);
+        let count = usize::from(last).saturating_sub(before);
+        for place in self.places.iter_mut().skip(before).take(count) {
+            *place = character;
+        }
+    }
+
+    /// Draws a text over the places from `first` on.
+    pub fn draw(&mut self, first: usize, text: &[u8]) {
+        let before = first.saturating_sub(1);
+        for (place, character) in self.places.iter_mut().skip(before).zip(text) {
+            *place = *character;
+        }
+    }
+
+    pub fn write(&self, out: &mut TextWriter) {
+        out.write_str(MARGIN);
+        write_ruler(out, self.length);
+        out.write_char('\n');
+        let text = trimmed(self.places.get(..self.length).unwrap_or(&[]));
+        if !text.is_empty() {
+            out.write_str(MARGIN);
+            out.write_shown(text);
+        }
+        out.write_char('\n');
+    }
+}
+
+/// The most characters that a field prints.
+const MOST: usize = 256;
+
+/// The number with the most nines, negative so that its sign shows.
+const NINES: i128 = -999_999_999_999_999;
+
+/// What a field prints, at the end of these characters.
+#[derive(Clone, Copy)]
+pub(crate) struct Picture {
+    characters: [u8; 256],
+    first: usize,
+}
+
+impl Picture {
+    pub fn text(&self) -> &[u8] {
+        self.characters.get(self.first..).unwrap_or(&[])
+    }
+
+    fn of(text: &[u8]) -> Self {
+        let mut characters = [b' '; 256];
+        let first = MOST.saturating_sub(text.len());
+        for (place, character) in characters.iter_mut().skip(first).zip(text) {
+            *place = *character;
+        }
+        Picture { characters, first }
+    }
+}
+
+/// Returns what an output field prints: a constant's characters, an X for each character of a text, and for a number all nines, edited,
+/// and negative if it is edited. None if the name has no form, or the field's code or word doesn't fit.
+pub(crate) fn picture_of(source: &IndexedCards, field: &OutputField) -> Option<Picture> {
+    match &field.operand {
+        None => Some(Picture::of(field.text.as_ref()?.as_slice())),
+        Some(entry) => match source.form_of_name(&entry.name) {
+            Defined::Valid(form) => field_picture(form, field),
+            Defined::Missing | Defined::Bad => None,
+        },
+    }
+}
+
+fn field_picture(form: FieldForm, field: &OutputField) -> Option<Picture> {
+    match form.kind {
+        Kind::Text => Some(Picture {
+            characters: [b'X'; 256],
+            first: MOST.saturating_sub(usize::from(form.length)),
+        }),
+        Kind::Number => number_picture(u8::try_from(form.length).ok()?, form.decimals, field),
+    }
+}
+
+fn number_picture(length: u8, decimals: u8, field: &OutputField) -> Option<Picture> {
+    if length < 1 || length > 15 || decimals > length {
+        return None;
+    }
+    let how = how_of(field, length)?;
+    if width(length, decimals, &how) > MOST {
+        return None;
+    }
+    let mut characters = [b' '; 256];
+    let nines = fit(sign_of(&how), length);
+    let first = edit_at_end(nines, length, decimals, &how, &mut characters);
+    Some(Picture { characters, first })
+}
+
+/// Returns the sign: without a code or a word a number shows none, so it isn't negative.
+fn sign_of(how: &How) -> i128 {
+    match how {
+        How::Plain => -NINES,
+        How::Code { .. } | How::Word(_) => NINES,
+    }
+}
+
+/// Returns how a number of this many digits is edited, if its code or word fits.
+fn how_of(field: &OutputField, digits: u8) -> Option<How> {
+    match (field.code, &field.text) {
+        (None, None) => Some(How::Plain),
+        (None, Some(word)) => Some(How::Word(EditWord::parse(word.as_slice(), digits).ok()?)),
+        (Some(code), text) => Some(How::Code {
+            code,
+            fill: fill_in(text)?,
+        }),
     }
 }

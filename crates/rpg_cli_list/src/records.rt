@@ -1,13 +1,14 @@
-//! Record types with their codes and fields.
+//! Record types with their codes and fields, and the `sort` command for each input file with control or match fields.
 
-use crate::chart::{Chart, MOST_DRAWN};
-use crate::files::write_heading;
-use crate::tables::write_decimals;
+use crate::files::{write_decimals, write_heading};
+use crate::lines::{Chart, MOST_DRAWN};
 use rpg_card_index::IndexedCards;
 use rpg_cards::{SpecCard, number_of, shows_of};
+use rpg_cli_list_names::Done;
 use rpg_cli_show_fields::{name_text, write_named, write_quoted, write_shows};
 use rpg_cli_text::TextWriter;
-use rpg_sheet_specs::{FileSpec, InputFieldSpec, InputSpec, RecordCode, RecordType, Three};
+use rpg_sheet_specs::{FileSpec, InputFieldSpec, InputSpec, RecordCode, RecordType, Three, Word};
+use std::alloc::{AllocError, Global};
 
 /// Writes which type it is, and which indicator it turns on.
 fn write_head(out: &mut TextWriter, card: u16, record_type: &RecordType) {
@@ -140,4 +141,147 @@ pub(crate) fn write_records(out: &mut TextWriter, source: &IndexedCards) {
         write_all_codes(out, card.number, &record_type.codes, after);
         write_fields(out, file, after);
     }
+}
+
+/// The fields by which records are in sequence.
+#[derive(Clone, Copy, PartialEq, Eq)]
+enum Keys {
+    Match,
+    Control,
+}
+
+impl Keys {
+    /// Returns the level that a field has among these.
+    fn level_of(self, field: &InputFieldSpec) -> Option<u8> {
+        match self {
+            Keys::Match => Some(field.match_level?.number()),
+            Keys::Control => Some(field.level?.number()),
+        }
+    }
+}
+
+/// The keys of a record type, as options of `sort`.
+#[derive(Drop)]
+struct TypeKeys {
+    options: String,
+    has_numbers: bool,
+    has_texts: bool,
+}
+
+impl TypeKeys {
+    /// Returns the keys of the type whose cards follow: the highest level first.
+    fn of(alloc: Global, keys: Keys, after: &[SpecCard]) -> Result<Self, AllocError> {
+        let mut out = TextWriter::new(alloc);
+        let (mut has_numbers, mut has_texts) = (false, false);
+        for below in 0..9u8 {
+            for card in after {
+                let field = match card.input() {
+                    Some(InputSpec::Type(_)) => break,
+                    Some(InputSpec::Field(field)) => field,
+                    Some(InputSpec::And(_)) | None => continue,
+                };
+                if keys.level_of(field) == Some(9 - below) {
+                    let is_number = field.decimals.is_some();
+                    out.fill(" -k1.{},1.{}", &[field.from.into(), field.to.into()]);
+                    out.write_str(if is_number { "n" } else { "" });
+                    has_numbers |= is_number;
+                    has_texts |= !is_number;
+                }
+            }
+        }
+        Ok(TypeKeys {
+            options: out.finish()?,
+            has_numbers,
+            has_texts,
+        })
+    }
+
+    /// Returns the match fields of a type, or its control fields if it has none.
+    fn of_type(alloc: Global, after: &[SpecCard]) -> Result<Self, AllocError> {
+        let keys = TypeKeys::of(alloc, Keys::Match, after)?;
+        if keys.options.is_empty() {
+            return TypeKeys::of(alloc, Keys::Control, after);
+        }
+        Ok(keys)
+    }
+}
+
+/// Whether all types of a file have the keys of its first type, whose cards follow, and it has any.
+fn are_alike(alloc: Global, first: &TypeKeys, after: &[SpecCard]) -> Result<bool, AllocError> {
+    let mut rest = after;
+    while let Some((card, following)) = rest.split_first() {
+        rest = following;
+        let Some(record_type) = card.record_type() else {
+            continue;
+        };
+        if record_type.file.is_some() {
+            return Ok(true);
+        }
+        let keys = TypeKeys::of_type(alloc, following)?;
+        if keys.options.as_str() != first.options.as_str() {
+            return Ok(false);
+        }
+    }
+    Ok(true)
+}
+
+/// Whether any type of a file, whose cards follow that of its first one, has keys.
+fn any_has_keys(after: &[SpecCard]) -> bool {
+    for card in after {
+        match card.input() {
+            Some(InputSpec::Type(record_type)) if record_type.file.is_some() => return false,
+            Some(InputSpec::Field(field)) => {
+                if field.level.is_some() || field.match_level.is_some() {
+                    return true;
+                }
+            }
+            _ => {}
+        }
+    }
+    false
+}
+
+/// Writes the command for a file, given the cards after that of its first type.
+fn write_command(alloc: Global, out: &mut TextWriter, file: &Word<8>, after: &[SpecCard]) -> Done {
+    out.fill("  {}: ", &[name_text(file.as_slice()).into()]);
+    let first = TypeKeys::of_type(alloc, after)?;
+    if !are_alike(alloc, &first, after)? {
+        out.write_str("no sort does: its types don't have these fields in the same columns\n");
+        return Ok(());
+    }
+    out.write_str("LC_ALL=C sort -s");
+    out.write_str(first.options.as_str());
+    out.write_char('\n');
+    if first.has_numbers {
+        out.write_str("    unless a number has a sign: no sort ignores it\n");
+    }
+    if first.has_texts {
+        out.write_str(
+            "    unless a column of a text has letters and digits: letters come first here\n",
+        );
+    }
+    Ok(())
+}
+
+/// Writes for each input file with control or match fields the command that sorts its records.
+pub(crate) fn write_order(alloc: Global, out: &mut TextWriter, source: &IndexedCards) -> Done {
+    let mut heading = "\nORDER\n";
+    let mut rest = source.as_slice();
+    while let Some((card, after)) = rest.split_first() {
+        rest = after;
+        match card.record_type() {
+            Some(
+                RecordType {
+                    file: Some(file),
+                    ..
+                },
+            ) if any_has_keys(after) => {
+                out.write_str(heading);
+                heading = "";
+                write_command(alloc, out, file, after)?;
+            }
+            _ => {}
+        }
+    }
+    Ok(())
 }

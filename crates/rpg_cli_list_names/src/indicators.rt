@@ -1,12 +1,13 @@
 //! The indicators of a source: what turns them on and off, and which cards test them.
 
-use crate::turning::{NO_WORD, Turning, machine_words, results_of};
+use crate::mentions::Done;
 use rpg_cards::{SpecCard, level, line_conditions_on, number_of};
 use rpg_cli_show_fields::Indicator;
 use rpg_cli_text::{Piece, TextWriter};
 use rpg_sheet_specs::{
-    CalculationSpec, ConditionSpec, FileSpec, InputFieldSpec, InputSpec, Spec, Three,
+    CalculationSpec, ConditionSpec, FileSpec, InputFieldSpec, InputSpec, Operation, Spec, Three,
 };
+use rpg_text::trimmed;
 use std::alloc::{AllocError, Global};
 
 const AFTER: usize = 130;
@@ -75,28 +76,28 @@ impl Indicators {
     }
 
     /// Notes what turns an indicator on or off, if the indicator is there.
-    fn turned(&mut self, indicator: Option<u8>, turning: Turning) -> Result<(), AllocError> {
-        let Some(number) = indicator else {
-            return Ok(());
-        };
-        match self.uses.get_mut(usize::from(number)) {
-            Some(uses) => Ok(uses.turned.push(turning)?),
-            None => Ok(()),
+    fn turned(&mut self, indicator: Option<u8>, turning: Turning) -> Done {
+        if let Some(number) = indicator {
+            if let Some(uses) = self.uses.get_mut(usize::from(number)) {
+                uses.turned.push(turning)?;
+            }
         }
+        Ok(())
     }
 
-    fn tested(&mut self, number: u8, testing: Testing) -> Result<(), AllocError> {
+    fn tested(&mut self, number: u8, testing: Testing) -> Done {
         let Some(uses) = self.uses.get_mut(usize::from(number)) else {
             return Ok(());
         };
         let Testing { card, is_negated } = testing;
         match uses.tested.last() {
-            Some(last) if last.card == card && last.is_negated == is_negated => Ok(()),
-            _ => Ok(uses.tested.push(testing)?),
+            Some(last) if last.card == card && last.is_negated == is_negated => {}
+            _ => uses.tested.push(testing)?,
         }
+        Ok(())
     }
 
-    fn note_card(&mut self, card: &SpecCard) -> Result<(), AllocError> {
+    fn note_card(&mut self, card: &SpecCard) -> Done {
         let number = card.number;
         match &card.spec {
             Spec::File(file) => {
@@ -117,20 +118,17 @@ impl Indicators {
     fn note_three(
         &mut self,
         indicators: Three<Option<rpg_sheet_specs::Indicator>>,
-        sentences: [&'static str; 3],
-        piece: Piece<'static>,
+        words: ([&'static str; 3], Piece<'static>),
         card: u16,
-    ) -> Result<(), AllocError> {
-        let [first, second, third] = sentences;
-        let turning = Turning::of(first, piece, card);
-        self.turned(number_of(indicators.first), turning)?;
-        let turning = Turning::of(second, piece, card);
-        self.turned(number_of(indicators.second), turning)?;
-        let turning = Turning::of(third, piece, card);
-        self.turned(number_of(indicators.third), turning)
+    ) -> Done {
+        let ([first, second, third], piece) = words;
+        let turning = |sentence| Turning::of(sentence, piece, card);
+        self.turned(number_of(indicators.first), turning(first))?;
+        self.turned(number_of(indicators.second), turning(second))?;
+        self.turned(number_of(indicators.third), turning(third))
     }
 
-    fn note_field(&mut self, card: u16, field: &InputFieldSpec) -> Result<(), AllocError> {
+    fn note_field(&mut self, card: u16, field: &InputFieldSpec) -> Done {
         if let Some(level) = field.level {
             let number = level.number().saturating_add(100);
             self.turned(Some(number), Turning::of("control field", NO_WORD, card))?;
@@ -139,54 +137,36 @@ impl Indicators {
             let turning = Turning::of("match field M{}", level.number().into(), card);
             self.turned(Some(MATCHING), turning)?;
         }
-        self.note_three(field.indicators, SHOWN, NO_WORD, card)
+        self.note_three(field.indicators, (SHOWN, NO_WORD), card)
     }
 
-    fn note_calculation(
-        &mut self,
-        card: u16,
-        calculation: &CalculationSpec,
-    ) -> Result<(), AllocError> {
+    fn note_calculation(&mut self, card: u16, calculation: &CalculationSpec) -> Done {
         if let Some(number) = level(calculation.control_level) {
             let is_negated = false;
             self.tested(number, Testing { card, is_negated })?;
         }
         self.note_conditions(card, calculation.conditions)?;
-        let (sentences, piece) = results_of(calculation.operation);
-        self.note_three(calculation.resulting_indicators, sentences, piece, card)
+        let words = results_of(calculation.operation);
+        self.note_three(calculation.resulting_indicators, words, card)
     }
 
-    fn note_conditions(
-        &mut self,
-        card: u16,
-        conditions: Three<Option<ConditionSpec>>,
-    ) -> Result<(), AllocError> {
-        self.note_condition(card, conditions.first)?;
-        self.note_condition(card, conditions.second)?;
-        self.note_condition(card, conditions.third)
-    }
-
-    fn note_condition(
-        &mut self,
-        card: u16,
-        condition: Option<ConditionSpec>,
-    ) -> Result<(), AllocError> {
-        let Some(condition) = condition else {
-            return Ok(());
-        };
-        let is_negated = condition.negated;
-        self.tested(condition.indicator.number(), Testing { card, is_negated })
+    fn note_conditions(&mut self, card: u16, conditions: Three<Option<ConditionSpec>>) -> Done {
+        for condition in [conditions.first, conditions.second, conditions.third] {
+            if let Some(condition) = condition {
+                let is_negated = condition.negated;
+                self.tested(condition.indicator.number(), Testing { card, is_negated })?;
+            }
+        }
+        Ok(())
     }
 
     /// Writes the rows of each indicator that a card names.
     pub fn write(&self, out: &mut TextWriter) {
-        let mut is_first = true;
+        let mut heading = HEADING;
         for (number, uses) in self.uses.iter().enumerate() {
             if !uses.turned.is_empty() || !uses.tested.is_empty() {
-                if is_first {
-                    out.write_str(HEADING);
-                }
-                is_first = false;
+                out.write_str(heading);
+                heading = "";
                 uses.write(out, number);
             }
         }
@@ -224,9 +204,7 @@ impl IndicatorUses {
 
 fn write_name(out: &mut TextWriter, number: usize, line: usize) {
     match u8::try_from(number) {
-        Ok(number) if line == 0 => {
-            out.fill("  {}  ", &[Indicator(number).name().into()]);
-        }
+        Ok(number) if line == 0 => out.fill("  {}  ", &[Indicator(number).name().into()]),
         _ => out.write_str("      "),
     }
 }
@@ -239,5 +217,60 @@ fn write_tested(out: &mut TextWriter, line: usize, tested: &[Testing]) {
     for testing in tested.iter().skip(before).take(ON_A_LINE) {
         let Testing { card, is_negated } = *testing;
         out.fill(if is_negated { "{}N " } else { "{} " }, &[card.into()]);
+    }
+}
+
+/// What turns an indicator on or off: a card, with a sentence and a word or number in it.
+#[derive(Clone, Copy)]
+pub(crate) struct Turning {
+    pub sentence: &'static str,
+    pub piece: Piece<'static>,
+    pub card: u16,
+}
+
+/// What a sentence without a place is filled with.
+pub(crate) const NO_WORD: Piece<'static> = Piece::Word("");
+
+impl Turning {
+    pub fn of(sentence: &'static str, piece: Piece<'static>, card: u16) -> Self {
+        Turning {
+            sentence,
+            piece,
+            card,
+        }
+    }
+
+    pub fn write(self, out: &mut TextWriter) {
+        out.fill(self.sentence, &[self.piece]);
+        out.fill_one(", card {}", self.card);
+    }
+}
+
+/// Returns how a calculation turns each of its resulting indicators on or off, with the operation; None if the card has no
+/// operation.
+pub(crate) fn results_of(wanted: Option<Operation>) -> ([&'static str; 3], Piece<'static>) {
+    let sentences = match wanted {
+        None => ["plus", "minus", "zero"],
+        Some(Operation::SetOn) => ["{}", "{}", "{}"],
+        Some(Operation::SetOff) => ["off by {}", "off by {}", "off by {}"],
+        Some(Operation::Compare | Operation::LookUp) => ["{} high", "{} low", "{} equal"],
+        Some(_) => ["{} plus", "{} minus", "{} zero"],
+    };
+    let word = match wanted {
+        None => NO_WORD,
+        Some(wanted) => Piece::Outside(trimmed(wanted.letters())),
+    };
+    (sentences, word)
+}
+
+/// Returns what turns on an indicator without a card.
+pub(crate) fn machine_words(number: usize) -> Option<&'static str> {
+    match number {
+        100 => Some("always on"),
+        101..=109 => Some("a higher level, or the end of the input"),
+        110 => Some("the end of the input"),
+        111 => Some("the start, until the first record"),
+        129 => Some("a record with the same match fields in the other file"),
+        _ => None,
     }
 }

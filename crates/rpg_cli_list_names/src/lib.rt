@@ -2,15 +2,10 @@
 //! it.
 #![tactic(auto)]
 
-mod constants;
 mod indicators;
-mod labels;
 mod mentions;
 mod names;
-mod turning;
 
-pub use constants::write_constants;
 pub use indicators::{Indicators, overflow_of};
-pub use labels::Labels;
-pub use mentions::{By, Mentions};
-pub use names::Names;
+pub use mentions::{By, Done, Mentions};
+pub use names::{Labels, Names, write_constants};

@@ -3,6 +3,9 @@
 use rpg_cli_text::TextWriter;
 use std::alloc::{AllocError, Global};
 
+/// Nothing, unless memory ran out.
+pub type Done = Result<(), AllocError>;
+
 /// How many numbers go on a line of the listing.
 const ON_A_LINE: usize = 12;
 
@@ -36,7 +39,7 @@ impl Mentions {
     }
 
     /// Notes a card, whose number isn't less than that of the last one.
-    pub fn note(&mut self, by: By, card: u16) -> Result<(), AllocError> {
+    pub fn note(&mut self, by: By, card: u16) -> Done {
         Ok(self.list.push(Mention { by, card })?)
     }
 

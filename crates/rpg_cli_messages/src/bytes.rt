@@ -54,23 +54,13 @@ fn is_ebcdic(byte: u8) -> bool {
 /// Whether more than half of a line's first bytes are EBCDIC.
 fn looks_like_ebcdic(line: &[u8]) -> bool {
     let begin = line.get(..LOOKED_AT).unwrap_or(line);
-    let mut count = 0usize;
-    for byte in begin {
-        if is_ebcdic(*byte) {
-            count = count.saturating_add(1);
-        }
-    }
-    count > begin.len() / 2
+    begin.iter().filter(|byte| is_ebcdic(**byte)).count() > begin.len() / 2
 }
 
 /// Whether all bytes of a line are characters or carriage returns.
 fn is_text(line: &[u8]) -> bool {
-    for byte in line {
-        if !is_character(*byte) && *byte != b'\r' {
-            return false;
-        }
-    }
-    true
+    line.iter()
+        .all(|byte| is_character(*byte) || *byte == b'\r')
 }
 
 /// What an object program begins with: its name, and the higher byte of its version.

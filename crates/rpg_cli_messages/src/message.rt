@@ -1,11 +1,10 @@
-//! The diagnostics for a rejected source.
+//! The diagnostics for a rejected source, and a fault below its card, as in a listing.
 
 use crate::bytes::{is_object, write_byte_cause, write_long_line};
-use crate::order::{LaterCard, later_card, write_order};
 use crate::readable::{KnownFaults, Unread, count_unread};
-use crate::shorthand::write_shorthand;
-use crate::unmarked::write_unmarked;
-use crate::whole::{DeckSlip, Slip};
+use crate::unmarked::{
+    DeckSlip, LaterCard, Slip, later_card, write_order, write_shorthand, write_unmarked,
+};
 use rpg_card_index::IndexedCards;
 use rpg_cards::SpecCard;
 use rpg_cli_causes::{CardLines, NearNames, Root, SourceCards, definer, root_of, write_cause};
@@ -13,12 +12,14 @@ use rpg_cli_columns::{
     before_comma, capitalised, character_at, pointed_at, text_in, write_bad_columns,
     write_form_type,
 };
-use rpg_cli_diagnostics::{Columns, Diagnostic, Diagnostics, Draft, FileName, Level};
+use rpg_cli_diagnostics::{
+    Columns, Diagnostic, Diagnostics, Draft, FileName, Level, Made, write_times,
+};
 use rpg_cli_text::{TextWriter, Topic};
 use rpg_faults::{CardFault, SourceCode, SourceFaults};
 use rpg_sheet::{Card, ColumnFault, SheetCode};
 use rpg_text::{has_only_characters, is_character, trimmed};
-use std::alloc::{AllocError, Global};
+use std::alloc::Global;
 use std::collections::HashMap;
 
 /// Returns the diagnostics for the faults of a source, for at most `most` of them, and for one if the source is an object program; then the
@@ -31,22 +32,16 @@ pub fn source_diagnostics<'a>(
     most: u16,
 ) -> Diagnostics<'a> {
     let faults = judged.faults.as_slice();
-    let told = Told {
-        alloc,
-        file,
-        source,
-    };
-    let mut out = Diagnostics::new(alloc);
+    let mut told = Told::of(alloc, file, source);
     match (DeckSlip::of(source, faults), faults) {
-        (Some(slip), [first, ..]) if most > 0 => {
-            told.add_slip(&mut out, slip, topic_of(first.code));
-        }
+        (Some(slip), [first, ..]) if most > 0 => told.add_slip(slip, topic_of(first.code)),
         _ => {
-            if told.add_known(&mut out, judged, most).is_err() {
-                out.lose();
+            if told.add_known(judged, most).is_err() {
+                told.out.lose();
             }
         }
     }
+    let Told { out, .. } = told;
     out
 }
 
@@ -56,95 +51,102 @@ pub fn card_diagnostic<'a>(
     file: FileName<'a>,
     source: &'a [u8],
     fault: &CardFault,
-) -> Result<Diagnostic<'a>, AllocError> {
+) -> Made<Diagnostic<'a>> {
     let cards = IndexedCards::new(alloc, &[])?;
     let near = NearNames::of(alloc, &[], &[])?;
     let known = SourceCards::of(&cards, &near, source);
-    let told = Told {
-        alloc,
-        file,
-        source,
-    };
     let line = CardLines::of(source).line_of(fault.card);
-    told.fault(line, known, fault).finish()
+    let at = FaultAt {
+        line,
+        source: known,
+        fault,
+    };
+    Told::of(alloc, file, source).fault(line, at).finish()
+}
+
+/// A fault, the line of its card, and the cards of its source.
+#[derive(Clone, Copy)]
+pub(crate) struct FaultAt<'a> {
+    pub line: &'a [u8],
+    pub source: SourceCards<'a>,
+    pub fault: &'a CardFault,
 }
 
 /// A source whose faults are reported: its name and its text.
-#[derive(Clone, Copy)]
+#[derive(Drop)]
 struct Told<'a> {
     alloc: Global,
     file: FileName<'a>,
     source: &'a [u8],
+    out: Diagnostics<'a>,
 }
 
 impl<'a> Told<'a> {
+    fn of(alloc: Global, file: FileName<'a>, source: &'a [u8]) -> Self {
+        Told {
+            alloc,
+            file,
+            source,
+            out: Diagnostics::new(alloc),
+        }
+    }
+
     /// Adds a slip that stands for the faults of all cards, and how many cards have it.
-    fn add_slip(self, out: &mut Diagnostics<'a>, slip: DeckSlip, topic: Topic) {
+    fn add_slip(&mut self, slip: DeckSlip, topic: Topic) {
         let line = CardLines::of(self.source).line_of(slip.first);
         let place = self.file.card(slip.first, Some(slip.columns()), line);
         let mut draft = Draft::new(self.alloc, Level::Error, Some(place), Some(topic));
         slip.write(&mut draft);
-        out.push(draft.finish());
+        self.out.push(draft.finish());
         if !matches!(slip.slip, Slip::Free) {
             let note = Draft::note(self.alloc, self.file.whole());
-            out.push(note.filled("{} cards can't be read", &[slip.cards.into()]));
+            let count = note.filled("{} cards can't be read", &[slip.cards.into()]);
+            self.out.push(count);
         }
     }
 
     /// Adds all faults that are known, and how many there are.
-    fn add_known(
-        self,
-        out: &mut Diagnostics<'a>,
-        judged: &SourceFaults,
-        most: u16,
-    ) -> Result<(), AllocError> {
+    fn add_known(&mut self, judged: &SourceFaults, most: u16) -> Made<()> {
         let known = KnownFaults::of(self.alloc, self.source, judged)?;
         let faults = known.faults(self.alloc)?;
-        let most = if is_object(self.source) {
-            most.min(1)
-        } else {
-            most
-        };
+        let is_one = is_object(self.source);
+        let most = if is_one { most.min(1) } else { most };
         let shown = faults.len().min(usize::from(most));
-        self.add_listed(out, known.cards(), &faults[..shown])?;
+        self.add_listed(known.cards(), &faults[..shown])?;
         let mut draft = Draft::note(self.alloc, self.file.whole());
         write_count(&mut draft.message, &faults, known.unread, most);
-        out.push(draft.finish());
+        self.out.push(draft.finish());
         Ok(())
     }
 
-    fn add_listed(
-        self,
-        out: &mut Diagnostics<'a>,
-        cards: &[SpecCard],
-        listed: &[&CardFault],
-    ) -> Result<(), AllocError> {
+    fn add_listed(&mut self, cards: &[SpecCard], listed: &[&CardFault]) -> Made<()> {
         let near = NearNames::of(self.alloc, cards, listed)?;
         let cards = IndexedCards::new(self.alloc, cards)?;
-        self.add_faults(out, SourceCards::of(&cards, &near, self.source), listed)
+        self.add_faults(SourceCards::of(&cards, &near, self.source), listed)
     }
 
     /// Adds faults in the order of their cards, and notes the mistakes that caused them.
-    fn add_faults(
-        self,
-        out: &mut Diagnostics<'a>,
-        known: SourceCards<'_>,
-        faults: &[&CardFault],
-    ) -> Result<(), AllocError> {
+    fn add_faults(&mut self, source: SourceCards, faults: &[&CardFault]) -> Made<()> {
         let mut mistakes = HashMap::new(self.alloc);
         let mut lines = CardLines::of(self.source);
         for fault in faults {
             let line = lines.line_of(fault.card);
-            let Some(mistake) = mistake_of(known, line, fault) else {
-                out.push(self.fault(line, known, fault).finish());
+            let at = FaultAt {
+                line,
+                source,
+                fault,
+            };
+            let Some(mistake) = mistake_of(at) else {
+                let draft = self.fault(line, at);
+                self.out.push(draft.finish());
                 continue;
             };
             let first = mistakes.get(&mistake).copied();
             let draft = match first {
-                Some(first) => self.follower(line, fault, mistake, first),
-                None => self.mistaken(line, known, fault, mistake),
+                Some(first) => self.follower(line, at, mistake, first),
+                None => self.mistaken(line, at, mistake),
             };
-            out.push(draft.finish());
+            self.out.push(draft.finish());
             if first.is_none() {
                 mistakes.insert(mistake, fault.card)?;
             }
@@ -153,51 +155,33 @@ impl<'a> Told<'a> {
     }
 
     /// Begins a fault: its place, with the card and a mark under its columns, and its code.
-    fn begin(self, line: &'a [u8], fault: &CardFault, is_shown: bool) -> Draft<'a> {
+    fn begin(&self, line: &'a [u8], fault: &CardFault, is_shown: bool) -> Draft<'a> {
         let columns = marked(columns_of(line, fault));
-        let place = self.file.card(fault.card, columns, line);
-        let place = if is_shown {
-            place
-        } else {
-            place.without_picture()
-        };
-        Draft::new(
-            self.alloc,
-            Level::Error,
-            Some(place),
-            Some(topic_of(fault.code)),
-        )
+        let mut place = self.file.card(fault.card, columns, line);
+        if !is_shown {
+            place = place.without_picture();
+        }
+        let topic = topic_of(fault.code);
+        Draft::new(self.alloc, Level::Error, Some(place), Some(topic))
     }
 
     /// Returns a fault, with what is wrong.
-    fn fault(self, line: &'a [u8], known: SourceCards<'_>, fault: &CardFault) -> Draft<'a> {
-        let mut draft = self.begin(line, fault, true);
-        write_sentence(&mut draft, line, known, fault);
+    fn fault(&self, line: &'a [u8], at: FaultAt<'_>) -> Draft<'a> {
+        let mut draft = self.begin(line, at.fault, true);
+        write_sentence(&mut draft, at);
         draft
     }
 
     /// Returns a fault whose cause is already reported, at the fault of this card.
-    fn follower(
-        self,
-        line: &'a [u8],
-        fault: &CardFault,
-        mistake: Mistake,
-        first: u16,
-    ) -> Draft<'a> {
-        let mut draft = self.begin(line, fault, false);
+    fn follower(&self, line: &'a [u8], at: FaultAt<'_>, mistake: Mistake, first: u16) -> Draft<'a> {
+        let mut draft = self.begin(line, at.fault, false);
         write_follower(&mut draft.message, mistake, first);
         draft
     }
 
     /// Returns the first fault that a mistake causes, with the card of the mistake if it is another.
-    fn mistaken(
-        self,
-        line: &'a [u8],
-        known: SourceCards<'_>,
-        fault: &CardFault,
-        mistake: Mistake,
-    ) -> Draft<'a> {
-        let mut draft = self.fault(line, known, fault);
+    fn mistaken(&self, line: &'a [u8], at: FaultAt<'_>, mistake: Mistake) -> Draft<'a> {
+        let mut draft = self.fault(line, at);
         let Mistake::Root(Root::Text(card)) = mistake else {
             return draft;
         };
@@ -205,10 +189,8 @@ impl<'a> Told<'a> {
         if character_at(line, 6) == b'I' {
             let mut remark = draft.text();
             remark.write_str("a field without decimals is a text");
-            draft.add(
-                Some(self.file.card(card, marked(Some(DECIMALS)), line)),
-                remark,
-            );
+            let place = self.file.card(card, marked(Some(DECIMALS)), line);
+            draft.add(Some(place), remark);
         }
         draft
     }
@@ -240,7 +222,12 @@ enum Mistake {
     Root(Root),
 }
 
-fn mistake_of(source: SourceCards<'_>, line: &[u8], fault: &CardFault) -> Option<Mistake> {
+fn mistake_of(at: FaultAt<'_>) -> Option<Mistake> {
+    let FaultAt {
+        line,
+        source,
+        fault,
+    } = at;
     match fault.code {
         SourceCode::Sheet(SheetCode::S4) => {
             Some(Mistake::Later(later_card(source.text, fault.card, line)?))
@@ -280,10 +267,7 @@ const DECIMALS: ColumnFault = ColumnFault {
 pub(crate) fn columns_of(line: &[u8], fault: &CardFault) -> Option<ColumnFault> {
     match fault.code {
         SourceCode::Sheet(SheetCode::S1) => Some(column(81)),
-        SourceCode::Sheet(SheetCode::S2) => {
-            let (number, _) = first_bad(line)?;
-            Some(column(number))
-        }
+        SourceCode::Sheet(SheetCode::S2) => Some(column(first_bad(line)?)),
         SourceCode::Sheet(SheetCode::S3 | SheetCode::S4) => Some(column(6)),
         SourceCode::Sheet(SheetCode::S5) => Some(pointed_at(line, fault.columns?)),
         SourceCode::Fault(_) => fault.columns,
@@ -298,34 +282,29 @@ fn column(number: u8) -> ColumnFault {
     }
 }
 
-/// Returns the column of the first byte of a card that isn't a character, and the byte.
-fn first_bad(line: &[u8]) -> Option<(u8, u8)> {
-    let mut column = 0u8;
-    for byte in line.iter().take(80) {
-        column = column.saturating_add(1);
-        if !is_character(*byte) {
-            return Some((column, *byte));
-        }
-    }
-    None
+/// Returns the column of the first byte of a card that isn't a character.
+fn first_bad(line: &[u8]) -> Option<u8> {
+    let mut bytes = line.iter().take(80);
+    let place = bytes.position(|byte| !is_character(*byte))?;
+    u8::try_from(place.saturating_add(1)).ok()
 }
 
 const OBJECT: &str =
     "this is an object program: run it with rpg2 run, or look at it with rpg2 show";
 
 /// Returns the diagnostic for an object program in place of a source, for a command that reads shorthand, or only some cards.
-pub fn object_diagnostic(alloc: Global, file: FileName<'_>) -> Result<Diagnostic<'_>, AllocError> {
+pub fn object_diagnostic(alloc: Global, file: FileName<'_>) -> Made<Diagnostic<'_>> {
     Draft::error(alloc, file.line(1)).filled(OBJECT, &[])
 }
 
 /// Writes what is wrong: the rule that is broken, and the numbers on the cards that break it. The first card of an object program is
 /// always at fault, and stands for all of it.
-pub(crate) fn write_sentence(
-    draft: &mut Draft<'_>,
-    line: &[u8],
-    source: SourceCards<'_>,
-    fault: &CardFault,
-) {
+pub(crate) fn write_sentence(draft: &mut Draft<'_>, at: FaultAt<'_>) {
+    let FaultAt {
+        line,
+        source,
+        fault,
+    } = at;
     if fault.card == 1 && is_object(source.text) {
         draft.message.write_str(OBJECT);
         return;
@@ -339,34 +318,26 @@ pub(crate) fn write_sentence(
         }
         SourceCode::Sheet(code) => code,
     };
-    write_unread(draft, line, code, source, fault);
+    write_unread(draft, at, code);
     if matches!(code, SheetCode::S3 | SheetCode::S4 | SheetCode::S5) {
         write_unmarked(&mut draft.message, source.text, fault.card);
     }
 }
 
 /// Writes why a card can't be read.
-fn write_unread(
-    draft: &mut Draft<'_>,
-    line: &[u8],
-    code: SheetCode,
-    source: SourceCards<'_>,
-    fault: &CardFault,
-) {
-    match (code, fault.columns) {
+fn write_unread(draft: &mut Draft<'_>, at: FaultAt<'_>, code: SheetCode) {
+    let (line, text, card) = (at.line, at.source.text, at.fault.card);
+    match (code, at.fault.columns) {
         (SheetCode::S1, _) => write_long_line(&mut draft.message, line),
         (SheetCode::S2, _) => write_bad_byte(draft, line),
         (SheetCode::S3, _) => {
             write_form_type(draft, line);
-            write_shorthand(&mut draft.message, source.text, fault.card, line);
+            write_shorthand(&mut draft.message, text, card, line);
         }
-        (SheetCode::S4, _) => {
-            let later = later_card(source.text, fault.card, line);
-            write_order(&mut draft.message, later);
-        }
+        (SheetCode::S4, _) => write_order(&mut draft.message, later_card(text, card, line)),
         (SheetCode::S5, Some(columns)) => {
             write_bad_columns(draft, line, columns);
-            add_capitals(draft, source, line, fault.card, columns);
+            add_capitals(draft, at, columns);
         }
         (SheetCode::S5, None) => {}
         (SheetCode::S6, _) => draft.message.write_str("a source has at most 2,000 cards"),
@@ -384,22 +355,14 @@ fn card_of(line: &[u8; 80], number: u16) -> Option<SpecCard> {
 }
 
 /// Adds which name is meant by one in small letters, if the card or another one defines it.
-fn add_capitals(
-    draft: &mut Draft<'_>,
-    source: SourceCards<'_>,
-    line: &[u8],
-    number: u16,
-    columns: ColumnFault,
-) {
-    let Some(capitals) = capitalised(line, columns) else {
+fn add_capitals(draft: &mut Draft<'_>, at: FaultAt<'_>, columns: ColumnFault) {
+    let Some(capitals) = capitalised(at.line, columns) else {
         return;
     };
     let name = before_comma(text_in(&capitals, columns));
-    let own = match card_of(&capitals, number) {
-        Some(card) => definer(&[card], name).is_some(),
-        None => false,
-    };
-    if own || definer(source.cards.as_slice(), name).is_some() {
+    let card = card_of(&capitals, at.fault.card);
+    let own = card.is_some_and(|card| definer(&[card], name).is_some());
+    if own || definer(at.source.cards.as_slice(), name).is_some() {
         let mut remark = draft.text();
         remark.fill_one("is {} meant?", name);
         draft.remark(remark);
@@ -407,7 +370,7 @@ fn add_capitals(
 }
 
 fn write_bad_byte(draft: &mut Draft<'_>, line: &[u8]) {
-    if let Some((column, _)) = first_bad(line) {
+    if let Some(column) = first_bad(line) {
         write_byte_cause(draft, line, usize::from(column.saturating_sub(1)));
     }
 }
@@ -445,4 +408,51 @@ pub fn write_reported(out: &mut TextWriter, most: u16) {
         _ => ", {} of them shown",
     };
     out.fill(sentence, &[most.into()]);
+}
+
+/// Writes a mark under these columns of a card, which begins after `margin` blanks.
+fn write_mark(out: &mut TextWriter, margin: usize, columns: ColumnFault) {
+    let first = usize::from(columns.column);
+    let last = usize::from(columns.last);
+    write_times(out, ' ', margin.saturating_add(first.saturating_sub(1)));
+    write_times(out, '^', last.saturating_add(1).saturating_sub(first));
+    out.write_char('\n');
+}
+
+/// Writes what is wrong, and what belongs to it, on one line.
+fn write_fault(alloc: Global, out: &mut TextWriter, at: FaultAt<'_>) -> Made<()> {
+    let mut draft = Draft::new(alloc, Level::Error, None, None);
+    write_sentence(&mut draft, at);
+    let told = draft.finish()?;
+    out.write_str(told.message.as_str());
+    for child in &told.children {
+        out.fill_one("; {}", child.message.as_str());
+    }
+    out.write_char('\n');
+    Ok(())
+}
+
+/// Writes a fault of a card, which begins after `margin` blanks: a mark under the columns that the fault points at, if its code says which,
+/// and after the code what is wrong.
+pub fn write_note(
+    alloc: Global,
+    out: &mut TextWriter,
+    margin: usize,
+    line: &[u8],
+    source: SourceCards<'_>,
+    fault: &CardFault,
+) -> Made<()> {
+    if let Some(columns) = columns_of(line, fault) {
+        write_mark(out, margin, columns);
+    }
+    let code = fault.code.text();
+    let blanks = margin.saturating_sub(code.len().saturating_add(1));
+    write_times(out, ' ', blanks);
+    out.fill_one("{} ", code);
+    let at = FaultAt {
+        line,
+        source,
+        fault,
+    };
+    write_fault(alloc, out, at)
 }

@@ -3,6 +3,7 @@
 use rpg_cards::SpecCard;
 use rpg_cli_causes::CardLines;
 use rpg_cli_columns::character_at;
+use rpg_cli_diagnostics::Made;
 use rpg_cli_shorthand::begins_data;
 use rpg_cli_text::TextWriter;
 use rpg_faults::{
@@ -14,6 +15,8 @@ use std::alloc::{AllocError, Global};
 
 /// The form types of sheets.
 const SHEETS: &[u8; 7] = b"HFELICO";
+
+const DEPENDENT: &str = "; faults that depend on {} cards are looked for once {} be read";
 
 /// What the cards that can't be read may be, if there are any.
 #[derive(Clone, Copy)]
@@ -52,12 +55,8 @@ impl Unread {
 
     /// Whether one of them may be of one of these sheets.
     fn has_any(self, forms: &str) -> bool {
-        for (is_noted, sheet) in self.sheets.iter().zip(SHEETS) {
-            if *is_noted && forms.as_bytes().contains(sheet) {
-                return true;
-            }
-        }
-        false
+        let mut sheets = self.sheets.iter().zip(SHEETS);
+        sheets.any(|(is_noted, sheet)| *is_noted && forms.as_bytes().contains(sheet))
     }
 
     /// Whether the others have all E cards and all that begin data, so that it is known which data are whose.
@@ -94,11 +93,7 @@ impl Unread {
         match (count, self.begins_data || self.is_data) {
             (0, false) => {}
             (1, false) => {
-                out.fill_one(
-                    "; faults that depend on {} cards are looked for once ",
-                    last,
-                );
-                out.fill_one("{} be read", they_can);
+                out.fill_two(DEPENDENT, last, they_can);
             }
             _ => out.fill_one("; other checks run once {}", they_can),
         }
@@ -179,11 +174,7 @@ pub struct KnownFaults<'a> {
 }
 
 impl<'a> KnownFaults<'a> {
-    pub fn of(
-        alloc: Global,
-        source: &[u8],
-        judged: &'a SourceFaults,
-    ) -> Result<KnownFaults<'a>, AllocError> {
+    pub fn of(alloc: Global, source: &[u8], judged: &'a SourceFaults) -> Made<KnownFaults<'a>> {
         let mut unread = Unread::NONE;
         let others = match judged.faults.as_slice() {
             [first, ..] if is_unread(first) => {
@@ -207,7 +198,7 @@ impl<'a> KnownFaults<'a> {
     }
 
     /// Returns the faults of cards that can't be read, and those of others that stay, in the order of their cards.
-    pub fn faults(&self, alloc: Global) -> Result<Vec<&CardFault>, AllocError> {
+    pub fn faults(&self, alloc: Global) -> Made<Vec<&CardFault>> {
         let mut faults = Vec::new(alloc);
         let mut first = self.judged.faults.as_slice();
         let mut second: &[CardFault] = match &self.others {
@@ -230,7 +221,7 @@ fn readable(
     unread: &mut Unread,
     source: &[u8],
     faults: &[CardFault],
-) -> Result<SourceFaults, AllocError> {
+) -> Made<SourceFaults> {
     let mut text = TextWriter::new(alloc);
     write_readable(&mut text, unread, source, faults);
     match source_faults(alloc, text.finish()?.as_bytes()) {
@@ -265,9 +256,5 @@ fn is_unread(fault: &CardFault) -> bool {
 
 /// Returns how many cards can't be read.
 pub fn count_unread(faults: &[&CardFault]) -> usize {
-    let mut count = 0usize;
-    for fault in faults {
-        count = count.saturating_add(usize::from(is_unread(fault)));
-    }
-    count
+    faults.iter().filter(|fault| is_unread(fault)).count()
 }

@@ -1,11 +1,15 @@
-//! Data without a `**` card before it.
+//! Slips that show on several cards: data without a `**` card before it; shorthand given as a source; S4, a card of a later sheet before this
+//! one; and slips that all cards have: the form type stands in another column, or all are in small letters, or the source is of RPG IV.
 
 use rpg_cli_causes::CardLines;
 use rpg_cli_columns::{character_at, has_card_number};
-use rpg_cli_shorthand::{begins_data, ends_source};
+use rpg_cli_diagnostics::{Columns, Draft};
+use rpg_cli_shorthand::{begins_data, ends_source, is_shorthand};
 use rpg_cli_text::TextWriter;
-use rpg_sheet::MOST_CARDS;
-use rpg_text::is_blank;
+use rpg_faults::{CardFault, SourceCode};
+use rpg_sheet::{Card, MOST_CARDS, SheetCode, sheet_place};
+use rpg_sheet_values::form_type_of;
+use rpg_text::{has_only_characters, is_blank};
 
 /// The tables and lines of a source.
 #[derive(Clone, Copy)]
@@ -66,5 +70,243 @@ pub(crate) fn write_unmarked(out: &mut TextWriter, text: &[u8], number: u16) {
     let tally = Tally::of(text);
     if tally.begun < tally.wanted && 0 < tally.last_line && tally.last_line < number {
         out.write_str("; or a ** card is missing before data");
+    }
+}
+
+const COLUMNS: usize = 80;
+
+/// Whether S3 rejects a line that comes before all data.
+fn lacks_form_type(line: &[u8]) -> bool {
+    if line.len() > COLUMNS || !has_only_characters(line) {
+        return false;
+    }
+    let card = Card::new(line);
+    !card.is_skipped() && card.form_type().is_none()
+}
+
+/// Whether S3 rejects no card before one of them, which it rejects.
+fn is_first(text: &[u8], number: u16) -> bool {
+    let mut lines = CardLines::of(text);
+    for card in 1..number {
+        if lacks_form_type(lines.line_of(card)) {
+            return false;
+        }
+    }
+    true
+}
+
+/// Writes that a card without a form type is shorthand, if it is the first that S3 rejects.
+pub(crate) fn write_shorthand(out: &mut TextWriter, text: &[u8], number: u16, line: &[u8]) {
+    if is_shorthand(line) && is_first(text, number) {
+        out.write_str("; this looks like shorthand: rpg2 cards turns it into cards");
+    }
+}
+
+/// An earlier card, and its form type.
+#[derive(Clone, Copy, PartialEq, Eq, Hash)]
+pub(crate) struct LaterCard {
+    pub card: u16,
+    form: u8,
+}
+
+/// Returns the place of a line's sheet. A comment has none.
+fn place_of(line: &[u8]) -> Option<u8> {
+    if character_at(line, 7) == b'*' {
+        return None;
+    }
+    Some(sheet_place(form_type_of(&[character_at(line, 6)])?))
+}
+
+/// Returns the first earlier card that is of a later sheet.
+pub(crate) fn later_card(text: &[u8], number: u16, line: &[u8]) -> Option<LaterCard> {
+    let own = place_of(line)?;
+    let mut lines = CardLines::of(text);
+    for card in 1..number {
+        let other = lines.line_of(card);
+        if matches!(place_of(other), Some(place) if place > own) {
+            let form = character_at(other, 6);
+            return Some(LaterCard { card, form });
+        }
+    }
+    None
+}
+
+/// Writes that a card comes after one of a later sheet.
+pub(crate) fn write_order(out: &mut TextWriter, later: Option<LaterCard>) {
+    match later {
+        Some(LaterCard { card, form }) => {
+            out.fill_two("card {} is of a later sheet, {}", card, [form].as_slice());
+        }
+        None => out.write_str("a card of a later sheet comes before this one"),
+    }
+    out.write_str(": the sheets come in the order H, F, E, L, I, C, O");
+}
+
+const FORM_TYPE: usize = 6;
+
+/// The last column in which a form type is looked for.
+const LAST: usize = 46;
+
+/// How many cards have a slip at least that is reported for all of them.
+const LEAST: usize = 3;
+
+/// A slip that all cards of a source have.
+#[derive(Clone, Copy, PartialEq, Eq)]
+pub(crate) enum Slip {
+    /// The form type stands in this column.
+    Moved { column: usize },
+    SmallLetters,
+    /// The source is free-form RPG IV.
+    Free,
+}
+
+/// A slip, the first card that has it, and how many have it.
+#[derive(Clone, Copy)]
+pub(crate) struct DeckSlip {
+    pub slip: Slip,
+    pub first: u16,
+    pub cards: usize,
+}
+
+/// Whether a source begins with the word of free-form RPG IV.
+fn is_free(source: &[u8]) -> bool {
+    matches!(source.get(..6), Some(word) if word.eq_ignore_ascii_case(b"**FREE"))
+}
+
+/// Returns the column of the first character that is neither a blank nor a digit, where a form type may stand.
+fn form_column(line: &[u8]) -> Option<usize> {
+    (1..=LAST).find(|column| !matches!(character_at(line, *column), b' ' | b'0'..=b'9'))
+}
+
+/// Returns the slip of a card by itself.
+fn slip_of(line: &[u8]) -> Option<Slip> {
+    if matches!(
+        character_at(line, FORM_TYPE),
+        b'h' | b'f' | b'e' | b'l' | b'i' | b'c' | b'o'
+    ) {
+        return Some(Slip::SmallLetters);
+    }
+    if is_shorthand(line) {
+        return None;
+    }
+    let column = form_column(line)?;
+    match character_at(line, column) {
+        b'H' | b'F' | b'E' | b'L' | b'I' | b'C' | b'O' => Some(Slip::Moved { column }),
+        _ => None,
+    }
+}
+
+impl Slip {
+    /// Returns the column that it is about.
+    fn column(self) -> usize {
+        match self {
+            Slip::Moved { column } => column,
+            Slip::SmallLetters => FORM_TYPE,
+            Slip::Free => 1,
+        }
+    }
+
+    /// Whether a line is a comment once its card is where it belongs.
+    fn is_comment(self, line: &[u8]) -> bool {
+        character_at(line, self.column().saturating_add(1)) == b'*'
+    }
+}
+
+/// Returns the slip that all cards before the data have.
+fn common_slip(source: &[u8]) -> Option<DeckSlip> {
+    let mut found: Option<DeckSlip> = None;
+    let mut lines = CardLines::of(source);
+    for first in 1..=MOST_CARDS {
+        let line = lines.line_of(first);
+        if begins_data(line) || ends_source(line) {
+            break;
+        }
+        if is_blank(line) {
+            continue;
+        }
+        let slip = slip_of(line);
+        found = match (found, slip) {
+            (Some(deck), _) if deck.slip.is_comment(line) => Some(deck),
+            (None, Some(slip)) => Some(DeckSlip::at(slip, first)),
+            (Some(deck), Some(slip)) if deck.slip == slip => Some(DeckSlip {
+                cards: deck.cards.saturating_add(1),
+                ..deck
+            }),
+            _ => return None,
+        };
+    }
+    found
+}
+
+impl DeckSlip {
+    /// The slip of one card.
+    fn at(slip: Slip, first: u16) -> Self {
+        let cards = 1;
+        DeckSlip { slip, first, cards }
+    }
+
+    /// Returns the slip of a source with these faults, if all its cards have one.
+    pub fn of(source: &[u8], faults: &[CardFault]) -> Option<DeckSlip> {
+        if is_free(source) {
+            return Some(DeckSlip::at(Slip::Free, 1));
+        }
+        let is_of_form = |fault: &&CardFault| matches!(
+            fault.code,
+            SourceCode::Sheet(SheetCode::S3)
+        );
+        let count = faults.iter().filter(is_of_form).count();
+        if count < LEAST {
+            return None;
+        }
+        let found = common_slip(source)?;
+        (LEAST <= found.cards && found.cards <= count).then_some(found)
+    }
+
+    pub fn columns(self) -> Columns {
+        let first = self.slip.column();
+        Columns { first, last: first }
+    }
+
+    /// Writes what it is, and adds the command that mends a file.
+    pub fn write(self, draft: &mut Draft<'_>) {
+        let sentence = match self.slip {
+            Slip::Moved { .. } => {
+                "on all {} cards the form type is in column {}: it belongs in column 6"
+            }
+            Slip::SmallLetters => "all {} cards are in small letters: rpg2 reads capitals",
+            Slip::Free => "this is RPG IV (**FREE), which rpg2 doesn't read: it reads RPG II",
+        };
+        draft
+            .message
+            .fill_two(sentence, self.cards, self.slip.column());
+        match draft.path() {
+            Some(path) if path != "-" => self.add_command(draft, path),
+            _ => {}
+        }
+    }
+
+    /// Adds the command that mends the file at a path.
+    fn add_command(self, draft: &mut Draft<'_>, path: &str) {
+        let mut remark = draft.text();
+        let path = path.as_bytes();
+        match self.slip {
+            Slip::Moved { column } if column < FORM_TYPE => {
+                remark.write_str("sed 's/^/");
+                for _ in column..FORM_TYPE {
+                    remark.write_char(' ');
+                }
+                remark.fill_one("/' {} > new.rpg moves them", path);
+            }
+            Slip::Moved { column } => {
+                let first = column.saturating_sub(FORM_TYPE).saturating_add(1);
+                remark.fill_two("cut -c{}- {} > new.rpg moves them", first, path);
+            }
+            Slip::SmallLetters => remark.fill_one(
+                "tr a-z A-Z < {} > new.rpg makes capitals, of texts between apostrophes too",
+                path,
+            ),
+            Slip::Free => return,
+        }
+        draft.remark(remark);
     }
 }

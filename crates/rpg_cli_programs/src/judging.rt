@@ -1,16 +1,20 @@
-//! Compiles sources and verifies object programs, given their bytes.
+//! Compiles sources to the bytes of their object programs, verifies object programs, and compares both, given their bytes.
 
-ghost use Rattle.std.specs.Prelude.{◌≡◌, ◌<◌, IfErr, IfOk};
+ghost use Rattle.std.specs.Prelude.{◌≡◌, ◌<◌, IfErr, IfOk, ◌≢◌, None};
 ghost use Rattle.rpg_cli_programs.specs.Judging.{IsSourceOf, ReportsMismatch, ReportsObject, ReportsSource};
 ghost use Rattle.rpg_cli_programs.specs.Spelling.{CompilesTo};
 ghost use Rattle.rpg_engine.specs.Objects.{IsAcceptedWith};
+ghost use Rattle.std.specs.Bool.{MatchBool};
+ghost use Rattle.rpg_object.specs.Program.{spelling, first_fault};
+ghost use Rattle.rpg_faults.specs.Source.{AreFaultless, IsSourceRefusal};
 
-use crate::matching::is_written_as;
-use crate::translation::{CompiledObject, compile_to_object};
 use rpg_cli_answers::Answer;
+use rpg_cli_diagnostics::Made;
+use rpg_compile::{Compiled, compile_with_cards};
 use rpg_engine::{Program, decode_object, verify_bytes};
-use rpg_faults::SourceFault;
+use rpg_faults::{FaultlessCards, SourceFault};
 use rpg_meaning::CompiledSource;
+use rpg_object::encode;
 use rpg_object::laws::a_spelling_is_read_again;
 use std::alloc::Global;
 
@@ -62,4 +66,38 @@ pub(crate) fn matched(
         Ok(false) => Err((source.into_text(), Answer::OtherSource)),
         Err(_) => Err((source.into_text(), SourceFault::NoMemory.into())),
     }
+}
+
+/// Whether these are exactly the bytes of a program.
+pub(crate) fn is_written_as(alloc: Global, program: &Program, bytes: &[u8]) -> Made<bool>
+    ensures { IfOk result (λ is_same. MatchBool is_same (spelling program.now ≡ bytes.now) (spelling program.now ≢ bytes.now)) }
+{
+    let written = encode(alloc, program)?;
+    Ok(written.as_slice() == bytes)
+}
+
+/// The bytes of an object program, and the source that it was compiled from.
+#[derive(Drop)]
+pub struct CompiledObject {
+    pub source: FaultlessCards,
+    pub bytes: Vec<u8>,
+}
+
+/// Compiles a source to an object program.
+pub(crate) fn compile_to_object(
+    alloc: Global,
+    text: &[u8],
+    allowance: u16,
+) -> Result<CompiledObject, SourceFault>
+    requires { 0 < allowance }
+    // The program obeys all rules, and the bytes decode to exactly that program.
+    ensures ok { IfOk result (λ object. CompilesTo text.now allowance object.bytes.items) }
+    ensures cards { IfOk result (λ object. AreFaultless text.now object.source.cards.items) }
+    ensures refused { IfErr result (λ fault. IsSourceRefusal fault text.now) }
+    ensures faultless { IfOk result (λ object. first_fault object.bytes.items ≡ None) }
+{
+    a_spelling_is_read_again();
+    let Compiled { source, program } = compile_with_cards(alloc, text, allowance)?;
+    let bytes = encode(alloc, &program)?;
+    Ok(CompiledObject { source, bytes })
 }

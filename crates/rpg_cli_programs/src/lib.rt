@@ -3,23 +3,11 @@
 //! with the source that the arguments name.
 #![tactic(auto)]
 
-mod checking;
 mod compiling;
-mod decks;
 mod judging;
-mod listing;
-mod matching;
-mod rejecting;
-mod showing;
+mod session;
 mod sources;
-mod translation;
 
-pub use checking::check_files;
-pub use compiling::compile_files;
-pub use decks::cards_file;
-pub use judging::{compiled, verified};
-pub use listing::list_file;
-pub use rejecting::report_object;
-pub use showing::{show_file, verify_file};
-pub use sources::{OwnSource, own_source, report_faults};
-pub use translation::CompiledObject;
+pub use judging::{CompiledObject, compiled, verified};
+pub use session::Session;
+pub use sources::{OwnSource, own_source, report_faults, report_object};

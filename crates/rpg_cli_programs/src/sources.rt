@@ -1,15 +1,18 @@
-//! The source of an object program that is shown or run, if the arguments name it.
+//! The source of an object program that is shown or run, if the arguments name it; and the diagnostics for a source or an object program
+//! that is rejected. If memory runs out for one, only the line is printed.
 
 use crate::judging::matched;
 use rpg_cli_answers::{Answer, Listener, file_at, named, tell_all};
-use rpg_cli_diagnostics::FileName;
+use rpg_cli_diagnostics::{Diagnostic, FileName};
 use rpg_cli_files::file_bytes;
 use rpg_cli_messages::source_diagnostics;
+use rpg_cli_refusals::{bytes_diagnostic, rule_diagnostic};
 use rpg_cli_show_fields::SourceRows;
 use rpg_cli_words::FileArgument;
+use rpg_engine::{ObjectFault, decode_object};
 use rpg_faults::{faultless_cards, source_faults};
 use rpg_meaning::CompiledSource;
-use std::alloc::Global;
+use std::alloc::{AllocError, Global};
 use std::rt::Files;
 
 /// The most faults of the source that are listed.
@@ -84,4 +87,37 @@ pub fn report_faults<L: Listener>(
     }
     let told = source_diagnostics(alloc, file, source, &judged, most);
     tell_all(listener, &told);
+}
+
+fn object_diagnostic<'a>(
+    alloc: Global,
+    file: FileName<'a>,
+    object: &[u8],
+    fault: ObjectFault,
+) -> Result<Option<Diagnostic<'a>>, AllocError> {
+    match fault {
+        ObjectFault::NotAnObject { offset, code } => {
+            Ok(Some(bytes_diagnostic(alloc, file, object, offset, code)?))
+        }
+        ObjectFault::Refused(_) => match decode_object(alloc, object) {
+            Ok(program) => rule_diagnostic(alloc, file, &program),
+            Err(_) => Ok(None),
+        },
+        ObjectFault::NoMemory => Ok(None),
+    }
+}
+
+/// Reports what is wrong with the bytes of an object file.
+pub fn report_object<L: Listener>(
+    alloc: Global,
+    file: FileName<'_>,
+    object: &[u8],
+    fault: ObjectFault,
+    listener: &mut L,
+) {
+    match object_diagnostic(alloc, file, object, fault) {
+        Ok(Some(told)) => listener.tell(&told),
+        Ok(None) => {}
+        Err(_) => listener.lose(),
+    }
 }

@@ -4,12 +4,7 @@
 
 mod bytes;
 mod causes;
-mod fields;
-mod parts;
-mod rows;
 mod rules;
-mod spot;
 
 pub use bytes::bytes_diagnostic;
-pub use rows::write_instruction_at;
-pub use rules::rule_diagnostic;
+pub use rules::{rule_diagnostic, write_instruction_at};

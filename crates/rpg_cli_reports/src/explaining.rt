@@ -12,78 +12,43 @@ fn halt_of(alloc: Global, number: &str) -> Result<Option<Topic>, AllocError> {
     Ok(topic_of(name.as_str()))
 }
 
-/// The topics of the arguments so far.
-#[derive(Drop)]
-struct Topics {
-    alloc: Global,
-    topics: Vec<Topic>,
-    /// Whether the last argument is `halt`, which a number may follow.
-    is_halt: bool,
+/// Returns the halt that two arguments name: `halt`, and its number.
+fn halt_at(alloc: Global, arguments: &[&str], place: usize) -> Result<Option<Topic>, AllocError> {
+    match arguments.get(place..) {
+        Some([first, number, ..]) if first.eq_ignore_ascii_case("halt") => halt_of(alloc, number),
+        _ => Ok(None),
+    }
 }
 
-impl Topics {
-    fn push_halts(&mut self) -> Result<(), AllocError> {
+/// Appends the topics of an argument that isn't followed by the number of a halt: a code, or all halts. Returns whether it is one.
+fn push_topics(topics: &mut Vec<Topic>, argument: &str) -> Result<bool, AllocError> {
+    if argument.eq_ignore_ascii_case("halts") || argument.eq_ignore_ascii_case("halt") {
         for halt in HALTS {
-            self.topics.push(Topic::Halt(halt))?;
+            topics.push(Topic::Halt(halt))?;
         }
-        Ok(())
+    } else if let Some(topic) = topic_of(argument) {
+        topics.push(topic)?;
+    } else {
+        return Ok(false);
     }
-
-    /// Ends a `halt` without a number, which stands for all halts.
-    fn end_halt(&mut self) -> Result<(), AllocError> {
-        if !self.is_halt {
-            return Ok(());
-        }
-        self.is_halt = false;
-        self.push_halts()
-    }
-
-    /// Takes an argument that isn't the number of a halt. Returns whether it is a code or `halt`.
-    fn take_code(&mut self, argument: &str) -> Result<bool, AllocError> {
-        self.end_halt()?;
-        if argument.eq_ignore_ascii_case("halts") {
-            self.push_halts()?;
-        } else if argument.eq_ignore_ascii_case("halt") {
-            self.is_halt = true;
-        } else if let Some(topic) = topic_of(argument) {
-            self.topics.push(topic)?;
-        } else {
-            return Ok(false);
-        }
-        Ok(true)
-    }
-
-    /// Takes an argument. Returns whether it is a code or part of one.
-    fn take(&mut self, argument: &str) -> Result<bool, AllocError> {
-        if !self.is_halt {
-            return self.take_code(argument);
-        }
-        match halt_of(self.alloc, argument)? {
-            Some(topic) => {
-                self.is_halt = false;
-                self.topics.push(topic)?;
-                Ok(true)
-            }
-            None => self.take_code(argument),
-        }
-    }
+    Ok(true)
 }
 
 /// Returns the topics of the arguments: codes, and `halt` with the number after it; a bare `halt` and `halts` stand for all halts. None if
 /// one isn't a code.
 fn topics_of(alloc: Global, arguments: &[&str]) -> Result<Option<Vec<Topic>>, AllocError> {
-    let mut topics = Topics {
-        alloc,
-        topics: Vec::new(alloc),
-        is_halt: false,
-    };
-    for argument in arguments {
-        if !topics.take(argument)? {
+    let mut topics = Vec::new(alloc);
+    let mut is_number = false;
+    for (place, argument) in arguments.iter().enumerate() {
+        if is_number {
+            is_number = false;
+        } else if let Some(halt) = halt_at(alloc, arguments, place)? {
+            topics.push(halt)?;
+            is_number = true;
+        } else if !push_topics(&mut topics, argument)? {
             return Ok(None);
         }
     }
-    topics.end_halt()?;
-    let Topics { topics, .. } = topics;
     Ok(Some(topics))
 }
 

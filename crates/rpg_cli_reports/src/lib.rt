@@ -2,13 +2,11 @@
 #![tactic(auto)]
 
 mod explaining;
-mod outlet;
 mod reporting;
 mod saying;
 mod streams;
 
 pub use explaining::explain;
-pub use outlet::Outlet;
 pub use reporting::{report_source_fault, report_unwritten};
-pub use saying::{conclude, refuse, say};
+pub use saying::{Outlet, conclude, refuse};
 pub use streams::{StandardError, StandardStreams};

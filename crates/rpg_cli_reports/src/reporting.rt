@@ -1,13 +1,13 @@
 //! Diagnostics about failed files and bad dates.
 
-use crate::outlet::Outlet;
+use crate::saying::Outlet;
 use rpg_cli_answers::{Answer, Listener, Reasons, file_at, file_of, tell_made};
-use rpg_cli_diagnostics::{Diagnostic, Draft, Level};
+use rpg_cli_diagnostics::{Diagnostic, Draft, Level, Made};
 use rpg_cli_files::{FileFault, Reason};
 use rpg_cli_text::TextWriter;
 use rpg_cli_words::{DateArgument, FileArgument, Request};
 use rpg_engine::{InputFile, OutputFile, ReadFault, RunFault};
-use std::alloc::{AllocError, Global};
+use std::alloc::Global;
 
 /// Writes why a file failed; nothing if memory ran out.
 fn write_file_fault(out: &mut TextWriter, role: &str, fault: FileFault) {
@@ -82,12 +82,7 @@ fn is_date(digits: [u8; 6]) -> bool {
 }
 
 fn are_digits(text: &[u8]) -> bool {
-    for byte in text {
-        if !byte.is_ascii_digit() {
-            return false;
-        }
-    }
-    true
+    text.iter().all(|byte| byte.is_ascii_digit())
 }
 
 /// A month, a day and a year of two digits, and whether they were written with points: the day may come first then.
@@ -104,23 +99,13 @@ fn six_digits(text: &[u8]) -> Option<SixDigits> {
         [d, e, b'.', m, n, b'.', c, f, y, z] => ([c, f], [m, n, d, e, y, z], true),
         _ => return None,
     };
-    if are_digits(&century) && are_digits(&date) && is_date(date) {
-        Some(SixDigits { date, has_points })
-    } else {
-        None
-    }
+    let is_valid = are_digits(&century) && are_digits(&date) && is_date(date);
+    is_valid.then_some(SixDigits { date, has_points })
 }
 
-/// A file that failed: its argument, and the reason that the system gave.
-#[derive(Clone, Copy)]
-struct Failed {
-    argument: FileArgument,
-    reason: Option<Reason>,
-}
-
-/// Returns the file that an answer is about, if it is about one that failed.
-fn failed_file(answer: &Answer, reasons: Reasons) -> Option<Failed> {
-    let (argument, reason) = match *answer {
+/// Returns the argument whose file failed, if an answer is about one, and the reason that the system gave.
+fn failed_file(answer: &Answer, reasons: Reasons) -> Option<(FileArgument, Option<Reason>)> {
+    Some(match *answer {
         Answer::File { argument, .. } => (argument, None),
         Answer::OtherSource => (FileArgument::OwnSource, None),
         Answer::Run(RunFault::Read { file, .. }) => match file {
@@ -132,14 +117,11 @@ fn failed_file(answer: &Answer, reasons: Reasons) -> Option<Failed> {
             OutputFile::Disk => (FileArgument::Disk, reasons.disk),
         },
         _ => return None,
-    };
-    Some(Failed { argument, reason })
+    })
 }
 
 /// Writes why a file failed.
-fn write_failed(out: &mut TextWriter, answer: &Answer, failed: Failed) {
-    let Failed { argument, reason } = failed;
-    let role = argument.name();
+fn write_failed(out: &mut TextWriter, answer: &Answer, role: &str, reason: Option<Reason>) {
     match *answer {
         Answer::File { fault, .. } => write_file_fault(out, role, fault),
         Answer::Run(RunFault::Read { fault, .. }) => write_read_fault(out, role, fault, reason),
@@ -154,23 +136,23 @@ fn answer_diagnostic<'a>(
     request: &Request<'a>,
     answer: &Answer,
     reasons: Reasons,
-) -> Result<Diagnostic<'a>, AllocError> {
-    let Some(failed) = failed_file(answer, reasons) else {
+) -> Made<Diagnostic<'a>> {
+    let Some((argument, reason)) = failed_file(answer, reasons) else {
         let mut draft = Draft::new(alloc, Level::Error, None, None);
         if let Answer::Run(RunFault::BadDate) = answer {
             write_bad_date(&mut draft.message, request);
         }
         return draft.finish();
     };
-    let mut draft = Draft::error(alloc, file_of(request, failed.argument).whole());
+    let mut draft = Draft::error(alloc, file_of(request, argument).whole());
     if let Answer::File {
         fault: FileFault::Beside(Reason::Taken),
         ..
     } = answer
     {
-        write_taken(&mut draft, failed.argument.name());
+        write_taken(&mut draft, argument.name());
     } else {
-        write_failed(&mut draft.message, answer, failed);
+        write_failed(&mut draft.message, answer, argument.name(), reason);
     }
     draft.finish()
 }
@@ -187,22 +169,11 @@ fn write_taken(draft: &mut Draft<'_>, role: &str) {
 }
 
 /// Prints a diagnostic, if it has a message.
-fn tell_any<L: Listener>(listener: &mut L, made: Result<Diagnostic<'_>, AllocError>) {
+fn tell_any<L: Listener>(listener: &mut L, made: Made<Diagnostic<'_>>) {
     match &made {
         Ok(told) if told.message.is_empty() => {}
         _ => tell_made(listener, made),
     }
-}
-
-fn source_fault_diagnostic(
-    alloc: Global,
-    path: &str,
-    fault: FileFault,
-) -> Result<Diagnostic<'_>, AllocError> {
-    let file = file_at(FileArgument::Source, path);
-    let mut draft = Draft::error(alloc, file.whole());
-    write_file_fault(&mut draft.message, file.role, fault);
-    draft.finish()
 }
 
 /// Reports why one of several sources can't be read.
@@ -212,7 +183,10 @@ pub fn report_source_fault<L: Listener>(
     fault: FileFault,
     listener: &mut L,
 ) {
-    tell_any(listener, source_fault_diagnostic(alloc, path, fault));
+    let file = file_at(FileArgument::Source, path);
+    let mut draft = Draft::error(alloc, file.whole());
+    write_file_fault(&mut draft.message, file.role, fault);
+    tell_any(listener, draft.finish());
 }
 
 /// Reports which file failed and why.
@@ -236,9 +210,7 @@ pub fn report_unwritten<L: Listener>(
     if let (Reason::Closed, true) = (reason, outlet.may_close) {
         return;
     }
-    let told = Draft::new(alloc, Level::Error, None, None).filled(
-        "{} can't be written: {}",
-        &[outlet.name.into(), reason.text().into()],
-    );
-    tell_made(listener, told);
+    let pieces = [outlet.name.into(), reason.text().into()];
+    let draft = Draft::new(alloc, Level::Error, None, None);
+    tell_made(listener, draft.filled("{} can't be written: {}", &pieces));
 }

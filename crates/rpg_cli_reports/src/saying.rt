@@ -1,13 +1,12 @@
-//! Prints the line of an answer, with its diagnostic, or explains why the arguments are rejected.
+//! Prints the line of an answer, with its diagnostic, or explains why the arguments are rejected; and where the line goes.
 
 ghost use Rattle.std.specs.Prelude.{◌≡◌, ◌≤◌};
 ghost use Rattle.rpg_cli_reports.specs.Saying.{PrintsALine, Says, SaysOrIsQuiet, SaysWith, WritesLine, status_with};
 
-use crate::outlet::Outlet;
 use crate::reporting::{report_answer, report_unwritten};
 use rpg_cli_answers::{Answer, Listener, Reasons, json_line, line};
 use rpg_cli_files::{Reason, send_line};
-use rpg_cli_words::{AnswerArguments, Format, Refusal, Request};
+use rpg_cli_words::{AnswerArguments, CommandName, Format, Refusal, Request};
 use std::alloc::Global;
 use std::io::Write;
 
@@ -66,7 +65,7 @@ fn say_with<W: Write, L: Listener>(
 }
 
 /// Prints the line or the object of an answer, and returns the exit status. Reports it if that can't be written.
-pub fn say<W: Write, L: Listener>(
+fn say<W: Write, L: Listener>(
     alloc: Global,
     out: &mut W,
     outlet: Outlet,
@@ -86,17 +85,16 @@ fn say_if_wanted<W: Write, L: Listener>(
     alloc: Global,
     out: &mut W,
     outlet: Outlet,
-    is_quiet: bool,
-    format: Format,
+    arguments: AnswerArguments,
     answer: &Answer,
     listener: &mut L,
 ) -> u8
-    ensures { SaysOrIsQuiet is_quiet format (W.contents out.old) (W.contents out.new) result answer.now }
+    ensures { SaysOrIsQuiet arguments.is_quiet arguments.format (W.contents out.old) (W.contents out.new) result answer.now }
 {
-    if is_quiet && !listener.has_lost() && line(answer).status == 0 {
+    if arguments.is_quiet && !listener.has_lost() && line(answer).status == 0 {
         0
     } else {
-        say(alloc, out, outlet, format, answer, listener)
+        say(alloc, out, outlet, arguments.format, answer, listener)
     }
 }
 
@@ -111,12 +109,8 @@ fn explain_refusal<R: Print + Eprint + AllocGlobal, L: Listener>(
     match refusal.explain(rt) {
         Ok(status) => status,
         Err(error) => {
-            report_unwritten(
-                rt.alloc(),
-                Outlet::PAGES,
-                Reason::of(error.kind()),
-                listener,
-            );
+            let reason = Reason::of(error.kind());
+            report_unwritten(rt.alloc(), Outlet::PAGES, reason, listener);
             1
         }
     }
@@ -133,14 +127,8 @@ pub fn refuse<R: Print + Eprint + AllocGlobal, W: Write, L: Listener>(
 {
     listener.end();
     if refusal.is_no_memory() {
-        say(
-            rt.alloc(),
-            out,
-            Outlet::STANDARD_OUTPUT,
-            Format::Text,
-            &Answer::NoMemory,
-            listener,
-        )
+        let (outlet, answer) = (Outlet::STANDARD_OUTPUT, Answer::NoMemory);
+        say(rt.alloc(), out, outlet, Format::Text, &answer, listener)
     } else {
         explain_refusal(rt, refusal, listener)
     }
@@ -158,20 +146,55 @@ pub fn conclude<W: Write, L: Listener>(
 ) -> u8
     ensures { PrintsALine (W.contents out.old) (W.contents out.new) result }
 {
-    let outlet = Outlet::of(request);
-    let AnswerArguments {
-        is_quiet,
-        format,
-        ..
-    } = request.answer;
+    let (outlet, arguments) = (Outlet::of(request), request.answer);
     if outlet.is_error {
         report_answer(alloc, request, answer, reasons, listener);
         listener.end();
-        return say_if_wanted(alloc, out, outlet, is_quiet, format, answer, listener);
+        return say_if_wanted(alloc, out, outlet, arguments, answer, listener);
     }
     listener.pass_on();
-    let status = say_if_wanted(alloc, out, outlet, is_quiet, format, answer, listener);
+    let status = say_if_wanted(alloc, out, outlet, arguments, answer, listener);
     report_answer(alloc, request, answer, reasons, listener);
     listener.end();
     status
+}
+
+/// Where the line of an answer and the text before it go.
+#[derive(Clone, Copy)]
+pub struct Outlet {
+    pub name: &'static str,
+    /// Whether its reader may close it early, as `head` does.
+    pub may_close: bool,
+    /// Whether diagnostics go there too.
+    pub is_error: bool,
+}
+
+impl Outlet {
+    pub const STANDARD_OUTPUT: Outlet = Outlet {
+        name: "standard output",
+        may_close: false,
+        is_error: false,
+    };
+
+    pub const PAGES: Outlet = Outlet {
+        name: "standard output",
+        may_close: true,
+        is_error: false,
+    };
+
+    const STANDARD_ERROR: Outlet = Outlet {
+        name: "standard error",
+        may_close: false,
+        is_error: true,
+    };
+
+    pub fn of(request: &Request) -> Outlet {
+        match request.command {
+            CommandName::List | CommandName::Cards | CommandName::Show | CommandName::Explain => {
+                Outlet::PAGES
+            }
+            _ if request.writes_standard_output() => Outlet::STANDARD_ERROR,
+            _ => Outlet::STANDARD_OUTPUT,
+        }
+    }
 }

@@ -3,13 +3,13 @@
 use json::Writer;
 use rpg_cli_answers::Listener;
 use rpg_cli_diagnostics::{
-    Diagnostic, FileName, Level, Place, begin_object, end_object, line_of, write_line_text,
+    Diagnostic, FileName, Level, Made, Place, begin_object, end_object, line_of, write_line_text,
     write_note_object, write_note_text, write_text,
 };
 use rpg_cli_files::{Reason, send_text};
 use rpg_cli_text::TextWriter;
 use rpg_cli_words::Format;
-use std::alloc::{AllocError, Global};
+use std::alloc::Global;
 use std::io::{self, Error, ErrorKind, Write};
 use std::{mem, str};
 
@@ -31,7 +31,7 @@ struct Remark {
 }
 
 impl Remark {
-    fn of(alloc: Global, file: FileName<'_>, message: &str) -> Result<Remark, AllocError> {
+    fn of(alloc: Global, file: FileName<'_>, message: &str) -> Made<Remark> {
         let path = file.path;
         Ok(Remark {
             path: format!(in alloc; "{path}")?,
@@ -82,7 +82,7 @@ impl<R: Print + Eprint + AllocGlobal> StandardStreams<'_, R> {
     }
 
     /// Prints a text, unless memory ran out for it.
-    fn print_made(&mut self, text: Result<String, AllocError>) {
+    fn print_made(&mut self, text: Made<String>) {
         match text {
             Ok(text) => self.print(text.as_str()),
             Err(_) => self.lose(),
@@ -112,12 +112,8 @@ impl<R: Print + Eprint + AllocGlobal> StandardStreams<'_, R> {
 
     /// Prints the object that waits.
     fn pass_object(&mut self) {
-        if let Some(mut out) = self.object.take() {
-            let line = match end_object(&mut out) {
-                Ok(()) => line_of(out),
-                Err(error) => Err(error),
-            };
-            self.print_made(line);
+        if let Some(out) = self.object.take() {
+            self.print_made(object_line(out));
         }
     }
 
@@ -145,24 +141,20 @@ impl<R: Print + Eprint + AllocGlobal> StandardStreams<'_, R> {
         }
     }
 
-    /// Returns the remarks that wait, of which there are none afterwards.
-    fn take_remarks(&mut self) -> Vec<Remark> {
-        mem::replace(&mut self.remarks, Vec::new(self.rt.alloc()))
-    }
-
-    /// Adds the remarks that wait to the last diagnostic.
+    /// Adds the remarks that wait to the last diagnostic. Afterwards there are none.
     fn add_remarks(&mut self) {
-        let remarks = self.take_remarks();
+        let remarks = mem::replace(&mut self.remarks, Vec::new(self.rt.alloc()));
         for remark in &remarks {
-            self.add(
-                FileName {
-                    path: remark.path.as_str(),
-                    role: remark.role,
-                },
-                remark.message.as_str(),
-            );
+            let (path, role) = (remark.path.as_str(), remark.role);
+            self.add(FileName { path, role }, remark.message.as_str());
         }
     }
+}
+
+/// Ends an object, and returns it on a line of its own.
+fn object_line(mut out: Writer) -> Made<String> {
+    end_object(&mut out)?;
+    line_of(out)
 }
 
 /// Returns a note as text.
@@ -171,18 +163,14 @@ fn note_text(
     place: Option<Place<'_>>,
     message: &str,
     has_colours: bool,
-) -> Result<String, AllocError> {
+) -> Made<String> {
     let mut out = TextWriter::new(alloc);
     write_note_text(&mut out, place, message, has_colours);
     out.finish()
 }
 
 /// Returns a note as an object on a line of its own.
-fn note_object(
-    alloc: Global,
-    place: Option<Place<'_>>,
-    message: &str,
-) -> Result<String, AllocError> {
+fn note_object(alloc: Global, place: Option<Place>, message: &str) -> Made<String> {
     let mut out = Writer::new(Vec::new(alloc));
     write_note_object(alloc, &mut out, place, message)?;
     line_of(out)

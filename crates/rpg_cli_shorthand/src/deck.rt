@@ -1,8 +1,6 @@
-//! Converts shorthand to cards.
+//! Converts shorthand to cards. The cards that begin data and end a source are the same in shorthand.
 
-use crate::filling::Columns;
-use crate::line_fault::{LineFault, ShorthandFault};
-use crate::marks::{begins_data, ends_source};
+use crate::filling::{Columns, LineFault, ShorthandFault};
 use rpg_cli_text::TextWriter;
 use rpg_sheet::MOST_CARDS;
 use rpg_text::{first_line, has_only_characters, trimmed};
@@ -73,4 +71,14 @@ pub fn deck_of(alloc: Global, shorthand: &[u8]) -> Result<String, ShorthandFault
     let mut out = TextWriter::new(alloc);
     write_deck(&mut out, shorthand)?;
     Ok(out.finish()?)
+}
+
+/// Whether a line is a `**` card, which begins data: a blank or the line's end follows.
+pub fn begins_data(line: &[u8]) -> bool {
+    matches!(line, [b'*', b'*'] | [b'*', b'*', b' ', ..])
+}
+
+/// Whether a line is a `/*` card, which ends a source.
+pub fn ends_source(line: &[u8]) -> bool {
+    matches!(line, [b'/', b'*'] | [b'/', b'*', b' ', ..])
 }

@@ -3,15 +3,8 @@
 
 mod deck;
 mod filling;
-mod items;
-mod line_fault;
-mod marks;
-mod ruler;
 mod shorthand;
 
-pub use deck::deck_of;
-pub use filling::is_shorthand;
-pub use line_fault::{LineFault, ShorthandFault, line_diagnostic};
-pub use marks::{begins_data, ends_source};
-pub use ruler::RULER;
-pub use shorthand::{are_cards, ruled_of, shorthand_of};
+pub use deck::{begins_data, deck_of, ends_source};
+pub use filling::{LineFault, ShorthandFault, is_shorthand, line_diagnostic};
+pub use shorthand::{RULER, are_cards, ruled_of, shorthand_of};

@@ -1,10 +1,7 @@
-//! Converts cards to shorthand.
+//! Converts cards to shorthand, or rules them.
 
-use crate::deck::{next_line, write_line};
-use crate::filling::is_shorthand;
-use crate::items::column_at;
-use crate::marks::{begins_data, ends_source};
-use crate::ruler::RULER;
+use crate::deck::{begins_data, ends_source, next_line, write_line};
+use crate::filling::{column_at, is_shorthand};
 use rpg_cli_columns::begins_range;
 use rpg_cli_text::TextWriter;
 use rpg_faults::{SourceCode, SourceFault};
@@ -169,3 +166,8 @@ pub fn are_cards(source: &[u8]) -> bool {
     }
     false
 }
+
+/// A ruler over 80 columns, which is itself a card: a comment, by the asterisk in column
+/// 7.
+pub const RULER: &str =
+    "....+.*..1....+....2....+....3....+....4....+....5....+....6....+....7....+....8\n";

@@ -33,12 +33,7 @@ fn sentences_of(action: Action<Operand<u16>>) -> [&'static str; 3] {
 }
 
 /// Writes an operand, if there is one, in a column of this width and a blank.
-fn write_column(
-    out: &mut TextWriter,
-    shown: Shown<'_>,
-    used: Option<Use<Operand<u16>>>,
-    width: usize,
-) {
+fn write_column(out: &mut TextWriter, shown: Shown, used: Option<Use<Operand<u16>>>, width: usize) {
     let end = out.len().saturating_add(width);
     if let Some(used) = used {
         shown.write_operand(out, used.operand);

@@ -1,8 +1,7 @@
 //! The contents of factors, results and output fields.
 
 use crate::source_rows::SourceRows;
-use crate::values::write_value;
-use crate::words::name_text;
+use crate::words::{name_text, write_value};
 use rpg_cli_text::TextWriter;
 use rpg_program::form::is_constant;
 use rpg_program::forms::form_at;

@@ -1,20 +1,19 @@
 //! The fields that a cycle changed.
 
-use crate::names::JobNames;
 use crate::told::Told;
-use crate::values::{number_at, text_at, values_of};
 use rpg_cli_files::Listener;
 use rpg_cli_show_fields::{write_quoted, write_value};
-use rpg_cli_text::TextWriter;
 use rpg_memory::memory::Memory;
-use rpg_program::form::FieldForm;
+use rpg_program::form::{FieldForm, Kind};
+use rpg_program::forms::form_at;
 use rpg_program::value::Value;
 use rpg_store::Store;
 use std::alloc::{AllocError, Global};
 
-/// The form of a field, and the values of its entries after the last cycle.
+/// A field, its form, and the values of its entries after the last cycle.
 #[derive(Drop)]
 struct FieldValues {
+    field: u16,
     form: FieldForm,
     entries: Vec<Value>,
 }
@@ -25,52 +24,57 @@ pub(crate) struct Values {
     fields: Vec<FieldValues>,
 }
 
-/// An entry of a field in a cycle.
+/// An entry of a field.
 #[derive(Clone, Copy)]
-struct EntryAt {
-    cycle: u64,
+pub(crate) struct EntryAt {
+    pub field: u16,
+    pub form: FieldForm,
+    pub position: u16,
+}
+
+/// Returns the number in an entry of a field, if it is one.
+fn number_at<S: Store + Drop>(memory: &Memory<'_, S>, field: u16, position: u16) -> Option<i64> {
+    let form = form_at(memory.rows(), field)?;
+    if position == 0 || position > form.entries {
+        return None;
+    }
+    match form.kind {
+        Kind::Number => Some(memory.number(field, position)),
+        Kind::Text => None,
+    }
+}
+
+/// Returns the text in an entry of a field, if it is one.
+fn text_at<'m, S: Store + Drop>(
+    memory: &'m Memory<'_, S>,
     field: u16,
-    form: FieldForm,
     position: u16,
+) -> Option<&'m [u8]> {
+    let form = form_at(memory.rows(), field)?;
+    if position == 0 || position > form.entries {
+        return None;
+    }
+    match form.kind {
+        Kind::Number => None,
+        Kind::Text => Some(memory.text(field, position)),
+    }
 }
 
-/// Writes the line of an entry up to its old value.
-fn write_entry(out: &mut TextWriter, names: &JobNames<'_, '_, '_>, at: EntryAt) {
-    out.fill("cycle {}: ", &[at.cycle.into()]);
-    names.write_entry(out, at.field, at.form, at.position);
-    out.write_str(" was ");
-}
-
-/// Reports a number that changed.
-fn report_numbers<L: Listener>(
-    told: &mut Told<'_, L>,
-    names: &JobNames<'_, '_, '_>,
-    at: EntryAt,
-    old: i64,
-    new: i64,
-) {
-    let out = &mut told.out;
-    write_entry(out, names, at);
-    write_value(out, &Value::Number(old), at.form.decimals);
-    out.write_str(", is ");
-    write_value(out, &Value::Number(new), at.form.decimals);
-    told.end_line();
-}
-
-/// Reports a text that changed.
-fn report_texts<L: Listener>(
-    told: &mut Told<'_, L>,
-    names: &JobNames<'_, '_, '_>,
-    at: EntryAt,
-    old: &[u8],
-    new: &[u8],
-) {
-    let out = &mut told.out;
-    write_entry(out, names, at);
-    write_quoted(out, old);
-    out.write_str(", is ");
-    write_quoted(out, new);
-    told.end_line();
+/// Returns the values of a field, one for each entry.
+fn values_of<S: Store + Drop>(
+    alloc: Global,
+    memory: &Memory<'_, S>,
+    field: u16,
+    entries: u16,
+) -> Result<Vec<Value>, AllocError> {
+    let mut values = Vec::new(alloc);
+    for before in 0..entries {
+        values.push(match text_at(memory, field, before + 1) {
+            Some(text) => Value::Text(Vec::from_slice(alloc, text)?),
+            None => Value::Number(number_at(memory, field, before + 1).unwrap_or(0)),
+        })?;
+    }
+    Ok(values)
 }
 
 /// Keeps the value of an entry.
@@ -85,103 +89,101 @@ fn keep<S: Store + Drop>(memory: &Memory<'_, S>, field: u16, position: u16, valu
     }
 }
 
-/// Reports an entry if its value changed.
-fn report_change<S: Store + Drop, L: Listener>(
-    told: &mut Told<'_, L>,
-    names: &JobNames<'_, '_, '_>,
-    memory: &Memory<'_, S>,
-    at: EntryAt,
-    value: &Value,
-) {
-    match value {
-        Value::Number(old) => {
-            let new = number_at(memory, at.field, at.position).unwrap_or(*old);
-            if new != *old {
-                report_numbers(told, names, at, *old, new);
+impl<L: Listener> Told<'_, '_, L> {
+    /// Begins the line of an entry, up to its old value.
+    fn begin_entry(&mut self, at: EntryAt) {
+        let names = self.names;
+        self.out.fill("cycle {}: ", &[self.cycle.into()]);
+        names.write_entry(&mut self.out, at);
+        self.out.write_str(" was ");
+    }
+
+    fn report_number(&mut self, at: EntryAt, old: i64, new: i64) {
+        self.begin_entry(at);
+        write_value(&mut self.out, &Value::Number(old), at.form.decimals);
+        self.out.write_str(", is ");
+        write_value(&mut self.out, &Value::Number(new), at.form.decimals);
+        self.end_line();
+    }
+
+    fn report_text(&mut self, at: EntryAt, old: &[u8], new: &[u8]) {
+        self.begin_entry(at);
+        write_quoted(&mut self.out, old);
+        self.out.write_str(", is ");
+        write_quoted(&mut self.out, new);
+        self.end_line();
+    }
+
+    /// Reports an entry if its value changed.
+    fn report_change<S: Store + Drop>(&mut self, memory: &Memory<S>, at: EntryAt, value: &Value) {
+        match value {
+            Value::Number(old) => {
+                let new = number_at(memory, at.field, at.position).unwrap_or(*old);
+                if new != *old {
+                    self.report_number(at, *old, new);
+                }
+            }
+            Value::Text(old) => {
+                let new = text_at(memory, at.field, at.position).unwrap_or(&[]);
+                if new != old.as_slice() {
+                    self.report_text(at, old, new);
+                }
             }
         }
-        Value::Text(old) => {
-            let new = text_at(memory, at.field, at.position).unwrap_or(&[]);
-            if new != old.as_slice() {
-                report_texts(told, names, at, old, new);
-            }
+    }
+
+    /// Reports each entry of a field that changed.
+    fn report_field<S: Store + Drop>(&mut self, memory: &Memory<S>, values: &FieldValues) {
+        let mut at = EntryAt {
+            field: values.field,
+            form: values.form,
+            position: 0,
+        };
+        for value in &values.entries {
+            at.position = at.position.saturating_add(1);
+            self.report_change(memory, at, value);
+        }
+    }
+
+    /// Reports each entry of all fields that changed.
+    pub fn report_fields<S: Store + Drop>(&mut self, memory: &Memory<S>, values: &Values) {
+        for field in &values.fields {
+            self.report_field(memory, field);
         }
     }
 }
 
 impl FieldValues {
-    /// Reports each entry that changed.
-    fn report_changes<S: Store + Drop, L: Listener>(
-        &self,
-        told: &mut Told<'_, L>,
-        names: &JobNames<'_, '_, '_>,
-        memory: &Memory<'_, S>,
-        cycle: u64,
-        field: u16,
-    ) {
-        let form = self.form;
-        let mut position = 0u16;
-        for value in &self.entries {
-            position = position.saturating_add(1);
-            let at = EntryAt {
-                cycle,
-                field,
-                form,
-                position,
-            };
-            report_change(told, names, memory, at, value);
-        }
-    }
-
     /// Keeps the values of all entries.
-    fn keep<S: Store + Drop>(&mut self, memory: &Memory<'_, S>, field: u16) {
+    fn keep<S: Store + Drop>(&mut self, memory: &Memory<'_, S>) {
         let mut position = 0u16;
         for value in self.entries.iter_mut() {
             position = position.saturating_add(1);
-            keep(memory, field, position, value);
+            keep(memory, self.field, position, value);
         }
     }
 }
 
 impl Values {
-    pub fn of<S: Store + Drop>(
-        alloc: Global,
-        memory: &Memory<'_, S>,
-    ) -> Result<Values, AllocError> {
+    pub fn of<S: Store + Drop>(alloc: Global, memory: &Memory<'_, S>) -> Result<Self, AllocError> {
         let mut fields = Vec::new(alloc);
         let mut field = 0u16;
         for form in &memory.rows().fields {
             field = field.saturating_add(1);
-            let entries = values_of(alloc, memory, field, form.entries)?;
+            let (form, entries) = (*form, values_of(alloc, memory, field, form.entries)?);
             fields.push(FieldValues {
-                form: *form,
+                field,
+                form,
                 entries,
             })?;
         }
         Ok(Values { fields })
     }
 
-    /// Reports each entry that changed.
-    pub fn report_changes<S: Store + Drop, L: Listener>(
-        &self,
-        told: &mut Told<'_, L>,
-        names: &JobNames<'_, '_, '_>,
-        memory: &Memory<'_, S>,
-        cycle: u64,
-    ) {
-        let mut field = 0u16;
-        for values in &self.fields {
-            field = field.saturating_add(1);
-            values.report_changes(told, names, memory, cycle, field);
-        }
-    }
-
     /// Keeps the values of all fields.
     pub fn keep<S: Store + Drop>(&mut self, memory: &Memory<'_, S>) {
-        let mut field = 0u16;
         for values in self.fields.iter_mut() {
-            field = field.saturating_add(1);
-            values.keep(memory, field);
+            values.keep(memory);
         }
     }
 }

@@ -3,16 +3,10 @@
 
 mod changes;
 mod counts;
-mod due;
-mod levels;
-mod lights;
-mod lines;
 mod looking;
-mod names;
 mod records;
 mod told;
 mod tracing;
-mod values;
 
 pub use looking::{HaltedFile, Looking};
-pub use names::JobNames;
+pub use told::JobNames;

@@ -1,9 +1,8 @@
 //! Looks at a job between its cycles, and reports what it did.
 
 use crate::counts::Counts;
-use crate::names::JobNames;
 use crate::records::Records;
-use crate::told::Told;
+use crate::told::{JobNames, Told};
 use crate::tracing::{Cycle, Reported};
 use rpg_cli_diagnostics::Level;
 use rpg_cli_files::{Listener, tell_all};
@@ -16,9 +15,9 @@ use std::alloc::{AllocError, Global};
 
 /// Reports cycles of a job one by one, and at its end the counts over all of them, as the arguments ask. What memory runs out for is lost.
 #[derive(Drop)]
-pub struct Looking<'p, 'f, 's, 'l, L> {
+pub struct Looking<'a, 'l, L> {
     alloc: Global,
-    names: JobNames<'p, 'f, 's>,
+    names: JobNames<'a>,
     words: LookArguments,
     listener: &'l mut L,
     cycles: u64,
@@ -54,13 +53,13 @@ impl HaltedFile {
     }
 }
 
-impl<'p, 'f, 's, 'l, L: Listener> Looking<'p, 'f, 's, 'l, L> {
+impl<'a, 'l, L: Listener> Looking<'a, 'l, L> {
     pub fn new(
         alloc: Global,
         words: LookArguments,
-        names: JobNames<'p, 'f, 's>,
+        names: JobNames<'a>,
         listener: &'l mut L,
-    ) -> Looking<'p, 'f, 's, 'l, L> {
+    ) -> Self {
         Looking {
             alloc,
             names,
@@ -102,8 +101,8 @@ impl<'p, 'f, 's, 'l, L: Listener> Looking<'p, 'f, 's, 'l, L> {
             return;
         };
         if is_asked {
-            let mut told = Told::new(self.alloc, self.listener);
-            reported.report(&mut told, &self.names, job, cycle);
+            let mut told = Told::new(self.alloc, self.names, self.listener);
+            reported.report(&mut told, job, cycle);
         }
         if is_next {
             reported.keep(job);
@@ -120,12 +119,12 @@ impl<'p, 'f, 's, 'l, L: Listener> Looking<'p, 'f, 's, 'l, L> {
         } else {
             Level::Warning
         };
-        tell_all(self.listener, &counts.falls(self.alloc, level, &self.names));
+        let falls = counts.levels.falls(self.alloc, level, &self.names);
+        tell_all(self.listener, &falls);
         if self.words.watches {
-            let mut told = Told::new(self.alloc, self.listener);
-            counts.report(&mut told, &self.names);
+            counts.report(&mut Told::new(self.alloc, self.names, self.listener));
         }
-        Some(counts.fallen()?.number)
+        Some(counts.levels.fallen()?.number)
     }
 
     /// Returns the file whose record the job had when it halted, if it did.
@@ -146,7 +145,7 @@ fn made<T: Drop, L: Listener>(listener: &mut L, made: Result<T, AllocError>) -> 
     }
 }
 
-impl<L: Listener> Watcher for Looking<'_, '_, '_, '_, L> {
+impl<L: Listener> Watcher for Looking<'_, '_, L> {
     ghost has_begun = { λ _. Unit {0} };
 
     fn looks(&self) -> bool {

@@ -83,20 +83,18 @@ impl Records {
         let has_two = input_length(program, InputFile::Secondary) != 0;
         let from_primary = self.primary.go_on(true, &kept.primary);
         let from_secondary = self.secondary.go_on(has_two, &kept.secondary);
-        if from_primary {
-            Some(Selected {
-                file: InputFile::Primary,
-                number: self.primary.taken,
-                row: row_of(program, InputFile::Primary, &kept.primary.record),
-            })
+        let (file, number, record) = if from_primary {
+            (InputFile::Primary, self.primary.taken, &kept.primary.record)
         } else if from_secondary {
-            Some(Selected {
-                file: InputFile::Secondary,
-                number: self.secondary.taken,
-                row: row_of(program, InputFile::Secondary, &kept.secondary.record),
-            })
+            (
+                InputFile::Secondary,
+                self.secondary.taken,
+                &kept.secondary.record,
+            )
         } else {
-            None
-        }
+            return None;
+        };
+        let row = row_of(program, file, record);
+        Some(Selected { file, number, row })
     }
 }

@@ -1,4 +1,4 @@
-//! Six digits that may be a date.
+//! Values that are written as digits: six that may be a date, a byte, and switches.
 
 ghost use Rattle.std.specs.Prelude.{◌≡◌, ◌≤◌};
 ghost use Rattle.rpg_cli_values.specs.Dates as words;
@@ -36,11 +36,6 @@ fn may_be_date(first: u8, second: u8, third: u8) -> bool
     is_day(first, second) || is_day(second, first) || is_day(second, third)
 }
 
-/// Whether a text is six digits.
-pub fn are_six_digits(text: &str) -> bool {
-    text.len() == 6 && text.bytes().all(|b| b.is_ascii_digit())
-}
-
 /// Returns the value of a digit.
 fn digit(byte: u8) -> Option<u8> {
     byte.is_ascii_digit().then_some(byte.saturating_sub(b'0'))
@@ -67,4 +62,19 @@ pub fn are_no_date(text: &str) -> bool {
         (Some(first), Some(second), Some(third)) => !may_be_date(first, second, third),
         _ => false,
     }
+}
+
+/// Returns the byte that two hexadecimal digits stand for.
+pub fn byte_of(text: &str) -> Option<u8> {
+    match text.as_bytes() {
+        [b'+', _] => None,
+        [_, _] => u8::from_str_radix(text, 16).ok(),
+        _ => None,
+    }
+}
+
+/// Whether a text has a digit 0 or 1 for each switch.
+pub fn are_switches(text: &str) -> bool {
+    let mut digits = text.as_bytes().iter();
+    text.len() == 8 && digits.all(|digit| matches!(*digit, b'0' | b'1'))
 }

@@ -6,11 +6,9 @@ mod code;
 mod codes;
 mod date;
 mod day;
-mod digits;
 
-pub use calendar::{are_no_date, are_six_digits};
+pub use calendar::{are_no_date, are_switches, byte_of};
 pub use code::WarningCode;
 pub use codes::WarningCodes;
 pub use date::DateArgument;
 pub use day::{DateOrder, Day};
-pub use digits::{are_switches, byte_of};

@@ -126,12 +126,7 @@ const COLOURS: &[&str] = &["auto", "always", "never"];
 /// The forms of paper, as arguments.
 const PAPERS: &[&str] = &["a4", "letter", "fanfold"];
 
-/// The codes of warnings that may be allowed.
-const WARNING_CODES: &[&str] = &[
-    "W1", "W2", "W3", "W4", "W5", "W6", "W7", "W8", "W9", "W10", "W11", "W12", "W13", "W14", "W15",
-];
-
-/// The codes of warnings that may be denied.
+/// The codes of warnings that may be denied; all but the first may be allowed.
 const DENIED_CODES: &[&str] = &[
     "all", "W1", "W2", "W3", "W4", "W5", "W6", "W7", "W8", "W9", "W10", "W11", "W12", "W13", "W14",
     "W15",
@@ -264,7 +259,7 @@ impl Argument {
             b'B' => ValueParser::Unsigned(0, u64::MAX),
             b'D' => ValueParser::Names(FORMATS),
             b'X' => ValueParser::Names(COLOURS),
-            b'C' => ValueParser::Names(WARNING_CODES),
+            b'C' => ValueParser::Names(DENIED_CODES.get(1..).unwrap_or(&[])),
             b'K' => ValueParser::Names(DENIED_CODES),
             b'F' | b'Q' => ValueParser::Bool,
             _ => ValueParser::String,

@@ -2,9 +2,8 @@
 
 use crate::commands::cut;
 use crate::files::may_be_standard;
-use crate::merging::bad_lines;
+use crate::merging::{bad_lines, bad_rows};
 use crate::options::{Cycles, TableArgument};
-use crate::rows::bad_rows;
 use clap::ArgMatches;
 use rpg_cli_values::{are_switches, byte_of};
 

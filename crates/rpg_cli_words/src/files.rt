@@ -37,50 +37,37 @@ pub enum FileArgument {
 }
 
 impl FileArgument {
-    /// Returns the name of the argument in the help.
-    pub fn name(self) -> &'static str {
+    /// Returns the argument as in messages, and as in clap's texts.
+    fn names(self) -> (&'static str, &'static str) {
         match self {
-            FileArgument::Source => "SRC",
-            FileArgument::Object => "OBJ",
-            FileArgument::Input => "INPUT",
-            FileArgument::Secondary => "--secondary FILE",
-            FileArgument::Print | FileArgument::Printed => "PRINT",
-            FileArgument::Pdf => "PDF",
-            FileArgument::Disk => "--disk FILE",
-            FileArgument::OwnSource => "--source SRC",
-            FileArgument::By => "--by SRC",
-            FileArgument::To => "--to SRC",
-            FileArgument::Merge => "--merge SRC",
-            FileArgument::In => "IN",
-            FileArgument::Out => "OUT",
-            FileArgument::NewDeck => "--deck NEW",
-            FileArgument::Fitted => "NEW",
-            FileArgument::Table(_) => "--table NAME=FILE",
-            FileArgument::Merged(_) => "NAME=FILE",
+            FileArgument::Source => ("SRC", "<SRC>"),
+            FileArgument::Object => ("OBJ", "<OBJ>"),
+            FileArgument::Input => ("INPUT", "<INPUT>"),
+            FileArgument::Secondary => ("--secondary FILE", "--secondary <FILE>"),
+            FileArgument::Print | FileArgument::Printed => ("PRINT", "<PRINT>"),
+            FileArgument::Pdf => ("PDF", "<PDF>"),
+            FileArgument::Disk => ("--disk FILE", "--disk <FILE>"),
+            FileArgument::OwnSource => ("--source SRC", "--source <SRC>"),
+            FileArgument::In => ("IN", "<IN>"),
+            FileArgument::Out => ("OUT", "<OUT>"),
+            FileArgument::By => ("--by SRC", "--by <SRC>"),
+            FileArgument::To => ("--to SRC", "--to <SRC>"),
+            FileArgument::Merge => ("--merge SRC", "--merge <SRC>"),
+            FileArgument::NewDeck => ("--deck NEW", "--deck <NEW>"),
+            FileArgument::Fitted => ("NEW", "[NEW]"),
+            FileArgument::Table(_) => ("--table NAME=FILE", "--table <NAME=FILE>"),
+            FileArgument::Merged(_) => ("NAME=FILE", "<NAME=FILE>"),
         }
+    }
+
+    /// Returns the name of the argument in messages.
+    pub fn name(self) -> &'static str {
+        self.names().0
     }
 
     /// Returns the argument as in clap's texts.
     pub(crate) fn text(self) -> &'static str {
-        match self {
-            FileArgument::Source => "<SRC>",
-            FileArgument::Object => "<OBJ>",
-            FileArgument::Input => "<INPUT>",
-            FileArgument::Secondary => "--secondary <FILE>",
-            FileArgument::Print | FileArgument::Printed => "<PRINT>",
-            FileArgument::Pdf => "<PDF>",
-            FileArgument::Disk => "--disk <FILE>",
-            FileArgument::OwnSource => "--source <SRC>",
-            FileArgument::In => "<IN>",
-            FileArgument::Out => "<OUT>",
-            FileArgument::By => "--by <SRC>",
-            FileArgument::To => "--to <SRC>",
-            FileArgument::Merge => "--merge <SRC>",
-            FileArgument::NewDeck => "--deck <NEW>",
-            FileArgument::Fitted => "[NEW]",
-            FileArgument::Table(_) => "--table <NAME=FILE>",
-            FileArgument::Merged(_) => "<NAME=FILE>",
-        }
+        self.names().1
     }
 }
 

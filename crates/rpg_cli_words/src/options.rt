@@ -1,7 +1,8 @@
-//! Options that mean something together, or stand for one value of several.
+//! Options that mean something together, or stand for one value of several, and words of the command line that belong together.
 
 use clap::ArgMatches;
-use rpg_cli_values::WarningCodes;
+use rpg_cli_values::{WarningCode, WarningCodes};
+use std::alloc::{AllocError, Global};
 
 /// The form of diagnostics and of the answer.
 #[derive(Clone, Copy, PartialEq, Eq)]
@@ -187,4 +188,59 @@ impl<'a> TableArgument<'a> {
         let (name, path) = text.split_once('=')?;
         (!name.is_empty()).then_some(TableArgument { name, path })
     }
+}
+
+/// A form of paper.
+#[derive(Clone, Copy)]
+pub enum PaperArgument {
+    A4,
+    Letter,
+    /// 14 by 11 inches.
+    Fanfold,
+}
+
+/// How pages are put on paper.
+#[derive(Clone, Copy)]
+pub struct PaperArguments {
+    pub form: PaperArgument,
+    /// The lines of a page.
+    pub length: u16,
+    pub columns: u16,
+    /// Whether there are bars behind the lines.
+    pub has_bars: bool,
+}
+
+impl PaperArguments {
+    pub(crate) fn of(given: &ArgMatches<'_>) -> PaperArguments {
+        PaperArguments {
+            form: match given.get_str("form") {
+                Some("letter") => PaperArgument::Letter,
+                Some("fanfold") => PaperArgument::Fanfold,
+                _ => PaperArgument::A4,
+            },
+            length: given.get_one::<u16>("length").unwrap_or(66),
+            columns: given.get_one::<u16>("columns").unwrap_or(132),
+            has_bars: given.get_flag("bars"),
+        }
+    }
+}
+
+/// Joins `--deny` and the code that follows it to one word, such as `--deny=W4`: clap reads a value that may be missing only after `=`.
+pub fn join_codes(alloc: Global, words: Vec<String>) -> Result<Vec<String>, AllocError> {
+    let mut joined: Vec<String> = Vec::with_capacity(alloc, words.len())?;
+    let mut denies = false;
+    for word in words {
+        match joined.last_mut() {
+            Some(last) if denies && WarningCode::named(word.as_str()).is_some() => {
+                last.push('=')?;
+                last.push_str(word.as_str())?;
+                denies = false;
+            }
+            _ => {
+                denies = word.as_str() == "--deny";
+                joined.push(word)?;
+            }
+        }
+    }
+    Ok(joined)
 }

@@ -24,11 +24,13 @@ impl From<AllocError> for Refusal {
     }
 }
 
-impl Refusal {
-    pub(crate) fn from_clap(error: Error) -> Refusal {
+impl From<Error> for Refusal {
+    fn from(error: Error) -> Refusal {
         Refusal { error }
     }
+}
 
+impl Refusal {
     pub(crate) fn of(reported: Result<Error, AllocError>) -> Refusal {
         match reported {
             Ok(error) => Refusal { error },
@@ -64,36 +66,30 @@ pub fn refuse_bytes(alloc: Global) -> Refusal {
     Refusal::of(fault(alloc, PROGRAM, ErrorKind::InvalidValue, message))
 }
 
-/// Rejects arguments that name the same file.
-pub fn refuse_same_file(alloc: Global, same: SameFile) -> Refusal {
-    Refusal::of(same_file_error(alloc, same))
-}
-
-fn unreplaced_error(alloc: Global, unreplaced: Unreplaced) -> Result<Error, AllocError> {
-    let (written, text) = (unreplaced.written.text(), unreplaced.text());
-    let message = format!(in alloc; "'{written}' {text}")?;
-    fault(
-        alloc,
-        PROGRAM,
-        ErrorKind::ArgumentConflict,
-        message.as_str(),
-    )
+/// Rejects arguments that contradict one another.
+fn conflict(alloc: Global, message: Result<String, AllocError>) -> Refusal {
+    match message {
+        Ok(message) => {
+            let kind = ErrorKind::ArgumentConflict;
+            Refusal::of(fault(alloc, PROGRAM, kind, message.as_str()))
+        }
+        Err(error) => Refusal::from(error),
+    }
 }
 
 /// Rejects an output that doesn't replace what is at its place.
 pub fn refuse_unreplaced(alloc: Global, unreplaced: Unreplaced) -> Refusal {
-    Refusal::of(unreplaced_error(alloc, unreplaced))
+    let (written, text) = (unreplaced.written.text(), unreplaced.text());
+    conflict(alloc, format!(in alloc; "'{written}' {text}"))
 }
 
-fn same_file_error(alloc: Global, same: SameFile) -> Result<Error, AllocError> {
+/// Rejects arguments that name the same file.
+pub fn refuse_same_file(alloc: Global, same: SameFile) -> Refusal {
     let (written, earlier) = (same.written.text(), same.earlier.text());
     let (between, after) = same.shared.texts();
-    let message = format!(in alloc; "'{written}' {between} '{earlier}'{after}")?;
-    fault(
+    conflict(
         alloc,
-        PROGRAM,
-        ErrorKind::ArgumentConflict,
-        message.as_str(),
+        format!(in alloc; "'{written}' {between} '{earlier}'{after}"),
     )
 }
 

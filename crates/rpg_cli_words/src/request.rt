@@ -3,16 +3,13 @@
 ghost use Rattle.std.specs.Prelude.{◌<◌};
 
 use crate::building::matches_of;
-use crate::commands::{Argument, CommandRow, line_of};
 use crate::faults::bad_value;
-use crate::merging::{LinesWay, in_and_out, push_merged};
+use crate::merging::{LinesWay, RowArguments, in_and_out, push_merged};
 use crate::options::{
-    AnswerArguments, CardsWanted, LookArguments, RecordFraming, RecordsWay, TableArgument,
-    WarningArguments,
+    AnswerArguments, CardsWanted, LookArguments, PaperArguments, RecordFraming, RecordsWay,
+    TableArgument, WarningArguments,
 };
-use crate::paper::PaperArguments;
 use crate::refusal::{Refusal, unread};
-use crate::rows::RowArguments;
 use clap::ArgMatches;
 use rpg_cli_values::{DateArgument, byte_of};
 use std::alloc::{AllocError, Global};
@@ -35,9 +32,9 @@ pub enum CommandName {
 }
 
 impl CommandName {
-    /// Returns the command with a name, which is one of COMMANDS.
-    fn of(name: &str) -> CommandName {
-        match name {
+    /// Returns the command with a name.
+    fn of(name: &str) -> Option<CommandName> {
+        Some(match name {
             "compile" => CommandName::Compile,
             "check" => CommandName::Check,
             "list" => CommandName::List,
@@ -49,28 +46,18 @@ impl CommandName {
             "run" => CommandName::Run,
             "go" => CommandName::Go,
             "paper" => CommandName::Paper,
-            _ => CommandName::Explain,
-        }
+            "explain" => CommandName::Explain,
+            _ => return None,
+        })
     }
 
-    /// Returns where printed lines go if the arguments don't say so.
-    fn default_print(self) -> Option<&'static str> {
-        (self == CommandName::Go).then_some("-")
-    }
-
-    /// Returns the argument that names its records, except for `records`, or, of `paper`, its print.
-    fn input(self) -> &'static str {
+    /// Returns INPUT and PRINT; the print of `paper` is its input, and that of `go` goes to standard output if it isn't named.
+    fn devices<'a>(self, given: &ArgMatches<'a>) -> (Option<&'a str>, Option<&'a str>) {
+        let print = given.get_str("PRINT");
         match self {
-            CommandName::Paper => "PRINT",
-            _ => "INPUT",
-        }
-    }
-
-    /// Returns PRINT, if the command writes it.
-    fn print<'a>(self, given: &ArgMatches<'a>) -> Option<&'a str> {
-        match self {
-            CommandName::Paper => None,
-            _ => given.get_str("PRINT").or(self.default_print()),
+            CommandName::Paper => (print, None),
+            CommandName::Go => (given.get_str("INPUT"), print.or(Some("-"))),
+            _ => (given.get_str("INPUT"), print),
         }
     }
 }
@@ -158,43 +145,6 @@ impl Request<'_> {
     }
 }
 
-/// Whether an argument, or the one that can replace it, is there, or it is optional.
-fn is_there(argument: Argument, given: &ArgMatches<'_>) -> bool {
-    let others = argument.unless();
-    if given.get_str(argument.name).is_some() {
-        return true;
-    }
-    if others.is_empty() {
-        return !argument.is_required();
-    }
-    for other in others {
-        if given.get_str(*other).is_some() {
-            return true;
-        }
-    }
-    false
-}
-
-/// Whether the command exists and all arguments that it requires are there. Clap accepts nothing else; if it did, no other command would
-/// run instead.
-fn is_whole(name: &str, given: &ArgMatches<'_>) -> bool {
-    match line_of(name) {
-        Some(line) => {
-            let mut keys = CommandRow::of(line).arguments.split(' ');
-            keys.all(|key| is_there(Argument::of(key), given))
-        }
-        None => false,
-    }
-}
-
-/// The arguments with several values.
-#[derive(Drop)]
-struct Lists<'a> {
-    sources: Vec<&'a str>,
-    tables: Vec<TableArgument<'a>>,
-    codes: Vec<&'a str>,
-}
-
 fn texts<'a>(
     alloc: Global,
     given: &ArgMatches<'a>,
@@ -203,21 +153,12 @@ fn texts<'a>(
     given.get_strs(name).unwrap_or(&[]).to_vec(alloc)
 }
 
-impl<'a> Lists<'a> {
-    fn of(alloc: Global, given: &ArgMatches<'a>) -> Result<Lists<'a>, AllocError> {
-        let sources = texts(alloc, given, "SRC")?;
-        let codes = texts(alloc, given, "CODE")?;
-        let tables = given.get_strs("table").unwrap_or(&[]).iter().copied();
-        let mut tables: Vec<TableArgument<'a>> = tables
-            .filter_map(TableArgument::of)
-            .collect(alloc)?;
-        push_merged(&mut tables, given)?;
-        Ok(Lists {
-            sources,
-            tables,
-            codes,
-        })
-    }
+/// Returns the table files, or the secondary files that are merged.
+fn tables<'a>(alloc: Global, given: &ArgMatches<'a>) -> Result<Vec<TableArgument<'a>>, AllocError> {
+    let tables = given.get_strs("table").unwrap_or(&[]).iter().copied();
+    let mut tables: Vec<TableArgument<'a>> = tables.filter_map(TableArgument::of).collect(alloc)?;
+    push_merged(&mut tables, given)?;
+    Ok(tables)
 }
 
 /// Returns the deck that describes records, and the direction.
@@ -228,17 +169,22 @@ fn deck<'a>(given: &ArgMatches<'a>) -> (Option<&'a str>, RecordsWay) {
     }
 }
 
-/// Returns the request of a command, given the arguments with several values.
-fn request_with<'a>(command: CommandName, given: &ArgMatches<'a>, lists: Lists<'a>) -> Request<'a> {
+/// Returns the request of a command.
+fn requested<'a>(
+    alloc: Global,
+    command: CommandName,
+    given: &ArgMatches<'a>,
+) -> Result<Request<'a>, AllocError> {
     let own_source = given.get_str("source");
     let (deck, way) = deck(given);
-    let (input, output) = in_and_out(given);
-    Request {
+    let (records, output) = in_and_out(given);
+    let (input, print) = command.devices(given);
+    Ok(Request {
         command,
-        sources: lists.sources,
+        sources: texts(alloc, given, "SRC")?,
         object: given.get_str("OBJ").or(given.get_str("output")),
-        input: input.or(given.get_str(command.input())),
-        print: command.print(given),
+        input: records.or(input),
+        print,
         date: given.get_str("date").map(DateArgument::of),
         secondary: given.get_str("secondary"),
         disk: given.get_str("disk"),
@@ -263,16 +209,16 @@ fn request_with<'a>(command: CommandName, given: &ArgMatches<'a>, lists: Lists<'
         low_blank: given.get_flag("low-blank"),
         dropped: given.get_str("drop").and_then(byte_of),
         lines_way: LinesWay::of(given),
-        rows_of_values: RowArguments::of(given),
+        rows_of_values: RowArguments::read(given).unwrap_or(None),
         new_deck: given.get_str("deck").or(given.get_str("NEW")),
         forces: given.get_flag("force"),
-        tables: lists.tables,
+        tables: tables(alloc, given)?,
         switches: given.get_str("switches"),
         gives_forms: given.get_flag("forms"),
         printer: given.get_str("printer"),
-        codes: lists.codes,
+        codes: texts(alloc, given, "CODE")?,
         lists: given.get_flag("list"),
-    }
+    })
 }
 
 /// Returns the request of arguments that clap accepts.
@@ -281,19 +227,17 @@ fn read<'a>(
     arguments: &[String],
     matches: &ArgMatches<'a>,
 ) -> Result<Request<'a>, Refusal> {
-    match matches.subcommand() {
-        Some((name, given)) if is_whole(name, given) && bad_value(matches).is_none() => {
-            let lists = Lists::of(alloc, given)?;
-            Ok(request_with(CommandName::of(name), given, lists))
+    let bad = bad_value(matches);
+    if let (None, Some((name, given))) = (bad, matches.subcommand()) {
+        if let Some(command) = CommandName::of(name) {
+            return Ok(requested(alloc, command, given)?);
         }
-        _ => Err(Refusal::of(unread(alloc, arguments, bad_value(matches)))),
     }
+    Err(Refusal::of(unread(alloc, arguments, bad)))
 }
 
 /// Returns the request of the arguments. The first one is the program's name.
 pub fn request_of<'a>(alloc: Global, arguments: &'a [String]) -> Result<Request<'a>, Refusal> {
-    match matches_of(alloc, arguments) {
-        Ok(matches) => read(alloc, arguments, &matches),
-        Err(error) => Err(Refusal::from_clap(error)),
-    }
+    let matches = matches_of(alloc, arguments)?;
+    read(alloc, arguments, &matches)
 }

@@ -1,5 +1,0 @@
-use Rattle.std.proofs.Common.{length}
-use Rattle.rpg_cli_list.proofs.order.are_alike.Given as goal
-
-abbrev pub decreases-loop-card : goal.decreases-loop-card
-decreases-loop-card l = length l.rest
