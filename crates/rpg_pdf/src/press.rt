@@ -24,7 +24,9 @@ const FORM_FEED: u8 = 12;
 
 impl<R: Read, W: Write> Press<R, W> {
     pub fn new(alloc: Global, settings: Settings, reader: R, writer: W) -> Press<R, W>
-        ensures fresh { IsFresh (sheet_of settings) result }
+        ensures sheet { result.sheet ≡ sheet_of settings }
+        ensures fresh { IsFresh result.sheet result }
+        ensures can_fail { CanFail result }
         ensures reader { device_of result.reader ≡ reader }
         ensures writer { device_of result.writer ≡ writer }
         ensures failures { failures_of result ≡ record { reads = 0; writes = 0; is_short = false } }
