@@ -5,8 +5,9 @@ usage: bench/csv_rows.py [ROWS [DAMAGED]]        100,000 and 5,000 if they aren'
 
 It makes decks and rows at random: texts and numbers of all sizes, columns in another order, quoted and not, line feeds with and without
 carriage returns. The lines that are wanted are calculated by Python's csv and decimal. Then rows are damaged, a byte at a time: rpg2 must
-reject them, or make the lines that Python's strict reader makes of them. Last, it times rpg2 and Python's csv reading the same million rows,
-and reports the most memory that rpg2 took. It prints a line for each comparison; the status is 1 if one differs.
+reject them, or make the lines that Python's strict reader makes of them. Then jobs write such lines to a disk file, with edit codes, and
+`--to-csv` must find the values that they read. Before all that it times rpg2 and Python's csv reading the same million rows, and reports the
+most memory that rpg2 took. It prints a line for each comparison; the status is 1 if one differs.
 """
 
 import csv
@@ -171,6 +172,58 @@ def compare_damaged(folder, wanted):
     return differ
 
 
+CODES = " 1234ABCDJKLMXZ"
+
+
+def written_deck(fields):
+    """A deck of a job that writes each field into 28 columns, and the fields' edit codes."""
+    codes, cards = [], ""
+    for place, field in enumerate(fields):
+        code = " " if field.decimals is None else RANDOM.choice(CODES)
+        fill = RANDOM.choice(("", "'*'", "'$'")) if code in "1234ABCDJKLM" and code != " " else ""
+        codes.append(code)
+        cards += " " * 5 + "O" + " " * 25 + f"{field.name:6}{code} {28 * (place + 1):4} {fill}\n"
+    files = f"     FIN      IP  F    {fields[-1].end:4}            DISK\n     FNEW     O   F    {28 * len(fields):4}            DISK\n"
+    reading = "     IIN      AA  01\n" + "".join(field.card() for field in fields)
+    return files + reading + "     ONEW     D        01\n" + cards, codes
+
+
+def written_cell(field, code, cell):
+    """The cell of what a job writes for a cell that it read: no sign if the code has none, and all decimals."""
+    if field.decimals is None:
+        return cell.rstrip(" ")
+    cell = cell.strip(" ") or "0"
+    if cell.endswith("-") and cell[0] not in "+-":
+        cell = "-" + cell[:-1]
+    value = Decimal(cell)
+    if code in "1234XZ":
+        value = abs(value)
+    return format(value if value else Decimal(0), f".{field.decimals}f")
+
+
+def compare_written(folder, wanted):
+    differ = count = decks = 0
+    while count < wanted:
+        fields = some_fields()
+        names, rows, data = made(fields, min(25, wanted - count))
+        deck, codes = written_deck(fields)
+        count, decks = count + len(rows), decks + 1
+        text = io.StringIO(newline="")
+        writer = csv.writer(text, lineterminator="\n")
+        writer.writerow([field.name for field in fields])
+        by_name = [dict(zip(names, row)) for row in rows]
+        writer.writerows([[written_cell(field, code, row[field.name]) for field, code in zip(fields, codes)] for row in by_name])
+        (folder / "new.csv").unlink(missing_ok=True)
+        convert(folder, deck, data)
+        for words in (["go", "deck.rpg", "out", "--disk", "disk"], ["records", "disk", "new.csv", "--by", "deck.rpg", "--to-csv"]):
+            done = subprocess.run([RPG2, *words], cwd=folder, capture_output=True)
+        if not (folder / "new.csv").exists() or (folder / "new.csv").read_text() != text.getvalue():
+            differ += 1
+            print(f"job {decks} differs: {done.stdout + done.stderr}")
+    print(f"{count} lines of {decks} jobs: {differ} jobs differ")
+    return differ
+
+
 def most_memory(words, folder):
     """Runs a command. Returns how many MB it had in memory at most."""
     run = subprocess.Popen(words, cwd=folder, stdout=subprocess.DEVNULL)
@@ -209,7 +262,7 @@ def main():
     with tempfile.TemporaryDirectory() as name:
         folder = Path(name)
         measure(folder)
-        differ = compare_rows(folder, rows) + compare_damaged(folder, damaged)
+        differ = compare_rows(folder, rows) + compare_damaged(folder, damaged) + compare_written(folder, damaged)
     return 1 if differ else 0
 
 

@@ -13,14 +13,14 @@ use rpg_cli_files::{
 };
 use rpg_cli_messages::{is_object, object_diagnostic};
 use rpg_cli_words::{
-    FileArgument, RecordFraming, RecordsWay, Request, SameFile, Shared, is_standard,
+    FileArgument, RecordFraming, RecordsWay, Request, RowsWay, SameFile, Shared, is_standard,
 };
 use rpg_record_decks::{CardChange, DeckArguments, DeckFault, fitted_deck};
 use rpg_record_lines::{
     ConversionFault, Counts, Framing, Layout, Page, RecordFormat, lines_to_records,
     records_to_lines,
 };
-use rpg_record_outputs::{BackLayout, back_layout, deck_changes, input_layout};
+use rpg_record_outputs::{BackLayout, back_layout, deck_changes, input_layout, rows_layout};
 use std::alloc::Global;
 use std::fs::OpenFile;
 use std::io::{self, BufWriter, Read, Write};
@@ -35,6 +35,14 @@ fn refusal(fault: DeckFault) -> Answer {
         DeckFault::Card { number, .. } => Answer::DeckRefused { card: Some(number) },
         DeckFault::NoFile => Answer::DeckRefused { card: None },
         DeckFault::NoMemory => Answer::NoMemory,
+    }
+}
+
+/// Whether lines become rows of comma-separated values.
+fn makes_rows(request: &Request) -> bool {
+    match request.rows_of_values {
+        Some(rows) => rows.way == RowsWay::ToRows,
+        None => false,
     }
 }
 
@@ -53,7 +61,12 @@ fn accepted<T: Drop, L: Listener>(
             let told = if is_object(source) {
                 object_diagnostic(alloc, file)
             } else {
-                deck_diagnostic(alloc, file, fault)
+                let sought = if makes_rows(request) {
+                    "a file"
+                } else {
+                    "an input file"
+                };
+                deck_diagnostic(alloc, file, fault, sought)
             };
             tell_made(listener, told);
             Err(refusal(fault))
@@ -68,6 +81,9 @@ fn layout(alloc: Global, request: &Request, source: &[u8]) -> Result<BackLayout,
         length: request.length,
         are_lines: request.framing == RecordFraming::Lines,
     };
+    if makes_rows(request) {
+        return rows_layout(alloc, source, arguments);
+    }
     if request.way == RecordsWay::ToRecords && request.rows_of_values.is_none() {
         return back_layout(alloc, source, arguments);
     }
@@ -431,7 +447,7 @@ pub fn records_file<R: Files + Input + Print + AllocGlobal, L: Listener>(
     let BackLayout { layout, written } = accepted(rt.alloc(), request, &source, read, listener)?;
     let made = changes(rt.alloc(), request, &source, &layout);
     let changes = accepted(rt.alloc(), request, &source, made, listener)?;
-    let rows = file_rows(rt.alloc(), request, &source, &layout, listener)?;
+    let rows = file_rows(rt.alloc(), request, &source, &layout, written, listener)?;
     let deck = RecordDeck {
         source: &source,
         layout: &layout,

@@ -128,12 +128,13 @@ fn write_output_fault(out: &mut TextWriter, fault: CardFault) {
     }
 }
 
-/// Returns the diagnostic for a deck.
-pub(crate) fn deck_diagnostic(
+/// Returns the diagnostic for a deck. `sought` is the file that it must describe.
+pub(crate) fn deck_diagnostic<'a>(
     alloc: Global,
-    file: FileName<'_>,
+    file: FileName<'a>,
     fault: DeckFault,
-) -> Result<Diagnostic<'_>, AllocError> {
+    sought: &str,
+) -> Result<Diagnostic<'a>, AllocError> {
     let place = match fault {
         DeckFault::Card { number, .. } => file.line(number.into()),
         DeckFault::NoFile | DeckFault::NoMemory => file.whole(),
@@ -141,9 +142,7 @@ pub(crate) fn deck_diagnostic(
     let mut draft = Draft::error(alloc, place);
     match fault {
         DeckFault::Card { fault, .. } => write_card_fault(&mut draft.message, fault),
-        DeckFault::NoFile => draft
-            .message
-            .write_str("no card describes such an input file"),
+        DeckFault::NoFile => draft.message.fill_one("no card describes such {}", sought),
         DeckFault::NoMemory => draft.message.write_str("no memory"),
     }
     draft.finish()

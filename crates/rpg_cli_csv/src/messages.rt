@@ -3,7 +3,9 @@
 use crate::shown::{write_cell, write_hex};
 use rpg_cli_diagnostics::{Columns, Diagnostic, Draft, FileName, Place};
 use rpg_cli_text::TextWriter;
-use rpg_csv_columns::{Fault, FieldName, Label, Part, Refusal, TextFault};
+use rpg_csv_columns::{
+    CardColumns, Fault, FieldName, FileFields, Label, Part, Refusal, Sample, TextFault,
+};
 use rpg_csv_rows::{CellFault as RawFault, RowFault};
 use rpg_csv_values::CellFault;
 use std::alloc::{AllocError, Global};
@@ -33,17 +35,49 @@ pub(crate) fn card_diagnostic(
             entries,
             columns,
         ),
-        _ => out.write_str("a number has at most 15 digits"),
+        Fault::LongNumber => out.write_str("a number has at most 15 digits"),
+        fault => write_line_card_fault(out, fault),
     }
     draft.finish()
 }
 
-/// Writes what is wrong with the names of columns.
-fn write_names_fault(out: &mut TextWriter, file: FieldName, fault: Fault) {
+/// Writes what is wrong with a card of a line that a job writes.
+fn write_line_card_fault(out: &mut TextWriter, fault: Fault) {
     match fault {
-        Fault::NoField { column, name } => {
+        Fault::TwiceInLine { name, card } => out.fill_two(
+            "{} occurs twice in the line of card {}: a row has one value for it",
+            name.as_slice(),
+            card,
+        ),
+        Fault::Alike { card } => out.fill_one(
+            "no constant tells the line of this card from that of card {}: a record doesn't say which it is",
+            card,
+        ),
+        Fault::Overlapping {
+            first,
+            last,
+            one,
+            other,
+        } => {
+            out.fill_two("columns {} to {} have ", first, last);
+            out.fill_two(
+                "what cards {} and {} put there: a record doesn't say which stands there",
+                one,
+                other,
+            );
+        }
+        _ => out.write_str(
+            "a packed or binary field: --to-csv reads what the job writes, by the deck of records --deck",
+        ),
+    }
+}
+
+/// Writes what is wrong with the names of columns.
+fn write_names_fault(out: &mut TextWriter, file: FieldName, refusal: Refusal) {
+    match refusal.fault {
+        Fault::NoField { column } => {
             out.fill_one("column {}, ", column);
-            write_cell(out, name.as_slice());
+            write_cell(out, refusal.text.as_slice());
             out.fill_one(
                 ", is no field of {}: --columns names the columns, with nothing for one to leave out",
                 file.as_slice(),
@@ -138,8 +172,8 @@ fn write_cell_fault(out: &mut TextWriter, text: &[u8], fault: TextFault) {
 }
 
 /// Writes what is wrong with a row.
-fn write_row_fault(out: &mut TextWriter, has_header: bool, fault: Fault) {
-    match fault {
+fn write_row_fault(out: &mut TextWriter, has_header: bool, refusal: Refusal) {
+    match refusal.fault {
         Fault::NoRow => out.write_str("there is no row"),
         Fault::Utf16(mark) => {
             out.write_str("it begins with ");
@@ -178,14 +212,41 @@ fn write_row_fault(out: &mut TextWriter, has_header: bool, fault: Fault) {
             out.fill_two(", and {} \"{}\"", second.as_slice(), wants);
         }
         Fault::TooMany => out.write_str("a file has at most 10,000,000 records"),
-        Fault::Cell { text, fault, .. } => write_cell_fault(out, text.as_slice(), fault),
+        Fault::Cell { fault, .. } => write_cell_fault(out, refusal.text.as_slice(), fault),
         _ => {}
     }
 }
 
-/// Writes what is wrong with a line.
-fn write_line_fault(out: &mut TextWriter, fault: Fault) {
-    match fault {
+/// Writes the columns of a card, and what they have.
+fn write_columns(out: &mut TextWriter, at: CardColumns, text: Sample) {
+    out.fill_three("columns {} to {} (card {}): ", at.first, at.last, at.card);
+    write_cell(out, text.as_slice());
+}
+
+/// Writes what is wrong with a line that a job writes.
+fn write_written_fault(out: &mut TextWriter, refusal: Refusal) {
+    match refusal.fault {
+        Fault::NotPrinted { at, code } => {
+            write_columns(out, at, refusal.text);
+            out.fill_one(": edit code {} doesn't print this", char::from(code));
+        }
+        Fault::NoConstant(at) => {
+            write_columns(out, at, refusal.text);
+            out.write_str(": it isn't the constant");
+        }
+        Fault::Stray { column, byte, card } => out.fill_three(
+            "column {}: \"{}\" stands where the line of card {} puts nothing",
+            column,
+            char::from(byte),
+            card,
+        ),
+        _ => write_row_fault(out, true, refusal),
+    }
+}
+
+/// Writes what is wrong with a line. `file` has its fields.
+fn write_line_fault(out: &mut TextWriter, file: &FileFields, refusal: Refusal) {
+    match refusal.fault {
         Fault::NoCharacter { column, byte } => {
             out.fill_one("column {}: ", column);
             write_hex(out, u32::from(byte), 2);
@@ -194,18 +255,15 @@ fn write_line_fault(out: &mut TextWriter, fault: Fault) {
         Fault::LongLine { columns, most } => {
             out.fill_two("it has {} columns, and a record {}", columns, most)
         }
+        Fault::NoType if file.is_written => {
+            out.fill_one("it is none of the lines of {}", file.name.as_slice())
+        }
         Fault::NoType => out.write_str("this line is of no type"),
-        Fault::NoNumber {
-            card,
-            first,
-            last,
-            text,
-        } => {
-            out.fill_three("columns {} to {} (card {}): ", first, last, card);
-            write_cell(out, text.as_slice());
+        Fault::NoNumber(at) => {
+            write_columns(out, at, refusal.text);
             out.write_str(": no number");
         }
-        _ => write_row_fault(out, true, fault),
+        _ => write_written_fault(out, refusal),
     }
 }
 
@@ -224,8 +282,10 @@ fn write_row(out: &mut TextWriter, number: u64, fault: Fault) {
 /// Returns the columns of a line that a fault is about, if it is about some.
 fn columns_of(fault: Fault) -> Option<Columns> {
     let (first, last) = match fault {
-        Fault::NoCharacter { column, .. } => (column, column),
-        Fault::NoNumber { first, last, .. } => (first, last),
+        Fault::NoCharacter { column, .. } | Fault::Stray { column, .. } => (column, column),
+        Fault::NoNumber(at) | Fault::NoConstant(at) | Fault::NotPrinted { at, .. } => {
+            (at.first, at.last)
+        }
         _ => return None,
     };
     Some(Columns { first, last })
@@ -241,28 +301,27 @@ fn place_of(file: FileName<'_>, refusal: Refusal) -> Place<'_> {
     }
 }
 
-/// Returns the diagnostic for a part of the input. `fields` is the name of the file on the cards.
-pub(crate) fn input_diagnostic(
+/// Returns the diagnostic for a part of the input, which has these fields.
+pub(crate) fn input_diagnostic<'a>(
     alloc: Global,
-    file: FileName<'_>,
+    file: FileName<'a>,
     has_header: bool,
-    fields: FieldName,
+    fields: &FileFields,
     refusal: Refusal,
-) -> Result<Diagnostic<'_>, AllocError> {
+) -> Result<Diagnostic<'a>, AllocError> {
     let mut draft = Draft::error(alloc, place_of(file, refusal));
     let out = &mut draft.message;
-    let fault = refusal.fault;
     match refusal.part {
         Part::Header | Part::Card(_) => {
             out.write_str("header: ");
-            write_names_fault(out, fields, fault);
-            write_row_fault(out, true, fault);
+            write_names_fault(out, fields.name, refusal);
+            write_row_fault(out, true, refusal);
         }
         Part::Row { number, .. } => {
-            write_row(out, number, fault);
-            write_row_fault(out, has_header, fault);
+            write_row(out, number, refusal.fault);
+            write_row_fault(out, has_header, refusal);
         }
-        Part::Line(_) => write_line_fault(out, fault),
+        Part::Line(_) => write_line_fault(out, fields, refusal),
     }
     draft.finish()
 }

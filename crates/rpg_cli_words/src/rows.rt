@@ -152,9 +152,6 @@ pub(crate) fn bad_rows(given: &ArgMatches<'_>) -> Option<&'static str> {
     if excluded.is_some() {
         return excluded;
     }
-    if rows.way == RowsWay::ToRows && given.get_str("file").is_none() {
-        return Some("'--to-csv' needs '--file <NAME>', the input file whose lines IN has");
-    }
     if has_bad_character(given) {
         return Some(
             "'--delimiter <C>', '--group <C>' and '--replace <C>' need one character from blank to ~, no letter, digit, \", - or +; a delimiter may be tab",

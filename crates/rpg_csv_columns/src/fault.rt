@@ -18,6 +18,14 @@ pub enum TextFault {
     Foreign { character: char },
 }
 
+/// The columns of a card in a line, from 1.
+#[derive(Clone, Copy)]
+pub struct CardColumns {
+    pub card: u16,
+    pub first: usize,
+    pub last: usize,
+}
+
 /// Why a conversion ends early. Columns are counted from 1.
 #[derive(Clone, Copy)]
 pub enum Fault {
@@ -34,6 +42,24 @@ pub enum Fault {
     },
     /// A number has more than 15 digits.
     LongNumber,
+    /// A card's field has the name of an earlier one, of the line that begins with `card`.
+    TwiceInLine {
+        name: FieldName,
+        card: u16,
+    },
+    /// No constant tells the line of a card from that of this one.
+    Alike {
+        card: u16,
+    },
+    /// Two cards of a line fill these columns.
+    Overlapping {
+        first: usize,
+        last: usize,
+        one: u16,
+        other: u16,
+    },
+    /// An O card has a packed or binary field.
+    Packed,
     /// There is no row.
     NoRow,
     /// The input begins with these bytes: it is UTF-16.
@@ -41,7 +67,6 @@ pub enum Fault {
     /// A column of the header is no field.
     NoField {
         column: usize,
-        name: Sample,
     },
     /// Two columns have one name.
     Both {
@@ -77,7 +102,6 @@ pub enum Fault {
     Cell {
         column: usize,
         label: Label,
-        text: Sample,
         fault: TextFault,
     },
     NoType,
@@ -101,11 +125,19 @@ pub enum Fault {
         most: usize,
     },
     /// The columns of a number aren't one.
-    NoNumber {
+    NoNumber(CardColumns),
+    /// An edit code doesn't write this.
+    NotPrinted {
+        at: CardColumns,
+        code: u8,
+    },
+    /// The columns of a constant have something else.
+    NoConstant(CardColumns),
+    /// A column is filled that no card of the line fills.
+    Stray {
+        column: usize,
+        byte: u8,
         card: u16,
-        first: usize,
-        last: usize,
-        text: Sample,
     },
     Read,
     Write,
@@ -127,14 +159,21 @@ pub enum Part {
 pub struct Refusal {
     pub part: Part,
     pub fault: Fault,
+    /// The text that the fault is about.
+    pub text: Sample,
+}
+
+impl Refusal {
+    /// A fault that is about no text.
+    pub fn new(part: Part, fault: Fault) -> Self {
+        let text = Sample::new(b"");
+        Refusal { part, fault, text }
+    }
 }
 
 impl From<AllocError> for Refusal {
     fn from(_: AllocError) -> Self {
-        Refusal {
-            part: Part::Header,
-            fault: Fault::NoMemory,
-        }
+        Refusal::new(Part::Header, Fault::NoMemory)
     }
 }
 
@@ -145,12 +184,11 @@ impl<T: Drop> From<AllocFailed<T>> for Refusal {
 }
 
 impl Fault {
-    /// The fault of a cell with this text. Columns are counted from 0 here.
-    pub fn cell(column: usize, label: Label, text: &[u8], fault: TextFault) -> Self {
+    /// The fault of a cell. Columns are counted from 0 here.
+    pub fn cell(column: usize, label: Label, fault: TextFault) -> Self {
         Fault::Cell {
             column: column.saturating_add(1),
             label,
-            text: Sample::new(text),
             fault,
         }
     }

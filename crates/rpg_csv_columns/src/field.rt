@@ -1,8 +1,8 @@
 //! The fields of a file's record types, from the cards of a deck.
 
 use crate::fault::{Fault, Part, Refusal};
-use crate::name::FieldName;
-use rpg_csv_values::CellKind;
+use crate::name::{FieldName, Sample};
+use rpg_csv_values::{CellKind, Printed};
 use rpg_record_decks::{DeckCard, columns, deck_cards, file_name, form_of, is_on_sheet};
 use rpg_records::{Code, Layout, NumberForm};
 use rpg_sheet::Card;
@@ -21,6 +21,8 @@ pub struct Field {
     pub start: usize,
     pub width: usize,
     pub kind: CellKind,
+    /// How a job writes it, if it is a number of an O card.
+    pub printed: Option<Printed>,
 }
 
 impl Field {
@@ -32,6 +34,7 @@ impl Field {
             start: place,
             width: 1,
             kind: CellKind::Code,
+            printed: None,
         }
     }
 
@@ -41,7 +44,7 @@ impl Field {
     }
 
     /// Whether a column of the line is one of its columns.
-    pub(crate) fn covers(&self, column: usize) -> bool {
+    pub fn covers(&self, column: usize) -> bool {
         self.start <= column && column < self.end()
     }
 
@@ -54,17 +57,36 @@ impl Field {
     }
 }
 
-/// A record type: its card, its codes and its fields.
+/// A constant of an O card.
+#[derive(Clone, Copy)]
+pub struct Constant {
+    pub card: u16,
+    /// Its first column in the line, from 0.
+    pub start: usize,
+    pub text: Sample,
+}
+
+impl Constant {
+    /// Returns the first column after it.
+    pub fn end(&self) -> usize {
+        self.start.saturating_add(self.text.as_slice().len())
+    }
+}
+
+/// A record type, or a line of an output file: its card, its codes and its fields.
 #[derive(Drop)]
 pub struct FieldType {
     pub card: u16,
     pub codes: Vec<Code>,
     pub fields: Vec<Field>,
+    /// What a line has besides its fields, and the columns that are blank in it.
+    pub constants: Vec<Constant>,
+    pub blanks: Vec<usize>,
     /// Where the digits of the next packed or binary number begin.
     digits: usize,
 }
 
-/// The record types of a file.
+/// The record types of a file, or the lines of an output file.
 #[derive(Drop)]
 pub struct FileFields {
     /// The name of the file.
@@ -72,8 +94,10 @@ pub struct FileFields {
     /// The most columns of a line.
     pub width: usize,
     pub types: Vec<FieldType>,
-    /// The positions of all codes, in order.
+    /// The positions of all codes, in order; of lines those that tell one from another.
     pub codes: Vec<Field>,
+    /// Whether a job writes the file.
+    pub is_written: bool,
 }
 
 /// Returns the field with a name.
@@ -157,9 +181,26 @@ fn array_card(cards: &[DeckCard], name: FieldName) -> Option<&Card> {
 }
 
 impl FieldType {
+    /// A type without fields, the digits of whose packed and binary numbers begin at a column.
+    pub fn new(alloc: Global, card: u16, digits: usize) -> Self {
+        FieldType {
+            card,
+            codes: Vec::new(alloc),
+            fields: Vec::new(alloc),
+            constants: Vec::new(alloc),
+            blanks: Vec::new(alloc),
+            digits,
+        }
+    }
+
+    /// Whether it has a field with this name.
+    pub fn has(&self, name: FieldName) -> bool {
+        field_named(self.fields.as_slice(), name).is_some()
+    }
+
     /// Adds the field of a card, unless its name is there or it has too many digits.
     fn add(&mut self, of: FieldCard) -> Result<(), Fault> {
-        if field_named(self.fields.as_slice(), of.name).is_some() {
+        if self.has(of.name) {
             let (name, card) = (of.name, self.card);
             return Err(Fault::Twice { name, card });
         }
@@ -185,6 +226,7 @@ impl FieldType {
             start,
             width,
             kind,
+            printed: None,
         })?;
         Ok(())
     }
@@ -242,8 +284,7 @@ fn add_fields(kind: &mut FieldType, cards: &[DeckCard]) -> Result<(), Refusal> {
             continue;
         }
         if is_here && let Err(fault) = kind.add_card(card, cards) {
-            let part = Part::Card(card.number);
-            return Err(Refusal { part, fault });
+            return Err(Refusal::new(Part::Card(card.number), fault));
         }
     }
     Ok(())
@@ -253,12 +294,8 @@ fn add_fields(kind: &mut FieldType, cards: &[DeckCard]) -> Result<(), Refusal> {
 fn types_of(alloc: Global, layout: &Layout, cards: &[DeckCard]) -> Result<Vec<FieldType>, Refusal> {
     let mut types = Vec::new(alloc);
     for kind in layout.types.as_slice() {
-        let mut read = FieldType {
-            card: kind.card,
-            codes: Vec::from_slice(alloc, kind.codes.as_slice())?,
-            fields: Vec::new(alloc),
-            digits: usize::from(layout.length),
-        };
+        let mut read = FieldType::new(alloc, kind.card, usize::from(layout.length));
+        read.codes.extend_from_slice(kind.codes.as_slice())?;
         add_fields(&mut read, cards)?;
         types.push(read)?;
     }
@@ -281,6 +318,11 @@ fn codes_of(alloc: Global, types: &[FieldType]) -> Result<Vec<Field>, AllocError
     for kind in types {
         add_codes(&mut places, kind.codes.as_slice())?;
     }
+    code_fields(alloc, places)
+}
+
+/// Returns the fields of codes at these places, in order.
+pub fn code_fields(alloc: Global, mut places: Vec<usize>) -> Result<Vec<Field>, AllocError> {
     places.sort()?;
     let mut codes = Vec::new(alloc);
     for place in places.as_slice() {
@@ -311,5 +353,6 @@ pub fn file_fields(alloc: Global, source: &[u8], layout: &Layout) -> Result<File
         width: layout.columns(),
         types,
         codes,
+        is_written: false,
     })
 }

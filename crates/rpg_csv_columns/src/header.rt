@@ -10,13 +10,15 @@ use std::alloc::{AllocError, Global};
 #[derive(Drop)]
 pub struct Labels {
     labels: Vec<Label>,
+    /// Whether all have names.
+    has_names: bool,
 }
 
 impl FileFields {
     /// Whether a field or the position of a code has this name.
     fn has(&self, name: FieldName) -> bool {
         for kind in self.types.as_slice() {
-            if field_named(kind.fields.as_slice(), name).is_some() {
+            if kind.has(name) {
                 return true;
             }
         }
@@ -29,6 +31,19 @@ impl Labels {
         self.labels.as_slice()
     }
 
+    /// Whether all columns have names.
+    pub fn are_named(&self) -> bool {
+        self.has_names
+    }
+
+    /// Returns what a column is.
+    pub fn label(&self, column: usize) -> Label {
+        self.as_slice()
+            .get(column)
+            .copied()
+            .unwrap_or(Label::Unnamed)
+    }
+
     /// Returns the column with this name, from 0.
     pub(crate) fn column_of(&self, name: FieldName) -> Option<usize> {
         for (column, other) in self.labels.as_slice().iter().enumerate() {
@@ -39,24 +54,32 @@ impl Labels {
         None
     }
 
-    fn new(alloc: Global) -> Self {
+    pub fn new(alloc: Global) -> Self {
         Labels {
             labels: Vec::new(alloc),
+            has_names: true,
         }
     }
 
-    /// Adds the column with this name. `unnamed` is what a column without a name is.
-    fn add(&mut self, fields: &FileFields, text: &[u8], unnamed: Label) -> Result<(), Fault> {
+    /// Adds the column with this name. `unnamed` is what a column without a name is. A name that is no field's is shown.
+    pub fn add(
+        &mut self,
+        fields: &FileFields,
+        text: &[u8],
+        unnamed: Label,
+        shown: &mut Sample,
+    ) -> Result<(), Fault> {
         let text = without_blanks(text);
         let column = self.labels.len().saturating_add(1);
         if text.is_empty() {
+            self.has_names = false;
             self.labels.push(unnamed)?;
             return Ok(());
         }
         let name = FieldName::upper(text);
         if !fields.has(name) {
-            let name = Sample::new(text);
-            return Err(Fault::NoField { column, name });
+            *shown = Sample::new(text);
+            return Err(Fault::NoField { column });
         }
         if let Some(before) = self.column_of(name) {
             return Err(Fault::Both {
@@ -78,28 +101,16 @@ impl Labels {
     }
 }
 
-/// Returns the columns that the first row names: the contents of its cells, one after the other, and where each ends.
-pub fn header_labels(
+/// Returns the columns that an argument names, separated by commas. A name that is no field's is shown.
+pub fn given_labels(
     alloc: Global,
     fields: &FileFields,
-    bytes: &[u8],
-    ends: &[usize],
+    names: &str,
+    shown: &mut Sample,
 ) -> Result<Labels, Fault> {
     let mut labels = Labels::new(alloc);
-    let mut start = 0;
-    for end in ends {
-        let name = bytes.get(start..*end).unwrap_or(&[]);
-        labels.add(fields, name, Label::Unnamed)?;
-        start = *end;
-    }
-    Ok(labels)
-}
-
-/// Returns the columns that an argument names, separated by commas.
-pub fn given_labels(alloc: Global, fields: &FileFields, names: &str) -> Result<Labels, Fault> {
-    let mut labels = Labels::new(alloc);
     for name in names.split(',') {
-        labels.add(fields, name.as_bytes(), Label::LeftOut)?;
+        labels.add(fields, name.as_bytes(), Label::LeftOut, shown)?;
     }
     Ok(labels)
 }

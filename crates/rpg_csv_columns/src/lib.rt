@@ -7,8 +7,8 @@ mod header;
 mod name;
 mod plan;
 
-pub use fault::{Fault, Part, Refusal, TextFault};
-pub use field::{Field, FieldType, FileFields, file_fields};
-pub use header::{Labels, field_labels, given_labels, header_labels};
+pub use fault::{CardColumns, Fault, Part, Refusal, TextFault};
+pub use field::{Constant, Field, FieldType, FileFields, code_fields, file_fields};
+pub use header::{Labels, field_labels, given_labels};
 pub use name::{FieldName, Label, Sample};
 pub use plan::{Cell, Plan, TypePlan};

@@ -51,8 +51,17 @@ impl FieldName {
     }
 
     /// Returns the name of an entry of this array.
-    pub(crate) fn entry(self, index: u16) -> Self {
+    pub fn entry(self, index: u16) -> Self {
         self.with(b'(').with_number(index).with(b')')
+    }
+
+    /// Returns the name of the entry whose index a field has.
+    pub fn entry_of(self, index: &[u8]) -> Self {
+        let mut name = self.with(b'(');
+        for byte in index {
+            name = name.with(*byte);
+        }
+        name.with(b')')
     }
 
     /// Returns the name of a code's position.

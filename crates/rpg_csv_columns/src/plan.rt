@@ -1,7 +1,7 @@
 //! Which columns of a line the cells of a row fill.
 
 use crate::fault::Fault;
-use crate::field::{Field, FieldType, FileFields, field_named};
+use crate::field::{Constant, Field, FieldType, FileFields, field_named};
 use crate::header::Labels;
 use rpg_records::Code;
 use std::alloc::{AllocError, Global};
@@ -11,6 +11,8 @@ use std::alloc::{AllocError, Global};
 pub struct Cell {
     pub column: usize,
     pub field: Field,
+    /// Whether an earlier cell fills a column of its field.
+    pub is_shared: bool,
 }
 
 /// A record type: its card, its codes, and the cells of its fields in the order of their cards.
@@ -18,9 +20,14 @@ pub struct Cell {
 pub struct TypePlan {
     pub card: u16,
     pub codes: Vec<Code>,
+    /// The codes that the record has where no cell is.
+    pub free_codes: Vec<Code>,
     pub cells: Vec<Cell>,
     /// For each column of the row its field, if the type has it.
     pub by_column: Vec<Option<Field>>,
+    /// Of a line that a job writes, its constants and the columns that are blank.
+    pub constants: Vec<Constant>,
+    pub blanks: Vec<usize>,
 }
 
 /// What the rows and the lines of a file are to each other.
@@ -42,6 +49,7 @@ fn placed(alloc: Global, fields: &[Field], labels: &Labels) -> Result<Vec<Cell>,
             cells.push(Cell {
                 column,
                 field: *field,
+                is_shared: false,
             })?;
         }
     }
@@ -101,8 +109,11 @@ fn type_plan(
     Ok(TypePlan {
         card: kind.card,
         codes: Vec::from_slice(alloc, kind.codes.as_slice())?,
+        free_codes: Vec::new(alloc),
         cells,
         by_column: by_column(alloc, kind, fields.codes.as_slice(), labels)?,
+        constants: Vec::from_slice(alloc, kind.constants.as_slice())?,
+        blanks: Vec::from_slice(alloc, kind.blanks.as_slice())?,
     })
 }
 
@@ -168,6 +179,33 @@ fn add_all_common(
     Ok(())
 }
 
+/// Whether a cell fills a column of one of these.
+fn shares(cell: &Cell, earlier: &[Cell]) -> bool {
+    let (start, end) = (cell.field.start, cell.field.end());
+    earlier.iter().any(|other| start < other.field.end() && other.field.start < end)
+}
+
+/// Notes which cells fill a column of an earlier one.
+fn mark_shared(earlier: &[Cell], cells: &mut [Cell]) {
+    for place in 0..cells.len() {
+        let cell = cells[place];
+        let is_shared = shares(&cell, earlier) || shares(&cell, &cells[..place]);
+        cells[place].is_shared = is_shared;
+    }
+}
+
+/// Adds the codes that aren't negated and that no cell fills.
+fn add_free_codes(kind: &mut TypePlan, common: &[Cell]) -> Result<(), AllocError> {
+    for code in kind.codes.as_slice() {
+        let is_filled = any_covers(kind.cells.as_slice(), code.place)
+            || any_covers(common, code.place);
+        if !code.is_negated && !is_filled {
+            kind.free_codes.push(*code)?;
+        }
+    }
+    Ok(())
+}
+
 impl Plan {
     /// Returns the plan of a file's rows, by their labels.
     pub fn new(alloc: Global, fields: &FileFields, labels: Labels) -> Result<Self, Fault> {
@@ -178,6 +216,11 @@ impl Plan {
         }
         if let [first, _, ..] = types.as_slice() {
             add_all_common(&mut common, fields, &labels, first.cells.as_slice())?;
+        }
+        mark_shared(&[], common.as_mut_slice());
+        for kind in types.as_mut_slice() {
+            mark_shared(common.as_slice(), kind.cells.as_mut_slice());
+            add_free_codes(kind, common.as_slice())?;
         }
         Ok(Plan {
             width: fields.width,

@@ -6,7 +6,9 @@ ghost use Rattle.rpg_csv_lines.specs.Stops.{IsCounted};
 
 use crate::stop::Stop;
 use rpg_csv_columns::{Fault, Part};
-use rpg_csv_rows::{CellFault, RowInput, RowInputFault, check_row, whole_row};
+use rpg_csv_rows::{
+    CellFault, CellPlace, RowInput, RowInputFault, SplitFault, split_row, whole_row,
+};
 use rpg_files::Counted;
 use std::alloc::{AllocError, Global};
 use std::io::Read;
@@ -22,17 +24,6 @@ pub(crate) struct Rows {
     line: u64,
     next_line: u64,
     delimiter: u8,
-}
-
-/// Returns how many line feeds a text has.
-fn line_feeds(text: &[u8]) -> u64 {
-    let mut count = 0u64;
-    for byte in text {
-        if *byte == b'\n' {
-            count = count.saturating_add(1);
-        }
-    }
-    count
 }
 
 impl Rows {
@@ -60,7 +51,7 @@ impl Rows {
         }
         self.skipped = 0;
         self.line = self.next_line;
-        self.next_line = self.line.saturating_add(line_feeds(self.row.as_slice()));
+        self.next_line = self.line.saturating_add(self.input.line_feeds());
         Ok(!self.row.is_empty())
     }
 
@@ -93,14 +84,15 @@ impl Rows {
         whole_row(self.bytes()).text
     }
 
-    /// Returns how many cells the row has.
-    pub fn cells(&self) -> Result<usize, Fault> {
+    /// Replaces `cells` by the places of the row's cells. Returns the text of the row.
+    pub fn split(&self, cells: &mut Vec<CellPlace>) -> Result<&[u8], Fault> {
         let row = whole_row(self.bytes());
-        match check_row(row.text, self.delimiter) {
-            Err(fault) if !row.is_long || fault.fault != CellFault::OpenMark => {
+        match split_row(row.text, self.delimiter, cells) {
+            Ok(()) if !row.is_long => Ok(row.text),
+            Err(SplitFault::NoMemory) => Err(Fault::NoMemory),
+            Err(SplitFault::Row(fault)) if !row.is_long || fault.fault != CellFault::OpenMark => {
                 Err(Fault::Row(fault))
             }
-            Ok(cells) if !row.is_long => Ok(cells),
             _ => Err(Fault::LongRow),
         }
     }

@@ -1,28 +1,39 @@
 //! The line of a row.
 
 use crate::texts::{Format, Texts};
-use rpg_csv_columns::{Cell, Fault, Label, Plan, TextFault, TypePlan};
+use rpg_csv_columns::{Cell, Fault, FieldName, Label, Plan, Sample, TextFault, TypePlan};
 use rpg_csv_values::{CellFault, CellKind, write_cell};
 use rpg_records::Code;
 use rpg_text::{is_blank, trimmed};
 use std::alloc::{AllocError, Global};
 
-/// A line that is put together: its columns, 0 where nothing is yet, and for each the column of the row that filled it.
+/// A line that is put together. Its columns are blank where nothing is yet.
 #[derive(Drop)]
 pub(crate) struct Line {
     columns: Vec<u8>,
-    owners: Vec<usize>,
     /// The columns of a cell.
     room: Vec<u8>,
+    /// The text of the cell that has no place.
+    pub shown: Sample,
 }
 
-/// Whether all codes hold in a line's columns. A blank stands after their end, and where nothing is.
+/// A row, and the texts of its cells.
+#[derive(Clone, Copy)]
+pub(crate) struct RowTexts<'a> {
+    pub row: &'a [u8],
+    pub texts: &'a Texts,
+}
+
+impl<'a> RowTexts<'a> {
+    fn text(self, column: usize) -> &'a [u8] {
+        self.texts.text(self.row, column)
+    }
+}
+
+/// Whether all codes hold in a line's columns. Blanks follow them.
 pub(crate) fn fits(columns: &[u8], codes: &[Code]) -> bool {
     for code in codes {
-        let character = match columns.get(code.place) {
-            Some(0) | None => b' ',
-            Some(byte) => *byte,
-        };
+        let character = columns.get(code.place).copied().unwrap_or(b' ');
         if (character == code.character) == code.is_negated {
             return false;
         }
@@ -44,60 +55,40 @@ impl Line {
     pub fn new(alloc: Global, width: usize) -> Result<Self, AllocError> {
         Ok(Line {
             columns: vec![in alloc; 0; width]?,
-            owners: vec![in alloc; 0; width]?,
             room: vec![in alloc; 0; width]?,
+            shown: Sample::new(b""),
         })
     }
 
     /// Begins a new line.
     fn clear(&mut self) {
-        for byte in self.columns.as_mut_slice() {
-            *byte = 0;
-        }
+        self.columns.as_mut_slice().fill(b' ');
     }
 
-    /// Puts the room's characters into the columns of a cell. Characters that are there already must be the same.
-    fn put(&mut self, cell: &Cell, labels: &[Label]) -> Result<(), Fault> {
+    /// Puts the room's character into a column. Returns the character that is there, if it is another one.
+    fn put(&mut self, column: usize) -> Option<Clash> {
         let room = self.room.as_slice();
         let columns = self.columns.as_mut_slice();
-        let owners = self.owners.as_mut_slice();
-        for at in cell.field.start..cell.field.end() {
-            if at >= columns.len() || at >= owners.len() || at >= room.len() {
-                break;
-            }
-            let (stands, wants) = (columns[at], room[at]);
-            if stands != 0 && stands != wants {
-                return Err(Fault::Shared {
-                    column: at.saturating_add(1),
-                    first: label_at(labels, owners[at]).name(),
-                    stands,
-                    second: cell.field.name,
-                    wants,
-                });
-            }
-            columns[at] = wants;
-            owners[at] = cell.column;
+        if column >= columns.len() || column >= room.len() {
+            return None;
         }
-        Ok(())
+        let (stands, wants) = (columns[column], room[column]);
+        columns[column] = wants;
+        (stands != wants).then_some(Clash { stands, wants })
     }
 
-    /// Puts the codes of a type where nothing is.
+    /// Puts the codes of a type where no cell is.
     fn put_codes(&mut self, codes: &[Code]) {
         let columns = self.columns.as_mut_slice();
         for code in codes {
-            if code.place < columns.len() && columns[code.place] == 0 && !code.is_negated {
+            if code.place < columns.len() {
                 columns[code.place] = code.character;
             }
         }
     }
 
     /// Writes the line with its line feed, without blanks at its end.
-    fn write(&mut self, out: &mut Vec<u8>) -> Result<(), AllocError> {
-        for byte in self.columns.as_mut_slice() {
-            if *byte == 0 {
-                *byte = b' ';
-            }
-        }
+    fn write(&self, out: &mut Vec<u8>) -> Result<(), AllocError> {
         out.clear();
         out.extend_from_slice(trimmed(self.columns.as_slice()))?;
         out.push(b'\n')?;
@@ -105,8 +96,11 @@ impl Line {
     }
 }
 
-fn label_at(labels: &[Label], column: usize) -> Label {
-    labels.get(column).copied().unwrap_or(Label::Unnamed)
+/// The character in a column, and the other one that a cell puts there.
+#[derive(Clone, Copy)]
+struct Clash {
+    stands: u8,
+    wants: u8,
 }
 
 /// The rows of a file: their columns, and how their cells are written.
@@ -116,48 +110,104 @@ pub(crate) struct RowMaker<'a> {
     pub format: Format,
 }
 
-/// Returns the fault of a cell with this text.
-fn cell_fault(cell: &Cell, text: &[u8], fault: CellFault) -> Fault {
-    let text = match cell.field.kind {
-        CellKind::Text => trimmed(text),
-        _ => text,
+/// Returns the fault of a cell with this text, which is shown.
+#[inline(never)]
+fn cell_fault(cell: &Cell, text: &[u8], fault: CellFault, line: &mut Line) -> Fault {
+    line.shown = match cell.field.kind {
+        CellKind::Text => Sample::new(trimmed(text)),
+        _ => Sample::new(text),
     };
     let label = Label::Named(cell.field.name);
-    Fault::cell(cell.column, label, text, TextFault::Columns(fault))
+    Fault::cell(cell.column, label, TextFault::Columns(fault))
+}
+
+/// Returns the name of the last of these cells that fills a column.
+fn last_name(cells: &[Cell], column: usize) -> Option<FieldName> {
+    let mut name = None;
+    for cell in cells {
+        if cell.field.covers(column) {
+            name = Some(cell.field.name);
+        }
+    }
+    name
+}
+
+/// Puts the room's characters into the columns of a cell. Those that earlier cells filled must be the same.
+#[inline(never)]
+fn put_shared(
+    earlier: &[Cell],
+    before: &[Cell],
+    cell: &Cell,
+    line: &mut Line,
+) -> Result<(), Fault> {
+    let second = cell.field.name;
+    for column in cell.field.start..cell.field.end() {
+        let first = last_name(before, column).or(last_name(earlier, column));
+        if let (Some(first), Some(clash)) = (first, line.put(column)) {
+            return Err(Fault::Shared {
+                column: column.saturating_add(1),
+                first,
+                stands: clash.stands,
+                second,
+                wants: clash.wants,
+            });
+        }
+    }
+    Ok(())
 }
 
 impl RowMaker<'_> {
-    /// Puts a cell into the line.
-    fn put_cell(&self, cell: &Cell, texts: &Texts, line: &mut Line) -> Result<(), Fault> {
-        let text = texts.text(cell.column);
+    /// Writes the characters of a cell into its columns of these.
+    #[inline(always)]
+    fn write_cell(&self, cell: &Cell, text: &[u8], columns: &mut [u8]) -> Result<(), CellFault> {
         let (start, end) = (cell.field.start, cell.field.end());
-        let Some(columns) = line.room.as_mut_slice().get_mut(start..end) else {
+        let Some(columns) = columns.get_mut(start..end) else {
             return Ok(());
         };
         if columns.is_empty() {
             return Ok(());
         }
-        if let Err(fault) = write_cell(self.format.number, cell.field.kind, text, columns) {
-            return Err(cell_fault(cell, text, fault));
-        }
-        line.put(cell, self.plan.labels.as_slice())
+        write_cell(self.format.number, cell.field.kind, text, columns)
     }
 
-    fn put_cells(&self, cells: &[Cell], texts: &Texts, line: &mut Line) -> Result<(), Fault> {
-        for cell in cells {
-            self.put_cell(cell, texts, line)?;
+    /// Puts cells into the line, after others.
+    fn put_cells(
+        &self,
+        earlier: &[Cell],
+        cells: &[Cell],
+        texts: RowTexts<'_>,
+        line: &mut Line,
+    ) -> Result<(), Fault> {
+        for (place, cell) in cells.iter().enumerate() {
+            let text = texts.text(cell.column);
+            let written = if cell.is_shared {
+                self.write_cell(cell, text, line.room.as_mut_slice())
+            } else {
+                self.write_cell(cell, text, line.columns.as_mut_slice())
+            };
+            if let Err(fault) = written {
+                return Err(cell_fault(cell, text, fault, line));
+            }
+            if cell.is_shared {
+                put_shared(earlier, &cells[..place], cell, line)?;
+            }
         }
         Ok(())
     }
 
     /// Checks that the cells of fields that a type hasn't are empty.
-    fn check_other_cells(&self, kind: &TypePlan, texts: &Texts) -> Result<(), Fault> {
+    fn check_other_cells(
+        &self,
+        kind: &TypePlan,
+        texts: RowTexts<'_>,
+        line: &mut Line,
+    ) -> Result<(), Fault> {
         for (column, field) in kind.by_column.as_slice().iter().enumerate() {
-            let text = texts.text(column);
-            if field.is_none() && !is_blank(text) {
-                let label = label_at(self.plan.labels.as_slice(), column);
+            if field.is_none() && !is_blank(texts.text(column)) {
+                let label = self.plan.labels.label(column);
                 let fault = TextFault::OtherType { card: kind.card };
-                return Err(Fault::cell(column, label, text, fault));
+                line.shown = Sample::new(texts.text(column));
+                return Err(Fault::cell(column, label, fault));
             }
         }
         Ok(())
@@ -171,21 +221,24 @@ impl RowMaker<'_> {
         }
     }
 
-    /// Replaces `out` by the line of a row, whose texts are there.
+    /// Replaces `out` by the line of a row.
     pub fn write_line(
         &self,
-        texts: &Texts,
+        texts: RowTexts<'_>,
         line: &mut Line,
         out: &mut Vec<u8>,
     ) -> Result<(), Fault> {
         line.clear();
-        self.put_cells(self.plan.common.as_slice(), texts, line)?;
+        let common = self.plan.common.as_slice();
+        if !common.is_empty() {
+            self.put_cells(&[], common, texts, line)?;
+        }
         let Some(kind) = self.type_of_row(line) else {
             return Err(Fault::NoType);
         };
-        self.check_other_cells(kind, texts)?;
-        self.put_cells(kind.cells.as_slice(), texts, line)?;
-        line.put_codes(kind.codes.as_slice());
+        self.check_other_cells(kind, texts, line)?;
+        self.put_cells(common, kind.cells.as_slice(), texts, line)?;
+        line.put_codes(kind.free_codes.as_slice());
         match type_of(line.columns.as_slice(), self.plan.types.as_slice()) {
             Some(found) if found.card == kind.card => {}
             _ => return Err(Fault::NoType),

@@ -5,10 +5,12 @@ ghost use Rattle.rpg_files.specs.Counting.{faults_of};
 ghost use Rattle.rpg_csv_lines.specs.Stops.{IsCounted};
 
 use crate::input::Rows;
-use crate::line::{Line, RowMaker};
+use crate::line::{Line, RowMaker, RowTexts};
 use crate::stop::{Stop, send_all};
 use crate::texts::{Header, Setting, Texts};
-use rpg_csv_columns::{Fault, Labels, Part, Plan, field_labels, given_labels, header_labels};
+use rpg_csv_columns::{
+    Fault, Label, Labels, Part, Plan, Sample, TextFault, field_labels, given_labels,
+};
 use rpg_files::Counted;
 use std::alloc::Global;
 use std::io::{Read, Write};
@@ -31,7 +33,7 @@ impl Header<'_> {
 fn header_stop(fault: Fault) -> Stop
     ensures { IsCounted 0 0 0 0 result }
 {
-    Stop::at(Part::Header, fault)
+    Stop::at(Part::Header, fault, Sample::new(b""))
 }
 
 /// Reads the contents of the first row's cells.
@@ -46,10 +48,11 @@ fn read_header<R: Read>(
     ensures ok { OnOk result (faults_of reader.new ≡ faults_of reader.old) }
     ensures stop { IfErr result (IsCounted (faults_of reader.old) (faults_of reader.new) 0 0) }
 {
-    if let Err(fault) = rows.cells() {
-        return Err(header_stop(fault));
-    }
-    if rows.text().is_empty() {
+    let row = match texts.take_row(setting.format, None, rows) {
+        Ok(row) => row,
+        Err(fault) => return Err(header_stop(fault)),
+    };
+    if row.is_empty() {
         let fault = if rows.is_last(reader)? {
             Fault::NoRow
         } else {
@@ -57,32 +60,49 @@ fn read_header<R: Read>(
         };
         return Err(header_stop(fault));
     }
-    match texts.take_row(setting.format, &[], rows.text()) {
-        Ok(()) => Ok(()),
-        Err(fault) => Err(header_stop(fault)),
-    }
+    Ok(())
 }
 
 /// Returns the columns that the first row or the arguments name.
-fn labels_of(alloc: Global, setting: Setting<'_>, texts: &Texts) -> Result<Labels, Fault> {
+fn labels_of(
+    alloc: Global,
+    setting: Setting<'_>,
+    texts: &Texts,
+    shown: &mut Sample,
+) -> Result<Labels, Fault> {
     let fields = setting.fields;
     match setting.header {
         Header::Fields => Ok(field_labels(alloc, fields)?),
-        Header::FirstRow => header_labels(alloc, fields, texts.bytes(), texts.ends()),
+        Header::FirstRow => {
+            let mut labels = Labels::new(alloc);
+            for column in 0..texts.len() {
+                labels.add(fields, texts.text(&[], column), Label::Unnamed, shown)?;
+            }
+            Ok(labels)
+        }
         Header::Given { names, passes_row } => {
-            let (columns, named) = (texts.ends().len(), names.split(',').count());
+            let (columns, named) = (texts.len(), names.split(',').count());
             if passes_row && columns != named {
                 return Err(Fault::Named { columns, named });
             }
-            given_labels(alloc, fields, names)
+            given_labels(alloc, fields, names, shown)
         }
     }
 }
 
 /// Returns the plan of the rows.
-fn plan_of(alloc: Global, setting: Setting<'_>, texts: &Texts) -> Result<Plan, Fault> {
-    let labels = labels_of(alloc, setting, texts)?;
-    Plan::new(alloc, setting.fields, labels)
+fn plan_of(alloc: Global, setting: Setting<'_>, texts: &Texts) -> Result<Plan, Stop>
+    ensures { IfErr result (IsCounted 0 0 0 0) }
+{
+    let mut shown = Sample::new(b"");
+    let labels = match labels_of(alloc, setting, texts, &mut shown) {
+        Ok(labels) => labels,
+        Err(fault) => return Err(Stop::at(Part::Header, fault, shown)),
+    };
+    match Plan::new(alloc, setting.fields, labels) {
+        Ok(plan) => Ok(plan),
+        Err(fault) => Err(header_stop(fault)),
+    }
 }
 
 /// The memory for a row: the texts of its cells, and its line.
@@ -95,13 +115,27 @@ struct Room {
 
 /// Makes the line of the row, which isn't empty.
 fn make_line(maker: RowMaker<'_>, rows: &Rows, room: &mut Room) -> Result<(), Fault> {
-    let labels = maker.plan.labels.as_slice();
-    let (cells, columns) = (rows.cells()?, labels.len());
-    if cells != columns {
-        return Err(Fault::Cells { cells, columns });
+    let row = room
+        .texts
+        .take_row(maker.format, Some(&maker.plan.labels), rows)?;
+    let texts = RowTexts {
+        row,
+        texts: &room.texts,
+    };
+    maker.write_line(texts, &mut room.line, &mut room.out)
+}
+
+impl Room {
+    /// Returns the text that the fault of a row is about.
+    fn shown(&self, fault: Fault) -> Sample {
+        match fault {
+            Fault::Cell {
+                fault: TextFault::Columns(_) | TextFault::OtherType { .. },
+                ..
+            } => self.line.shown,
+            _ => self.texts.shown,
+        }
     }
-    room.texts.take_row(maker.format, labels, rows.text())?;
-    maker.write_line(&room.texts, &mut room.line, &mut room.out)
 }
 
 /// Writes the lines of all rows that follow, and of the one that was read, if there is one. Returns how many.
@@ -131,16 +165,17 @@ fn convert_rows<R: Read, W: Write>(
             if can_end && rows.is_last(reader)? {
                 return Ok(count);
             }
-            return Err(Stop::at(part, Fault::EmptyRow));
+            return Err(Stop::at(part, Fault::EmptyRow, Sample::new(b"")));
         }
         if let Err(fault) = make_line(maker, rows, room) {
-            return Err(Stop::at(part, fault));
+            return Err(Stop::at(part, fault, room.shown(fault)));
         }
         send_all(writer, room.out.as_slice())?;
         is_there = rows.read(reader)?;
     }
     if is_there {
-        return Err(Stop::at(rows.part(MOST_ROWS + 1), Fault::TooMany));
+        let part = rows.part(MOST_ROWS + 1);
+        return Err(Stop::at(part, Fault::TooMany, Sample::new(b"")));
     }
     Ok(MOST_ROWS)
 }
@@ -170,11 +205,11 @@ fn begin<R: Read>(
         }
         read_header(rows, reader, setting, texts)?;
     }
-    match plan_of(alloc, setting, texts) {
-        Err(fault) => Err(header_stop(fault)),
-        Ok(plan) if takes_row => Ok((plan, rows.read(reader)?)),
-        Ok(plan) => Ok((plan, is_there)),
+    let plan = plan_of(alloc, setting, texts)?;
+    if takes_row {
+        return Ok((plan, rows.read(reader)?));
     }
+    Ok((plan, is_there))
 }
 
 /// Writes a line for each row of a reader. Returns how many rows there are, without the header.

@@ -2,10 +2,10 @@
 
 use crate::line::type_of;
 use crate::texts::Format;
-use rpg_csv_columns::{Fault, Field, Plan, Sample};
+use rpg_csv_columns::{CardColumns, Constant, Fault, Field, Plan, Sample, TypePlan};
 use rpg_csv_rows::{Quoting, add_cell, whole_row};
-use rpg_csv_values::add_content_of;
-use rpg_text::is_character;
+use rpg_csv_values::{Printed, Printing, add_content_of};
+use rpg_text::{is_blank, is_character};
 use std::alloc::{AllocError, Global};
 
 /// How the rows of a plan are written.
@@ -38,6 +38,16 @@ impl RowRoom {
         }
     }
 
+    /// Returns the characters that the fault of a line is about.
+    pub fn shown(&self, fault: Fault) -> Sample {
+        let (Fault::NoNumber(at) | Fault::NoConstant(at) | Fault::NotPrinted { at, .. }) = fault
+        else {
+            return Sample::new(b"");
+        };
+        let line = self.line.as_slice();
+        Sample::new(line.get(at.first.saturating_sub(1)..at.last).unwrap_or(&[]))
+    }
+
     /// Takes the characters of the line, with blanks up to the most columns.
     fn take_line(&mut self, most: usize) -> Result<(), Fault> {
         let line = whole_row(self.read.as_slice()).text;
@@ -66,20 +76,66 @@ fn check_characters(line: &[u8]) -> Result<(), Fault> {
     Ok(())
 }
 
-/// Replaces the cell by the content of a field in a line.
-fn make_cell(field: &Field, point: u8, line: &[u8], cell: &mut Vec<u8>) -> Result<(), Fault> {
-    let (start, end) = (field.start, field.end());
-    let columns = line.get(start..end).unwrap_or(&[]);
-    cell.clear();
-    if add_content_of(field.kind, point, columns, cell)? {
-        return Ok(());
-    }
-    Err(Fault::NoNumber {
-        card: field.card,
+/// Returns the columns of a card in a line.
+fn columns_of(card: u16, start: usize, end: usize) -> CardColumns {
+    CardColumns {
+        card,
         first: start.saturating_add(1),
         last: end,
-        text: Sample::new(columns),
-    })
+    }
+}
+
+/// Replaces the cell by the content of a field in a line.
+fn make_cell(field: &Field, point: u8, line: &[u8], cell: &mut Vec<u8>) -> Result<(), Fault> {
+    let columns = line.get(field.start..field.end()).unwrap_or(&[]);
+    cell.clear();
+    let is_made = match field.printed {
+        Some(printed) => printed.add_content(point, columns, cell)?,
+        None => add_content_of(field.kind, point, columns, cell)?,
+    };
+    if is_made {
+        return Ok(());
+    }
+    let at = columns_of(field.card, field.start, field.end());
+    match field.printed {
+        Some(
+            Printed {
+                printing: Printing::Code { code, .. },
+                ..
+            },
+        ) => Err(Fault::NotPrinted {
+            at,
+            code: code.character(),
+        }),
+        _ => Err(Fault::NoNumber(at)),
+    }
+}
+
+/// Checks that a line has its constants, those under conditions unless their columns are blank.
+fn check_constants(constants: &[Constant], line: &[u8]) -> Result<(), Fault> {
+    for constant in constants {
+        let columns = line.get(constant.start..constant.end()).unwrap_or(&[]);
+        if columns != constant.text.as_slice() && !is_blank(columns) {
+            let at = columns_of(constant.card, constant.start, constant.end());
+            return Err(Fault::NoConstant(at));
+        }
+    }
+    Ok(())
+}
+
+/// Checks that the columns that no card of a line fills are blank.
+fn check_blanks(kind: &TypePlan, line: &[u8]) -> Result<(), Fault> {
+    for column in kind.blanks.as_slice() {
+        let byte = line.get(*column).copied().unwrap_or(b' ');
+        if byte != b' ' {
+            return Err(Fault::Stray {
+                column: column.saturating_add(1),
+                byte,
+                card: kind.card,
+            });
+        }
+    }
+    Ok(())
 }
 
 impl RowWriter {
@@ -124,6 +180,7 @@ impl RowWriter {
         let Some(kind) = type_of(room.line.as_slice(), self.plan.types.as_slice()) else {
             return Err(Fault::NoType);
         };
+        check_constants(kind.constants.as_slice(), room.line.as_slice())?;
         room.row.clear();
         for (column, field) in kind.by_column.as_slice().iter().enumerate() {
             if column > 0 {
@@ -131,6 +188,7 @@ impl RowWriter {
             }
             self.add_field(*field, room)?;
         }
+        check_blanks(kind, room.line.as_slice())?;
         room.row.push(b'\n')?;
         Ok(())
     }

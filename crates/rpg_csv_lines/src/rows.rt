@@ -7,7 +7,7 @@ ghost use Rattle.rpg_csv_lines.specs.Stops.{IsCounted};
 use crate::row::{RowRoom, RowWriter};
 use crate::stop::{Stop, send_all};
 use crate::texts::Setting;
-use rpg_csv_columns::{Fault, Part, Plan, field_labels};
+use rpg_csv_columns::{Fault, Part, Plan, Sample, field_labels};
 use rpg_csv_rows::{RowInput, RowInputFault};
 use rpg_files::Counted;
 use std::alloc::Global;
@@ -45,10 +45,10 @@ fn convert_lines<R: Read, W: Write>(
         }
         let part = Part::Line(count + 1);
         if count == MOST_LINES {
-            return Err(Stop::at(part, Fault::TooMany));
+            return Err(Stop::at(part, Fault::TooMany, Sample::new(b"")));
         }
         if let Err(fault) = rows.write_row(room) {
-            return Err(Stop::at(part, fault));
+            return Err(Stop::at(part, fault, room.shown(fault)));
         }
         send_all(writer, room.row.as_slice())?;
     }
@@ -74,7 +74,7 @@ pub fn lines_to_rows<R: Read, W: Write>(
     let labels = field_labels(alloc, setting.fields)?;
     let plan = match Plan::new(alloc, setting.fields, labels) {
         Ok(plan) => plan,
-        Err(fault) => return Err(Stop::at(Part::Header, fault)),
+        Err(fault) => return Err(Stop::at(Part::Header, fault, Sample::new(b""))),
     };
     let rows = RowWriter::new(plan, setting.format);
     let mut input = RowInput::new(alloc)?;

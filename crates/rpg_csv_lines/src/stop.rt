@@ -4,7 +4,7 @@ ghost use Rattle.std.specs.Prelude.{◌≡◌, ◌^◌, ◌-◌, ◌<◌, IfErr,
 ghost use Rattle.rpg_files.specs.Counting.{faults_of};
 ghost use Rattle.rpg_csv_lines.specs.Stops.{IsCounted};
 
-use rpg_csv_columns::{Fault, Part, Refusal};
+use rpg_csv_columns::{Fault, Part, Refusal, Sample};
 use rpg_files::{Counted, send};
 use std::alloc::AllocError;
 use std::io;
@@ -22,13 +22,13 @@ pub enum Stop {
 }
 
 impl Stop {
-    /// The fault of a part, unless memory ran out.
-    pub(crate) fn at(part: Part, fault: Fault) -> Self
+    /// The fault of a part, unless memory ran out. `text` is what the fault is about.
+    pub(crate) fn at(part: Part, fault: Fault, text: Sample) -> Self
         ensures { IsCounted 0 0 0 0 result }
     {
         match fault {
             Fault::NoMemory => Stop::NoMemory,
-            fault => Stop::Refused(Refusal { part, fault }),
+            fault => Stop::Refused(Refusal { part, fault, text }),
         }
     }
 }

@@ -1,16 +1,13 @@
 -- Cells that are written are read back.
-use Rattle.std.proofs.Common.{◌≡◌, ℕ, ◌+◌, ◌-◌, ◌<◌, ◌==◌, ◌&&◌, ◌||◌, Bool, true, false, not, cond, eqb, nat_lt, List, [], ◌∷◌, ◌++◌, length, map, take, refl, sym, ap, ◌∙◌, arith, Option, None, Some, length-append}
+use Rattle.std.proofs.Common.{◌≡◌, ℕ, ◌-◌, ◌==◌, ◌&&◌, ◌||◌, Bool, true, false, not, cond, eqb, nat_lt, List, [], ◌∷◌, ◌++◌, length, map, take, refl, sym, ap, ◌∙◌, arith, None, Some, length-append}
 use Rattle.std.proofs.Math.Seq.{take-append_seam}
 use Rattle.std.proofs.lemmas.Bool.{eq-eqb, eqb-true, lt-ltb}
 use Rattle.std.specs.List.{list_any}
+use Rattle.rpg_csv_rows.proofs.CellLemmas.{or_false}
 use Rattle.rpg_csv_rows.specs.Cells.{cell_fault, content_of, is_open_after, onto_cell, plain_fault, quoted_fault, raw_cells, undoubled}
 use Rattle.rpg_csv_rows.specs.Quoting.{CellsAreReadBack, doubled, is_special, joined, quoted, written_cell}
 use Rattle.rpg_csv_rows.specs.declared.cells.CellFault.TheVariants as faults
 use Rattle.rpg_csv_rows.specs.declared.quoting.Quoting.{Quoting}
-
-or_false : (a b : Bool) → (a || b) ≡ false → (a ≡ false) × (b ≡ false)
-or_false true b h = cc
-or_false false b h = (refl, h)
 
 -- ---- its delimiters are inside quotation marks, and none is open after it
 

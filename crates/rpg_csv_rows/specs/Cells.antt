@@ -1,7 +1,8 @@
 -- The cells of a row.
-use Rattle.std.specs.Prelude.{ℕ, suc, ◌+◌, ◌-◌, ◌==◌, ◌&&◌, not, nat_lt, Bool, true, false, if◌then◌else◌, List, [], ◌∷◌, length, take, Option, Some, None, Result, Ok, Err}
+use Rattle.std.specs.Prelude.{ℕ, ◌+◌, ◌-◌, ◌==◌, ◌&&◌, not, nat_lt, Bool, false, if◌then◌else◌, List, [], ◌∷◌, length, slice_range, take, Option, Some, None, Result, Ok, Err}
 use Rattle.rpg_csv_rows.specs.declared.cells.CellFault.{CellFault}
 use Rattle.rpg_csv_rows.specs.declared.cells.CellFault.TheVariants as faults
+use Rattle.rpg_csv_rows.specs.declared.cells.CellPlace.{CellPlace}
 use Rattle.rpg_csv_rows.specs.declared.cells.RowFault.{RowFault}
 
 -- a quotation mark opens or closes
@@ -22,11 +23,6 @@ onto_cell c (raw ∷ raws) = (c ∷ raw) ∷ raws
 abbrev pub raw_cells : ℕ → Bool → List ℕ → List (List ℕ)
 raw_cells d inside [] = [] ∷ []
 raw_cells d inside (c ∷ cs) = if c == d && not inside then [] ∷ raw_cells d false cs else onto_cell c (raw_cells d (is_open_after inside c) cs)
-
--- the cells after a delimiter, if there is one
-abbrev pub rest_cells : ℕ → Option (List ℕ) → List (List ℕ)
-rest_cells d None = []
-rest_cells d (Some rest) = raw_cells d false rest
 
 -- ---- strict cells
 
@@ -61,12 +57,15 @@ abbrev pub undoubled : Bool → List ℕ → List ℕ
 undoubled second [] = []
 undoubled second (c ∷ cs) = if second && c == 34 then undoubled false cs else c ∷ undoubled (c == 34) cs
 
--- begins with a quotation mark, and another byte follows
-abbrev pub begins_quoted : List ℕ → Bool
-begins_quoted [] = false
-begins_quoted (c ∷ cs) = c == 34 && nat_lt 0 (length cs)
-
 -- what the quotation marks of a cell enclose, or the cell itself
 abbrev pub content_of : List ℕ → List ℕ
 content_of [] = []
 content_of (c ∷ cs) = if c == 34 && nat_lt 0 (length cs) then undoubled false (take (length cs - 1) cs) else c ∷ cs
+
+-- a quotation mark
+abbrev pub is_mark : ℕ → Bool
+is_mark c = c == 34
+
+-- the content at a place of a row, one quotation mark for each two if it has any
+abbrev pub content_at : List ℕ → CellPlace → List ℕ
+content_at row p = if p.has_marks then undoubled false (slice_range row p.start p.end) else slice_range row p.start p.end

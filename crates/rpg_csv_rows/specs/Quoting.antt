@@ -1,5 +1,5 @@
 -- Cells and rows as they are written.
-use Rattle.std.specs.Prelude.{◌≡◌, ℕ, ◌==◌, ◌||◌, ◌&&◌, not, Bool, false, if◌then◌else◌, List, [], ◌∷◌, ◌++◌, length, map, Option, None}
+use Rattle.std.specs.Prelude.{◌≡◌, ℕ, ◌==◌, ◌||◌, ◌&&◌, not, Bool, false, if◌then◌else◌, List, [], ◌∷◌, ◌++◌, length, map, None}
 use Rattle.std.specs.List.{list_any}
 use Rattle.rpg_csv_rows.specs.Cells.{cell_fault, content_of, raw_cells}
 use Rattle.rpg_csv_rows.specs.declared.quoting.Quoting.{Quoting}

@@ -1,5 +1,5 @@
 -- The rows of a text.
-use Rattle.std.specs.Prelude.{ℕ, ◌==◌, ◌&&◌, ◌||◌, not, Bool, true, false, if◌then◌else◌, List, [], ◌∷◌}
+use Rattle.std.specs.Prelude.{ℕ, ◌==◌, ◌&&◌, ◌||◌, not, Bool, false, if◌then◌else◌, List, [], ◌∷◌}
 use Rattle.std.specs.Io.BufRead.{ends_with_byte, strip_last}
 use Rattle.rpg_csv_rows.specs.Cells.{is_open_after}
 

@@ -1,7 +1,10 @@
 //! The cells of a row.
 
-ghost use Rattle.std.specs.Prelude.{◌≡◌, ◌==◌, ◌+◌, ◌∷◌, ◌++◌, ◌<◌, ◌≤◌, false, length, take, None, Some, Ok, Err, IfErr, IfOk, IfSome, OnOk, option_copied};
-ghost use Rattle.rpg_csv_rows.specs.Cells.{begins_quoted, cell_fault, checked_row, content_of, is_open_after, plain_fault, quoted_fault, raw_cells, raw_end, rest_cells, undoubled};
+ghost use Rattle.std.specs.Prelude.{◌≡◌, ◌+◌, ◌++◌, ◌≤◌, false, length, map, slice_range, take, true, None, Some, Ok, Err, IfErr, IfOk, OnOk};
+ghost use Rattle.std.specs.List.{list_any};
+ghost use Rattle.rpg_csv_rows.specs.Cells.{cell_fault, checked_row, content_at, content_of, is_mark, is_open_after, plain_fault, quoted_fault, raw_cells, raw_end, undoubled};
+ghost use Rattle.rpg_csv_rows.specs.declared.cells.RowFault.{RowFault};
+ghost use Rattle.rpg_csv_rows.specs.declared.cells.SplitFault.TheVariants.{Row};
 
 use std::alloc::AllocError;
 
@@ -25,11 +28,19 @@ pub struct RowFault {
     pub fault: CellFault,
 }
 
-/// The first cell of a row, as it stands there, and what follows its delimiter, if one follows.
+/// Where the content of a cell is in its row: between its quotation marks, or the whole cell. It may have quotation marks, two for each one.
 #[derive(Clone, Copy)]
-pub struct FirstCell<'a> {
-    pub raw: &'a [u8],
-    pub rest: Option<&'a [u8]>,
+pub struct CellPlace {
+    pub start: usize,
+    pub end: usize,
+    pub has_marks: bool,
+}
+
+/// Why a row isn't cut into cells.
+#[derive(Clone, Copy, PartialEq, Eq)]
+pub enum SplitFault {
+    Row(RowFault),
+    NoMemory,
 }
 
 /// Whether a quotation mark is open after a byte, given whether one is before it.
@@ -40,107 +51,133 @@ pub(crate) fn is_open_after(is_open: bool, byte: u8) -> bool
     if byte == b'"' { !is_open } else { is_open }
 }
 
-/// Returns the place of the first delimiter outside quotation marks, or the length.
-fn raw_end(text: &[u8], delimiter: u8) -> usize
-    ensures value { result ≡ raw_end delimiter false text.now }
-    ensures within { result ≤ length text.now }
+/// Returns the length of a row's first cell, which doesn't begin with a quotation mark, or what is wrong with it.
+fn plain_end(text: &[u8], delimiter: u8) -> Result<usize, CellFault>
+    ensures end { IfOk result (λ n. n ≡ raw_end delimiter false text.now) }
+    ensures strict { IfOk result (λ n. plain_fault (take n text.now) ≡ None) }
+    ensures fault { IfErr result (λ fault. plain_fault (take (raw_end delimiter false text.now) text.now) ≡ Some fault) }
 {
-    let mut is_open = false;
     for (place, byte) in text.iter().enumerate() {
-        if *byte == delimiter && !is_open {
-            return place;
+        if *byte == delimiter {
+            return Ok(place);
         }
-        is_open = is_open_after(is_open, *byte);
+        if *byte == b'"' {
+            return Err(CellFault::StrayMark);
+        }
+        if *byte == b'\r' {
+            return Err(CellFault::LoneReturn);
+        }
     }
-    text.len()
+    Ok(text.len())
 }
 
-/// Returns the first cell of a row without its line end.
-#[tactic(auto, using(crate::proofs::CellLemmas::first_of_many, crate::proofs::CellLemmas::only_one))]
-pub fn first_cell(text: &[u8], delimiter: u8) -> FirstCell<'_>
-    ensures value { raw_cells delimiter false text.now ≡ result.raw.now ∷ rest_cells delimiter (option_copied result.rest) }
-    ensures shorter { IfSome result.rest (λ rest. length rest.now < length text.now) }
-{
-    let end = raw_end(text, delimiter);
-    if end < text.len() {
-        return FirstCell {
-            raw: &text[..end],
-            rest: Some(&text[end + 1..]),
-        };
-    }
-    FirstCell {
-        raw: text,
-        rest: None,
-    }
-}
-
-/// Returns what is wrong with a cell after its opening quotation mark.
-fn quoted_fault(bytes: &[u8]) -> Option<CellFault>
-    ensures { result ≡ quoted_fault false bytes.now }
+/// Returns the length of a row's first cell after its opening quotation mark, or what is wrong with it.
+fn quoted_end(text: &[u8], delimiter: u8) -> Result<usize, CellFault>
+    ensures end { IfOk result (λ n. n ≡ raw_end delimiter true text.now) }
+    ensures strict { IfOk result (λ n. quoted_fault false (take n text.now) ≡ None) }
+    ensures fault { IfErr result (λ fault. quoted_fault false (take (raw_end delimiter true text.now) text.now) ≡ Some fault) }
 {
     let mut is_closed = false;
-    for byte in bytes {
-        if *byte == b'"' {
-            is_closed = !is_closed;
-        } else if is_closed {
-            return Some(CellFault::AfterMark);
+    for (place, byte) in text.iter().enumerate() {
+        if is_closed {
+            if *byte == delimiter {
+                return Ok(place);
+            }
+            if *byte != b'"' {
+                return Err(CellFault::AfterMark);
+            }
+            is_closed = false;
+        } else if *byte == b'"' {
+            is_closed = true;
         }
     }
     if is_closed {
-        None
+        Ok(text.len())
     } else {
-        Some(CellFault::OpenMark)
+        Err(CellFault::OpenMark)
     }
 }
 
-/// Returns what is wrong with a cell that doesn't begin with a quotation mark.
-fn plain_fault(bytes: &[u8]) -> Option<CellFault>
-    ensures { result ≡ plain_fault bytes.now }
+/// Returns the length of a row's first cell, or what is wrong with it.
+#[tactic(auto, using(crate::proofs::CellLemmas::end_within))]
+fn cell_end(text: &[u8], delimiter: u8) -> Result<usize, CellFault>
+    ensures end { IfOk result (λ n. n ≡ raw_end delimiter false text.now) }
+    ensures within { IfOk result (λ n. n ≤ length text.now) }
+    ensures strict { IfOk result (λ n. cell_fault (take n text.now) ≡ None) }
+    ensures fault { IfErr result (λ fault. cell_fault (take (raw_end delimiter false text.now) text.now) ≡ Some fault) }
 {
-    for byte in bytes {
+    match text {
+        [b'"', rest @ ..] if delimiter != b'"' => match quoted_end(rest, delimiter) {
+            Ok(end) => Ok(end + 1),
+            Err(fault) => Err(fault),
+        },
+        _ => plain_end(text, delimiter),
+    }
+}
+
+/// Whether a text has a quotation mark.
+fn has_mark(text: &[u8]) -> bool
+    ensures { result ≡ list_any is_mark text.now }
+{
+    for byte in text {
         if *byte == b'"' {
-            return Some(CellFault::StrayMark);
-        }
-        if *byte == b'\r' {
-            return Some(CellFault::LoneReturn);
+            return true;
         }
     }
-    None
+    false
 }
 
-/// Returns what is wrong with a cell.
-fn cell_fault(raw: &[u8]) -> Option<CellFault>
-    ensures { result ≡ cell_fault raw.now }
+/// Returns where the content of a cell is: in a row from `start` up to `end`.
+#[tactic(auto, using(crate::proofs::CellLemmas::plain_place, crate::proofs::CellLemmas::quoted_place))]
+fn place_of(row: &[u8], start: usize, end: usize) -> CellPlace
+    requires ordered { start ≤ end }
+    requires within { end ≤ length row.now }
+    ensures { content_at row.now result ≡ content_of (slice_range row.now start end) }
 {
-    match raw {
-        [b'"', bytes @ ..] => quoted_fault(bytes),
-        _ => plain_fault(raw),
+    if start < end && row[start] == b'"' && end - start > 1 {
+        return CellPlace {
+            start: start + 1,
+            end: end - 1,
+            has_marks: has_mark(&row[start + 1..end - 1]),
+        };
+    }
+    CellPlace {
+        start,
+        end,
+        has_marks: false,
     }
 }
 
-/// Returns how many cells a row has.
+/// Replaces `cells` by the places of a row's cells.
 ///
 /// # Errors
 ///
 /// The first cell that is bad.
-pub fn check_row(text: &[u8], delimiter: u8) -> Result<usize, RowFault>
-    ensures { result ≡ checked_row 0 (raw_cells delimiter false text.now) }
+pub fn split_row(row: &[u8], delimiter: u8, cells: &mut Vec<CellPlace>) -> Result<(), SplitFault>
+    ensures contents { OnOk result (map (content_at row.now) cells.new.items ≡ map content_of (raw_cells delimiter false row.now)) }
+    ensures strict { OnOk result (checked_row 0 (raw_cells delimiter false row.now) ≡ Ok (length cells.new.items)) }
+    ensures fault { (fault : RowFault) → result ≡ Err (Row fault) → checked_row 0 (raw_cells delimiter false row.now) ≡ Err fault }
 {
-    let mut count = 0;
-    let mut rest = Some(text);
-    while let Some(cells) = rest {
-        let first = first_cell(cells, delimiter);
-        count += 1;
-        if let Some(fault) = cell_fault(first.raw) {
-            return Err(RowFault { cell: count, fault });
+    cells.clear();
+    let mut start = 0;
+    while start <= row.len() {
+        let end = match cell_end(&row[start..], delimiter) {
+            Ok(length) => start + length,
+            Err(fault) => {
+                let cell = cells.len() + 1;
+                return Err(SplitFault::Row(RowFault { cell, fault }));
+            }
+        };
+        if cells.push(place_of(row, start, end)).is_err() {
+            return Err(SplitFault::NoMemory);
         }
-        rest = first.rest;
+        start = end + 1;
     }
-    Ok(count)
+    Ok(())
 }
 
-/// Appends quoted bytes, one quotation mark for each two.
-fn add_undoubled(bytes: &[u8], out: &mut Vec<u8>) -> Result<(), AllocError>
+/// Appends the content of a cell with quotation marks, one for each two.
+pub fn add_undoubled(bytes: &[u8], out: &mut Vec<u8>) -> Result<(), AllocError>
     ensures { OnOk result (out.new.items ≡ out.old.items ++ undoubled false bytes.now) }
 {
     let mut is_second = false;
@@ -154,14 +191,4 @@ fn add_undoubled(bytes: &[u8], out: &mut Vec<u8>) -> Result<(), AllocError>
         }
     }
     Ok(())
-}
-
-/// Appends the content of a cell that isn't bad: what its quotation marks enclose, or the cell itself.
-pub fn add_content(raw: &[u8], out: &mut Vec<u8>) -> Result<(), AllocError>
-    ensures { OnOk result (out.new.items ≡ out.old.items ++ content_of raw.now) }
-{
-    match raw {
-        [b'"', bytes @ .., _] => add_undoubled(bytes, out),
-        _ => out.extend_from_slice(raw),
-    }
 }

@@ -53,6 +53,8 @@ struct RowPart<'a> {
     bytes: &'a [u8],
     is_ended: bool,
     is_open: bool,
+    /// How many line feeds it has.
+    line_feeds: u64,
 }
 
 /// Returns the bytes of the first row, or all bytes, given whether a quotation mark is open before them.
@@ -62,13 +64,21 @@ fn row_part(bytes: &[u8], was_open: bool) -> RowPart<'_>
     ensures open { result.is_ended ≡ false → result.is_open ≡ is_open_through was_open bytes.now }
 {
     let mut is_open = was_open;
+    let mut line_feeds = 0u64;
     for (place, byte) in bytes.iter().enumerate() {
-        if *byte == b'\n' && !is_open {
-            return RowPart {
-                bytes: &bytes[..place + 1],
-                is_ended: true,
-                is_open,
-            };
+        if *byte > b'"' {
+            continue;
+        }
+        if *byte == b'\n' {
+            line_feeds = line_feeds.saturating_add(1);
+            if !is_open {
+                return RowPart {
+                    bytes: &bytes[..place + 1],
+                    is_ended: true,
+                    is_open,
+                    line_feeds,
+                };
+            }
         }
         is_open = is_open_after(is_open, *byte);
     }
@@ -76,6 +86,7 @@ fn row_part(bytes: &[u8], was_open: bool) -> RowPart<'_>
         bytes,
         is_ended: false,
         is_open,
+        line_feeds,
     }
 }
 
@@ -155,6 +166,8 @@ pub struct RowInput {
     buf: Vec<u8>,
     start: usize,
     end: usize,
+    /// How many line feeds the last row has.
+    line_feeds: u64,
     ghost ordered: { start ≤ end },
     ghost in_bounds: { end ≤ vec_len buf },
     ghost room: { 0 < vec_len buf },
@@ -180,7 +193,13 @@ impl RowInput {
             buf,
             start: 0,
             end: 0,
+            line_feeds: 0,
         })
+    }
+
+    /// Returns how many line feeds the row has that was read last.
+    pub fn line_feeds(&self) -> u64 {
+        self.line_feeds
     }
 
     fn bytes(&self) -> &[u8]
@@ -232,12 +251,13 @@ impl RowInput {
     {
         let part = row_part(front(self.bytes(), most), was_open);
         row.extend_from_slice(part.bytes)?;
-        let n = part.bytes.len();
+        let (n, line_feeds) = (part.bytes.len(), part.line_feeds);
         let end = PartEnd {
             is_ended: part.is_ended,
             is_open: part.is_open,
         };
         self.consume(n);
+        self.line_feeds = self.line_feeds.saturating_add(line_feeds);
         Ok(end)
     }
 
@@ -290,6 +310,7 @@ impl RowInput {
         ensures memory { result ≡ Err NoMemory → faults_of reader.new ≡ faults_of reader.old }
     {
         row.clear();
+        self.line_feeds = 0;
         let mut is_open = false;
         while row.len() < ROW_ROOM {
             if !self.fill(reader)? {

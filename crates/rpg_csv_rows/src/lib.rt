@@ -5,6 +5,6 @@ mod cells;
 mod input;
 mod quoting;
 
-pub use cells::{CellFault, FirstCell, RowFault, add_content, check_row, first_cell};
+pub use cells::{CellFault, CellPlace, RowFault, SplitFault, add_undoubled, split_row};
 pub use input::{RowInput, RowInputFault, WholeRow, whole_row};
 pub use quoting::{Quoting, add_cell, cells_are_read_back};

@@ -1,6 +1,7 @@
 -- The number of digits, one after the other.
-use Rattle.std.proofs.Common.{◌≡◌, ℕ, suc, ◌+◌, ◌-◌, ◌*◌, ◌^◌, ◌<◌, ◌≤◌, ◌&&◌, not, Bool, true, false, cond, List, [], ◌∷◌, length, map, refl, sym, ap, ap₂, ◌∙◌, arith, pow-suc, ◌++◌, append-nil, Option, None, Some, inl, inr, ℤ, unsigned_abs}
+use Rattle.std.proofs.Common.{◌≡◌, ℕ, suc, ◌+◌, ◌-◌, ◌*◌, ◌^◌, ◌<◌, ◌≤◌, ◌&&◌, not, Bool, true, false, cond, List, [], ◌∷◌, drop, length, length-drop, length-take, map, take, take_all, refl, sym, ap, ap₂, ◌∙◌, arith, pow-suc, ◌++◌, append-nil, Option, None, Some, inl, inr, ℤ, unsigned_abs}
 use Rattle.std.proofs.Math.Nat.{le-mul_of_pos_right, one-le-pow, pow-le-pow_right}
+use Rattle.std.proofs.Math.Seq.{drop-append_seam}
 use Rattle.std.proofs.lemmas.Bool.{cases_lt}
 use Rattle.std.specs.List.{list_all}
 use Rattle.rpg_decimal_words.specs.Place.{place_value}
@@ -83,8 +84,16 @@ all_digits group text =
 pub few_digits : (n : ℤ) (k : ℕ) → k ≤ 15 → unsigned_abs n < 10 ^ k → unsigned_abs n < 10 ^ 15
 few_digits n k h l = let more : 10 ^ k ≤ 10 ^ 15 = pow-le-pow_right (omega arith) h in omega (arith, l, more)
 
-pub ten_few : (r k : ℕ) → r ≡ 10 ^ k → k ≤ 15 → r ≤ 10 ^ 15
-ten_few r k e h = let more : 10 ^ k ≤ 10 ^ 15 = pow-le-pow_right (omega arith) h in omega (arith, e, more)
-
 pub nothing_more : (xs : List ℕ) → xs ≡ xs ++ []
 nothing_more xs = sym (append-nil xs)
+
+-- ---- printed numbers
+
+-- a text at the end of 32 bytes, from where it begins
+pub written_text : (out old text columns : List ℕ) (start width : ℕ) → start + width ≡ 32 → length old ≡ 32 → length out ≡ 32 → out ≡ take (32 - width) old ++ text
+    → take (32 - start) (drop start out) ≡ columns → text ≡ columns
+written_text out old text columns start width h size kept e same =
+    let front : length (take (32 - width) old) ≡ start = omega (arith, length-take (32 - width) old) in
+    let rest : drop start out ≡ text = ap (drop start) e ∙ ap (λ (k : ℕ). drop k (take (32 - width) old ++ text)) (sym front) ∙ drop-append_seam (take (32 - width) old) text in
+    let all : take (32 - start) (drop start out) ≡ drop start out = take_all (32 - start) (drop start out) (omega (arith, length-drop start out)) in
+    sym rest ∙ sym all ∙ same

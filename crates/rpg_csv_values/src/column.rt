@@ -49,7 +49,12 @@ fn add_minus(number: i64, out: &mut Vec<u8>) -> Result<(), AllocError>
 }
 
 /// Appends a number with all its decimals.
-fn add_number(number: i64, decimals: u8, point: u8, out: &mut Vec<u8>) -> Result<(), AllocError>
+pub(crate) fn add_number(
+    number: i64,
+    decimals: u8,
+    point: u8,
+    out: &mut Vec<u8>,
+) -> Result<(), AllocError>
     requires { unsigned_abs number < 10 ^ 15 }
 {
     let mut room = [b'0'; MOST_DIGITS];
@@ -61,7 +66,7 @@ fn add_number(number: i64, decimals: u8, point: u8, out: &mut Vec<u8>) -> Result
 
 /// Returns the number that columns have, if they have one. A blank is a zero.
 #[tactic(auto, using(crate::proofs::NumberLemmas::few_digits))]
-fn columns_number(columns: &[u8]) -> Option<i64>
+pub(crate) fn columns_number(columns: &[u8]) -> Option<i64>
     ensures value { result ≡ columns_number columns.now }
     ensures few { IfSome result (λ number. unsigned_abs number < 10 ^ 15) }
 {

@@ -4,7 +4,9 @@
 mod cell;
 mod column;
 mod number;
+mod printed;
 
 pub use cell::{CellFault, CellKind, write_cell};
 pub use column::add_content_of;
 pub use number::{NumberFormat, without_blanks};
+pub use printed::{Printed, Printing};

@@ -1,7 +1,7 @@
 //! The numbers of cells.
 
-ghost use Rattle.std.specs.Prelude.{◌≡◌, ◌≤◌, ◌<◌, ◌^◌, length, true, unsigned_abs, IfOk, Ok};
-ghost use Rattle.rpg_csv_values.specs.Numbers.{after_point, before_point, cell_number, digits_number, digits_with_point, has_minus, is_grouped, is_separator, number_size, parts_number, signed_size, whole_number, without_blanks, without_sign, without_zeros};
+ghost use Rattle.std.specs.Prelude.{◌≡◌, ◌≤◌, ◌<◌, ◌^◌, ◌+◌, ◌*◌, length, true, unsigned_abs, IfOk, Ok};
+ghost use Rattle.rpg_csv_values.specs.Numbers.{after_point, before_point, cell_number, counted, digits_number, digits_with_point, has_minus, is_grouped, is_separator, number_size, parts_number, signed_size, whole_number, without_blanks, without_sign, without_zeros};
 
 use crate::cell::CellFault;
 use rpg_text::trimmed;
@@ -128,6 +128,17 @@ fn is_separator(group: Option<u8>, byte: u8) -> bool
     }
 }
 
+/// Returns a number with one more digit, at most the largest of 64 bits. Short numbers need no test of each step.
+#[inline(always)]
+fn with_digit(number: u64, digit: u8) -> u64
+    ensures { result ≡ counted (counted (number * 10) + digit) }
+{
+    if number < 1_000_000_000_000_000_000 {
+        return number * 10 + u64::from(digit);
+    }
+    number.saturating_mul(10).saturating_add(u64::from(digit))
+}
+
 /// Returns the number of a text's digits, at most the largest of 64 bits, if all but the separators are digits.
 #[tactic(auto, using(crate::proofs::NumberLemmas::all_digits))]
 fn digits_number(text: &[u8], group: Option<u8>) -> Option<u64>
@@ -141,21 +152,38 @@ fn digits_number(text: &[u8], group: Option<u8>) -> Option<u64>
         if !byte.is_ascii_digit() {
             return None;
         }
-        number = number
-            .saturating_mul(10)
-            .saturating_add(u64::from(*byte - b'0'));
+        number = with_digit(number, *byte - b'0');
     }
     Some(number)
 }
 
+/// The powers of ten, lowest first.
+const POWERS_OF_TEN: [u64; 16] = [
+    1,
+    10,
+    100,
+    1_000,
+    10_000,
+    100_000,
+    1_000_000,
+    10_000_000,
+    100_000_000,
+    1_000_000_000,
+    10_000_000_000,
+    100_000_000_000,
+    1_000_000_000_000,
+    10_000_000_000_000,
+    100_000_000_000_000,
+    1_000_000_000_000_000,
+];
+
 /// Returns ten to a power.
-#[tactic(auto, using(crate::proofs::NumberLemmas::ten_few))]
 fn power_of_ten(exponent: u8) -> u64
     requires { exponent ≤ 15 }
     ensures value { result ≡ 10 ^ exponent }
     ensures few { result ≤ 10 ^ 15 }
 {
-    10u64.pow(u32::from(exponent))
+    POWERS_OF_TEN[usize::from(exponent)]
 }
 
 /// Returns a number in units of the last of a field's decimals, which has `before` digits before these.

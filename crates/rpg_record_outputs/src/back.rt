@@ -7,7 +7,7 @@ ghost use Rattle.rpg_record_decks.specs.Outcomes.{IsDeckFaultOf};
 ghost use Rattle.rpg_record_outputs.specs.Arrays.{ReadsNoArray, reads_arrays};
 
 use crate::array::{entry_cards, reads_arrays};
-use crate::file::written_file;
+use crate::file::{disk_file, written_file};
 use crate::line::{Line, is_same, layout_of_lines, lines_of};
 use rpg_record_decks::{
     CardFault, DeckArguments, DeckCard, DeckFault, columns, deck_cards, file_length, file_name,
@@ -161,8 +161,18 @@ pub fn back_layout(
     arguments: DeckArguments,
 ) -> Result<BackLayout, DeckFault> {
     let cards = deck_cards(alloc, source)?;
-    let cards = cards.as_slice();
-    match written_file(cards, arguments.file) {
+    let file = written_file(cards.as_slice(), arguments.file);
+    layout_of(alloc, arguments, cards.as_slice(), file)
+}
+
+/// Returns the layout of the lines of an output file, or of an input file's records.
+fn layout_of(
+    alloc: Global,
+    arguments: DeckArguments,
+    cards: &[DeckCard],
+    written: Option<&DeckCard>,
+) -> Result<BackLayout, DeckFault> {
+    match written {
         Some(file) => Ok(BackLayout {
             layout: written_layout(alloc, arguments, cards, file)?,
             written: Some(name_columns(file)),
@@ -172,6 +182,25 @@ pub fn back_layout(
             written: None,
         }),
     }
+}
+
+/// Returns the layout of the lines that become rows: of the file that the arguments name, by its O cards if a job writes it, or of the
+/// only output file on disk.
+///
+/// # Errors
+///
+/// The first card that is rejected; or there is no such file, or memory ran out.
+pub fn rows_layout(
+    alloc: Global,
+    source: &[u8],
+    arguments: DeckArguments,
+) -> Result<BackLayout, DeckFault> {
+    let cards = deck_cards(alloc, source)?;
+    let file = disk_file(cards.as_slice(), arguments.file);
+    if file.is_none() && arguments.file.is_none() {
+        return Err(DeckFault::NoFile);
+    }
+    layout_of(alloc, arguments, cards.as_slice(), file)
 }
 
 /// Returns the layout of the records of an input file. An I card may read a packed or binary array.

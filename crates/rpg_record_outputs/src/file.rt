@@ -25,6 +25,14 @@ pub(crate) fn has_numbers(cards: &[DeckCard], name: &[u8]) -> bool {
     false
 }
 
+/// Returns the output file on disk with this name, or the first one.
+pub(crate) fn disk_file<'a>(cards: &'a [DeckCard], name: Option<&str>) -> Option<&'a DeckCard> {
+    match name {
+        Some(name) => file_named(cards, name.as_bytes()),
+        None => cards.iter().find(|card| is_written(&card.card)),
+    }
+}
+
 /// Returns the output file with this name.
 fn file_named<'a>(cards: &'a [DeckCard], name: &[u8]) -> Option<&'a DeckCard> {
     for card in cards {

@@ -9,5 +9,5 @@ mod file;
 mod line;
 mod name;
 
-pub use back::{BackLayout, back_layout, input_layout};
+pub use back::{BackLayout, back_layout, input_layout, rows_layout};
 pub use changes::deck_changes;
