@@ -174,7 +174,9 @@ impl Texts {
         self.bytes.clear();
         self.ends.clear();
         for column in 0..self.cells.len() {
-            let cell = self.cells.as_slice()[column];
+            let Some(cell) = self.cells.as_slice().get(column).copied() else {
+                break;
+            };
             self.read_content(row, cell)?;
             self.copy_content(format, column, labels.get(column).copied())?;
             self.ends.push(self.bytes.len())?;
