@@ -50,7 +50,7 @@ pub fn card_diagnostic<'a>(
     alloc: Global,
     file: FileName<'a>,
     source: &'a [u8],
-    fault: &CardFault,
+    fault: &'a CardFault,
 ) -> Made<Diagnostic<'a>> {
     let cards = IndexedCards::new(alloc, &[])?;
     let near = NearNames::of(alloc, &[], &[])?;
