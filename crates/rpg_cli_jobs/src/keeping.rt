@@ -125,6 +125,17 @@ fn shared_place<R: Files + AllocGlobal>(
     }))
 }
 
+/// Removes a new file, if there is one.
+fn remove<R: Files + AllocGlobal, L: Listener>(
+    rt: &R,
+    file: &Option<Pending<'_>>,
+    listener: &mut L,
+) {
+    if let Some(pending) = file {
+        pending.discard(rt, listener);
+    }
+}
+
 impl<'a> Kept<'a> {
     pub fn new() -> Self {
         Kept {
@@ -201,11 +212,8 @@ impl<'a> Kept<'a> {
             }
             Disposition::Left => self.leave_all(rt, listener),
             Disposition::Removed => {
-                for file in [&self.print, &self.disk] {
-                    if let Some(pending) = file {
-                        pending.discard(rt, listener);
-                    }
-                }
+                remove(rt, &self.print, listener);
+                remove(rt, &self.disk, listener);
             }
         }
         ran
