@@ -133,8 +133,14 @@ pub(crate) fn write_bound(out: &mut TextWriter, rows: &Rows, bound: u64, costs: 
             "for heading, detail and total lines and their fields",
         ),
         (overflow, "for the same at an overflow"),
-        (detail, "for detail calculations, without what is spent"),
-        (total, "for total calculations, without what is spent"),
+        (
+            detail,
+            "for detail calculations, not counting loops and calls",
+        ),
+        (
+            total,
+            "for total calculations, not counting loops and calls",
+        ),
         (u64::MAX, "for all that branches back and calls lead to"),
     ] {
         let steps = steps.min(rest);
