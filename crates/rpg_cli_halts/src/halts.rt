@@ -286,8 +286,12 @@ pub fn halt_diagnostic<'a>(
     record: Option<&'a HaltedRecord<'_>>,
     source: Option<HaltedSource<'a>>,
 ) -> Made<Diagnostic<'a>> {
-    let found = record.and_then(|record| RecordProblem::of(program, halted, record));
-    let found = found.unwrap_or(RecordProblem::Nothing);
+    let found = match record {
+        Some(record) => RecordProblem::of(program, halted, record).unwrap_or(
+            RecordProblem::Nothing,
+        ),
+        None => RecordProblem::Nothing,
+    };
     let context = HaltContext {
         names,
         program,
@@ -307,10 +311,12 @@ pub fn halt_diagnostic<'a>(
         source.add_cards(&mut draft, program.program(), halted, bad);
     }
     let rows = program.program().rows();
-    match (record, found) {
-        (Some(record), RecordProblem::Input(_, _)) => add_commas(&mut draft, rows, record),
-        (Some(record), RecordProblem::NoType(_)) => add_types(&mut draft, rows, record, source),
-        _ => {}
+    if let Some(record) = record {
+        match found {
+            RecordProblem::Input(_, _) => add_commas(&mut draft, rows, record),
+            RecordProblem::NoType(_) => add_types(&mut draft, rows, record, source),
+            _ => {}
+        }
     }
     let mut remark = draft.text();
     context.write_cycle(&mut remark);
