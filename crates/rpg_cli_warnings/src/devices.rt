@@ -8,7 +8,7 @@ ghost use Rattle.rpg_cli_warnings.specs.Devices as devices;
 use rpg_cards::SpecCard;
 use rpg_sheet_specs::{ColumnFault, Device, FileRole, FileSpec};
 use rpg_text::first_line;
-use rpg_warnings_lines::{Warning, WarningKind, put_warning};
+use rpg_warnings_lines::{Warning, WarningKind};
 use std::alloc::AllocError;
 
 /// The columns of a device.
@@ -79,7 +79,9 @@ pub(crate) fn put_devices(
     ensures { OnOk result (warnings.new.items ≡ warnings.old.items ++ filter_map (devices.device_on (lines text.now)) cards.now) }
 {
     for card in cards {
-        put_warning(warnings, device_on(text, card))?;
+        if let Some(warning) = device_on(text, card) {
+            warnings.push(warning)?;
+        }
     }
     Ok(())
 }
