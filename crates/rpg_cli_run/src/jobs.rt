@@ -420,30 +420,32 @@ fn halt_of(report: Report) -> Option<HaltedCycle> {
     }
 }
 
-impl<R: AllocGlobal, L: Listener> Runs<'_, '_, R, L> {
-    /// Reports a halt, with the record if that shows more.
-    fn report_halted(
-        &mut self,
-        runnable: Runnable<'_>,
-        halted: HaltedCycle,
-        last: LastRead<'_>,
-    ) -> Result<(), AllocError> {
-        let names = InputNames {
-            primary: file_of(self.request, FileArgument::Input),
-            secondary: secondary_of(self.request),
-        };
-        let (alloc, program, source) = (self.rt.alloc(), runnable.program, runnable.halted());
-        if !halted.needs_record(program) {
-            let told = halt_diagnostic(alloc, names, program, halted, None, source)?;
-            self.listener.tell(&told);
-            return Ok(());
-        }
-        let record = HaltedRecord::of(alloc, program, last)?;
-        let told = halt_diagnostic(alloc, names, program, halted, Some(&record), source)?;
-        self.listener.tell(&told);
-        Ok(())
+/// Reports a halt, with the record if that shows more.
+fn report_halted<'a, L: Listener>(
+    alloc: Global,
+    request: &Request<'a>,
+    runnable: Runnable<'a>,
+    halted: HaltedCycle,
+    last: LastRead<'_>,
+    listener: &mut L,
+) -> Result<(), AllocError> {
+    let names = InputNames {
+        primary: file_of(request, FileArgument::Input),
+        secondary: secondary_of(request),
+    };
+    let (program, source) = (runnable.program, runnable.halted());
+    if !halted.needs_record(program) {
+        let told = halt_diagnostic(alloc, names, program, halted, None, source)?;
+        listener.tell(&told);
+        return Ok(());
     }
+    let record = HaltedRecord::of(alloc, program, last)?;
+    let told = halt_diagnostic(alloc, names, program, halted, Some(&record), source)?;
+    listener.tell(&told);
+    Ok(())
+}
 
+impl<R: AllocGlobal, L: Listener> Runs<'_, '_, R, L> {
     /// Reports where a job halted, if it did, with the record that it had.
     pub fn report_halt(
         &mut self,
@@ -454,7 +456,16 @@ impl<R: AllocGlobal, L: Listener> Runs<'_, '_, R, L> {
     ) {
         if let (Some(halted), Some(file)) = (halt_of(report), file) {
             let last = inputs.of(file, halted.halt);
-            if self.report_halted(runnable, halted, last).is_err() {
+            let alloc = self.rt.alloc();
+            let reported = report_halted(
+                alloc,
+                self.request,
+                runnable,
+                halted,
+                last,
+                self.listener,
+            );
+            if reported.is_err() {
                 self.listener.lose();
             }
         }
