@@ -11,8 +11,8 @@ ghost use Rattle.rpg_program.specs.Kept.{IsCharacter};
 ghost use Rattle.rpg_memory.specs.Memory.{data_put, forms_in, with_on};
 ghost use Rattle.rpg_memory.specs.Silent.{names_none};
 
+use crate::digits::read_number;
 use crate::fixed_inputs::FixedInput;
-use rpg_decimal::read_zoned;
 use rpg_memory::memory::Memory;
 use rpg_program::form::Kind;
 use rpg_program::halt::Halt;
@@ -54,7 +54,7 @@ fn fill_number<S: Store + Drop>(
     ensures { DidData (filled_field kinds.Number input.now digits.now memory.old.world.data) memory.old (end_of result) memory.new }
 {
     memory.is_kept();
-    match read_zoned(digits) {
+    match read_number(digits) {
         Ok(n) => {
             memory.set_number_in(fixed.place, input.field, 1, n);
             if !fixed.is_silent {
