@@ -23,7 +23,7 @@ use rpg_program::forms::{form_at, kind_of};
 use rpg_program::line::{Editing, LineField, Source};
 use rpg_program::rows::Rows;
 use rpg_program::words::word_at;
-use rpg_store::store::Store;
+use rpg_store::store::{Store, copy_text};
 
 /// Returns the edit word for a number of this many digits.
 #[tactic(auto, using(crate::proofs::Fields::fitting))]
@@ -84,27 +84,6 @@ fn lay_number(
         Editing::Code(code) => write_coded(n, digits, form.decimals, code, field.fill, line),
         Editing::Word(word) => write_by_word(rows, words, word, digits, n, line),
     };
-}
-
-/// Copies a text over one of the same length. Up to three characters are copied without a call, which costs less.
-#[inline(always)]
-fn copy_text(to: &mut [u8], from: &[u8])
-    requires { length to.old ≡ length from.now }
-    ensures { to.new ≡ from.now }
-{
-    match from {
-        &[a] => to[0] = a,
-        &[a, b] => {
-            to[0] = a;
-            to[1] = b;
-        }
-        &[a, b, c] => {
-            to[0] = a;
-            to[1] = b;
-            to[2] = c;
-        }
-        _ => to.copy_from_slice(from),
-    }
 }
 
 /// Writes a text over the line, ending at this place.
