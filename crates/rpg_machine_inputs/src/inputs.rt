@@ -11,8 +11,8 @@ ghost use Rattle.rpg_program.specs.Kept.{IsCharacter};
 ghost use Rattle.rpg_memory.specs.Memory.{data_put, forms_in, with_on};
 ghost use Rattle.rpg_memory.specs.Silent.{names_none};
 
+use crate::digits::read_number;
 use crate::fixed_inputs::FixedInput;
-use rpg_decimal::read_zoned;
 use rpg_memory::memory::Memory;
 use rpg_program::form::Kind;
 use rpg_program::halt::Halt;
@@ -25,12 +25,13 @@ use std::cmp::Ordering;
 
 /// Returns the columns of a record that an input field reads.
 #[inline(always)]
-fn columns_of(text: &[u8], input: InputField<u16>) -> &[u8]
-    requires { HasColumns input (length text.now) }
+fn columns_of(text: &[u8], input: InputField<u16>, before: u16) -> &[u8]
+    requires columns { HasColumns input (length text.now) }
+    requires before { before ≡ input.from - 1 }
     ensures value { result.now ≡ of.record_part input text.now }
     ensures length { length result.now ≡ input.to + 1 - input.from }
 {
-    &text[usize::from(input.from) - 1..usize::from(input.to)]
+    &text[usize::from(before)..usize::from(input.to)]
 }
 
 /// Compares a text with zero: only a blank text has an order.
@@ -54,7 +55,7 @@ fn fill_number<S: Store + Drop>(
     ensures { DidData (filled_field kinds.Number input.now digits.now memory.old.world.data) memory.old (end_of result) memory.new }
 {
     memory.is_kept();
-    match read_zoned(digits) {
+    match read_number(digits) {
         Ok(n) => {
             memory.set_number_in(fixed.place, input.field, 1, n);
             if !fixed.is_silent {
@@ -114,7 +115,7 @@ fn fill_one<S: Store + Drop>(
     ensures { DidData (of.field_in (forms_in memory.old) text.now input.now memory.old.world.data) memory.old (end_of result) memory.new }
 {
     memory.is_kept();
-    let part = columns_of(text, *input);
+    let part = columns_of(text, *input, fixed.before);
     match fixed.kind {
         Kind::Number => fill_number(memory, input, fixed, part),
         Kind::Text => fill_text(memory, input, fixed, part),

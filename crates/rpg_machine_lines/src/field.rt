@@ -23,7 +23,7 @@ use rpg_program::forms::{form_at, kind_of};
 use rpg_program::line::{Editing, LineField, Source};
 use rpg_program::rows::Rows;
 use rpg_program::words::word_at;
-use rpg_store::store::Store;
+use rpg_store::store::{Store, copy_text};
 
 /// Returns the edit word for a number of this many digits.
 #[tactic(auto, using(crate::proofs::Fields::fitting))]
@@ -84,27 +84,6 @@ fn lay_number(
         Editing::Code(code) => write_coded(n, digits, form.decimals, code, field.fill, line),
         Editing::Word(word) => write_by_word(rows, words, word, digits, n, line),
     };
-}
-
-/// Copies a text over one of the same length. Up to three characters are copied without a call, which costs less.
-#[inline(always)]
-fn copy_text(to: &mut [u8], from: &[u8])
-    requires { length to.old ≡ length from.now }
-    ensures { to.new ≡ from.now }
-{
-    match from {
-        &[a] => to[0] = a,
-        &[a, b] => {
-            to[0] = a;
-            to[1] = b;
-        }
-        &[a, b, c] => {
-            to[0] = a;
-            to[1] = b;
-            to[2] = c;
-        }
-        _ => to.copy_from_slice(from),
-    }
 }
 
 /// Writes a text over the line, ending at this place.
@@ -199,11 +178,19 @@ pub fn count_page<S: Store + Drop>(memory: &mut Memory<'_, S>, field: &LineField
     }
 }
 
-/// Fills a line with blanks.
+/// Blanks for a line of the printer, which has at most 132 characters, and for disk records that are no longer than these.
+static BLANKS: [u8; 256] = [b' '; 256];
+
+/// Fills a line with blanks. Up to 256 are copied, which costs less than `fill`.
 pub fn fill_blanks(text: &mut [u8])
     ensures { text.new ≡ replicate (length text.old) 32 }
 {
-    text.fill(b' ');
+    let len = text.len();
+    if len <= BLANKS.len() {
+        text.copy_from_slice(&BLANKS[..len]);
+    } else {
+        text.fill(b' ');
+    }
 }
 
 /// Sets a text entry to blanks.

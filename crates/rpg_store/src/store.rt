@@ -88,6 +88,30 @@ pub trait Store {
         ensures forms { forms self.new ≡ forms self.old };
 }
 
+/// Copies a text over one of the same length. Up to three characters are copied without a call, which costs less.
+#[inline(always)]
+pub fn copy_text(to: &mut [u8], from: &[u8])
+    requires { length to.old ≡ length from.now }
+    ensures { to.new ≡ from.now }
+{
+    if from.len() > 3 {
+        return to.copy_from_slice(from);
+    }
+    match from {
+        &[a] => to[0] = a,
+        &[a, b] => {
+            to[0] = a;
+            to[1] = b;
+        }
+        &[a, b, c] => {
+            to[0] = a;
+            to[1] = b;
+            to[2] = c;
+        }
+        _ => {}
+    }
+}
+
 /// Overwrites a text with one of the same length.
 pub fn set_text<S: Store>(store: &mut S, field: u16, position: u16, text: &[u8])
     requires { (old : List ℕ) × (map.get (S.contents store.old) (field, position) ≡ Some (Text old)) × (length text.now ≡ length old) }
@@ -107,7 +131,5 @@ pub fn set_text_in<S: Store>(store: &mut S, place: usize, field: u16, position: 
     ensures currents { S.currents store.new ≡ S.currents store.old }
     ensures forms { S.forms store.new ≡ S.forms store.old }
 {
-    store
-        .text_mut_in(place, field, position)
-        .copy_from_slice(text);
+    copy_text(store.text_mut_in(place, field, position), text);
 }

@@ -3,8 +3,8 @@ use Rattle.rpg_program.specs.declared.form.Kind.TheVariants as kinds
 use Rattle.rpg_machine_inputs.proofs.Filling.{field_filled, fits_field, long_there, value_there}
 use Rattle.rpg_machine_inputs.proofs.inputs.fill_one.Goals as goal
 
-pub columns_of-part-requires : goal.columns_of-part-requires
-columns_of-part-requires g c =
+pub columns_of-part-requires-clause-columns : goal.columns_of-part-requires-clause-columns
+columns_of-part-requires-clause-columns g c =
     let fits = fits_field c.args.memory.now.program.fields (length c.args.text.now) c.args.input.now c.requires.right in
     record { low = fits.low; ordered = fits.ordered; high = fits.high }
 
