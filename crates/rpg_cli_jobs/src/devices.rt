@@ -159,15 +159,14 @@ pub struct Devices<'r, F: Drop, S: Drop, P: Drop> {
 }
 
 /// Returns the readers and writers of a run's files. All that is written may have as many bytes as there is room for.
-pub fn devices_of<'r, R: Files + Input + Print + AllocGlobal>(
+pub fn devices_of<'r, R: Files + Input + Print>(
     rt: &'r R,
     files: RunFiles<R::File>,
     room: Option<&'r Cell<u64>>,
 ) -> Devices<'r, R::File, R::Reader, Printer<'r, R>> {
-    let alloc = rt.alloc();
     Devices {
-        input: records(rt, files.input).keeping(alloc),
-        secondary: records(rt, files.secondary).keeping(alloc),
+        input: records(rt, files.input),
+        secondary: records(rt, files.secondary),
         print: lines(rt, files.print, room),
         disk: lines(rt, files.disk, room),
     }
