@@ -1,231 +1,182 @@
 #!/usr/bin/env python3
 """Tries wrong rules of `rpg2 fit`: a case of tests/fit or an old deck by chance must see each of them.
 
-usage: bench/fit_wrong_rules.py [--decks COUNT] [--right] [WORD..]        only the wrong rules with one of these words
+usage: bench/fit_wrong_rules.py [--decks COUNT] [--keep FOLDER] [WORD..]        only the wrong rules with one of these words
 
-RPG2 names the program that runs the new decks. With --right the rules as they are are tried too: no case may see them.
+bench/fit_wrong_rules.txt has the wrong rules, each a text of a file of the rules and what takes its place. One program has all of them, each
+beside the right text under a test of its number; the environment variable WRONG_RULE chooses one while the program runs. So all are
+compiled at once, unproved, as build/unproved.py does, in one to two minutes. --keep FOLDER leaves the program and its parts there: only
+parts that changed are compiled again, and nothing if none did. With no wrong rule the program must pass all cases.
 
-bench/fit_wrong_rules.txt has the wrong rules, each an edit of a file of the rules. They are tried in rounds, one of each rule in a round:
-`rt try` builds the rules with their edits, unproved, below a small program (fit_program.txt), and runs that over the cases and over decks
-by chance. A case sees a wrong rule if its right answer has sentences of this rule alone, and another answer comes. A deck by chance, made
-with the feature of the rule alone, sees it if what rpg2 makes of the new deck isn't what the old deck means (fit.py). Nothing is proved.
+A case sees a wrong rule if it fails with it; the rule's own cases are tried first. A deck by chance, made with the feature of the rule
+alone, sees it if what rpg2 makes of the new deck isn't what the old deck means (fit.py). 20 decks are tried where COUNT isn't given.
 
-For each wrong rule it prints what sees it. The last line is 'N seen, M not', and the exit status is 1 if some aren't. It takes some
-minutes for a round.
+For each wrong rule it prints what sees it. The last line is 'N seen, M not', and the exit status is 1 if some aren't.
 """
 
 import argparse
 import os
 import re
-import subprocess
 import sys
 import tempfile
+import time
 from dataclasses import dataclass
 from pathlib import Path
 
-sys.path.insert(0, str(Path(__file__).resolve().parent.parent / "tests"))
+TOP = Path(__file__).resolve().parent.parent
+sys.path += [str(TOP / "build"), str(TOP / "tests")]
 
 import fit
+import fits
+import module_text
 import old_deck_sources
-from fits import words_of
+import rpg2
+import unproved
+from program import Program
 
-TOP = Path(__file__).resolve().parent.parent
-HERE = TOP / "bench"
-CASES = TOP / "tests/fit"
+RULES = TOP / "bench/fit_wrong_rules.txt"
+CASES = sorted((TOP / "tests/fit").glob("*.deck"))
+
+# The test of a wrong rule's number: a function of the lowest crate of the rules. In the compiled program it asks the environment.
+TEST = "/// Whether a wrong rule is chosen.\npub fn is_wrong(number: u64) -> bool {\n    number == 0\n}\n"
+TEST_FILE = "rpg_fit_deck/src/lib.rt"
+ASKED = re.compile(rb'(?s)(\ndefine [^\n]*@"?rpg_fit_deck::is_wrong"?\(i64 [^\n%]*%(\w+)\)[^\n]*\{\n).*?\n\}\n')
+ASKS = rb"""\1entry:
+  %word = call ptr @getenv(ptr @wrong_rule)
+  %is_none = icmp eq ptr %word, null
+  br i1 %is_none, label %none, label %some
+none:
+  ret i1 false
+some:
+  %chosen = call i64 @atol(ptr %word)
+  %is_same = icmp eq i64 %chosen, %\2
+  ret i1 %is_same
+}
+"""
+GLOBAL = b'@wrong_rule = private constant [11 x i8] c"WRONG_RULE\\00"\n'
+DECLARATIONS = b"declare ptr @getenv(ptr)\ndeclare i64 @atol(ptr)\n"
 
 
 @dataclass(frozen=True)
 class WrongRule:
+    number: int
     rule: str  # A6
     feature: str  # the feature of its decks by chance
     text: str
     file: str
-    pairs: tuple
+    old: str
+    new: str
 
-    def applied(self, text):
-        for old, new in self.pairs:
-            if text.count(old) != 1:
-                sys.exit(f"{self.rule} {self.text}: its text must stand once in {self.file}: {old}")
-            text = text.replace(old, new)
-        return text
+    def both(self):
+        """The right text and the wrong one, under the test of the number."""
+        test = f"rpg_fit_deck::is_wrong({self.number})"
+        if "WRONG" in self.new:
+            return self.new.replace("WRONG", test)
+        both = f"if {test} {{ {self.new} }} else {{ {self.old} }}"
+        return both if self.old.endswith(";") else f"({both})"
 
 
 def wrong_rules(text):
-    for block in re.split(r"\n\s*\n", text):
-        lines = [line for line in block.split("\n") if line and not line.startswith("#")]
-        if lines:
-            rule, feature, what = re.match(r"(A\d+) (\w+): (.*)", lines[0]).groups()
-            olds, news = ([it[2:] for it in lines[2:] if it.startswith(f"{mark} ")] for mark in "-+")
-            yield WrongRule(rule, feature, what, lines[1], tuple(zip(olds, news, strict=True)))
-
-
-def rounds(rules):
-    """The wrong rules in as few rounds as keep those of a rule apart."""
-    found = []
-    for wrong in rules:
-        room = next((it for it in found if wrong.rule not in {other.rule for other in it}), None)
-        if room is None:
-            found.append(room := [])
-        room.append(wrong)
-    return found
-
-
-# ---- inputs of the program
-
-
-def program_input(deck, table, switches, printer):
-    lines = [f"D{card}" for card in deck.split("\n")[:-1]] + [f"T{record}" for record in table]
-    return "".join(f"{it}\n" for it in [*lines, f"S{switches}", *([f"P{printer}"] if printer else [])])
-
-
-def after(words, word):
-    """The word after one of them, if it is there."""
-    return words[words.index(word) + 1] if word in words else None
-
-
-def case_input(path):
-    words = words_of(path)
-    table = (CASES / "table").read_text(encoding="latin-1").split("\n")[:-1]
-    if after(words, "--table").endswith("=record"):
-        table = table[:1]
-    switches = after(words, "--switches") or "0" * 8
-    return program_input(path.read_text(encoding="latin-1"), table, switches, after(words, "--printer"))
-
-
-def case_answer(path):
-    """What the program must print of a case."""
-    told = path.with_suffix(".told").read_text(encoding="latin-1")
-    new = path.with_suffix(".new")
-    if not new.exists():
-        return re.sub(r"^(\d+): (A\d+): ", r"card \1: \2\n\1: \2: ", told)
-    return f"changes {len(told.splitlines())}\n{told}--- new\n{new.read_text(encoding='latin-1')}"
-
-
-def is_of_rule(path, rule):
-    """Whether the right answer to a case has sentences of a rule alone."""
-    return set(re.findall(r"^\d+: (A\d+): ", path.with_suffix(".told").read_text(encoding="latin-1"), re.M)) == {rule}
+    blocks = [[line for line in block.split("\n") if line and not line.startswith("#")] for block in re.split(r"\n\s*\n", text)]
+    for number, (head, file, old, new) in enumerate((block for block in blocks if block), 1):
+        yield WrongRule(number, *re.match(r"(A\d+) (\w+): (.*)", head).groups(), file, old.removeprefix("- "), new.removeprefix("+ "))
 
 
 # ---- the program
 
 
-def build_room(folder, wrong):
-    """A copy of the crates of the rules, with the wrong rules and the program that runs them."""
-    (folder / "crates").mkdir(parents=True)
-    for crate in (TOP / "crates").iterdir():
-        for part in ("src", "specs", "proofs"):
-            if (crate / part).is_dir():
-                (folder / "crates" / crate.name).mkdir(exist_ok=True)
-                (folder / "crates" / crate.name / part).symlink_to(crate / part)
-    for file in {it.file for it in wrong}:
-        source = folder / "crates" / Path(file).parent
-        if source.is_symlink():
-            source.unlink()
-            source.mkdir()
-            for path in (TOP / "crates" / Path(file).parent).iterdir():
-                (source / path.name).symlink_to(path)
-        text = (TOP / "crates" / file).read_text(encoding="utf-8")
-        for it in wrong:
-            text = it.applied(text) if it.file == file else text
-        (folder / "crates" / file).unlink()
-        (folder / "crates" / file).write_text(text, encoding="utf-8")
-    (folder / "HANDLES").write_text((TOP / "HANDLES").read_text())
-    (folder / "crates.txt").write_text((TOP / "crates.txt").read_text() + "fit_program: rpg_fit\n")
-    (folder / "crates/fit_program/src").mkdir(parents=True)
-    (folder / "crates/fit_program/src/main.rt").write_text((HERE / "fit_program.txt").read_text())
+def with_wrong_rules(text, rules):
+    """The text of a file with its wrong rules beside the right ones."""
+    for wrong in rules:
+        if text.count(wrong.old) != 1:
+            sys.exit(f"{wrong.rule} {wrong.text}: its text must stand once in {wrong.file}: {wrong.old}")
+    places = {wrong.old: wrong.both() for wrong in rules}
+    return re.sub("|".join(map(re.escape, places)), lambda it: places[it[0]], text)
 
 
-def answers(folder, inputs):
-    """What the program prints of each input, by its name."""
-    cases = folder / "cases"
-    cases.mkdir()
-    for name, text in inputs.items():
-        (cases / name).write_text(text, encoding="latin-1")
-    ran = subprocess.run(
-        ["rt", "try", "--steps", "1", "--cases", str(cases)], cwd=folder / "crates/fit_program", capture_output=True, encoding="latin-1", check=False
-    )
-    found = re.split(r"^== (\S+)\n", ran.stdout, flags=re.M)
-    if len(found) < 3:
-        sys.exit(f"rt try:\n{ran.stdout}{ran.stderr}")
-    return dict(zip(found[1::2], found[2::2]))
+def edit(crates, rules):
+    for name in {it.file for it in rules}:
+        file = crates / name
+        file.write_text(with_wrong_rules(file.read_text(encoding="utf-8"), [it for it in rules if it.file == name]), encoding="utf-8")
+    with open(crates / TEST_FILE, "a", encoding="utf-8") as file:
+        file.write(f"\n{TEST}")
+
+
+def asking(text):
+    """The text of the module in which the test of a number asks the environment."""
+    text, count = ASKED.subn(ASKS, text)
+    assert count == 1
+    return text.replace(b"\ndefine ", b"\n" + GLOBAL + b"define ", 1) + DECLARATIONS
+
+
+def build(folder, rules):
+    """Compiles rpg2 with all wrong rules, unless that is up to date, and returns the program, as old as the files it is made of."""
+    kit, program, kept, begun = unproved.Kit(), folder / "rpg2", folder / "parts", time.time()
+    if rpg2.is_up_to_date(program) and program.stat().st_mtime >= RULES.stat().st_mtime:
+        return program
+    kept.mkdir(parents=True, exist_ok=True)
+    with tempfile.TemporaryDirectory(prefix="wrong-rules-") as name:
+        room = unproved.room_of(Path(name), False)
+        edit(room / "crates", rules)
+        text = asking(kit.text_of(kit.lowered(room, Path(name))))
+        objects, _ = unproved.compiled(kit, module_text.Module(text).parts(False, {}), kept, 0)
+        kit.link(objects, program)
+    os.utime(program, (begun, begun))
+    return program
 
 
 # ---- what sees a wrong rule
 
 
-def differs(seed, feature, printed):
-    """How what rpg2 makes of a new deck differs from what the old deck means, if it does."""
-    job = old_deck_sources.made(seed, {feature})
-    if "--- new\n" not in printed:
-        return None
-    with tempfile.TemporaryDirectory() as name:
-        room = fit.Room(fit.RPG2, name, job)
-        (room.folder / "new").write_text(printed.partition("--- new\n")[2], encoding="latin-1")
-        deck, wanted = fit.course_of(job)
-        told = re.sub(r"^(\d+): (A\d+): (.*)$", r"deck:\1:1: note: \3 [\2]", printed, flags=re.M)
-        try:
-            fit.check_run(room, deck, wanted, room.go(told), told)
-        except fit.Differs as how:
-            return str(how)
+def failing(program, cases):
+    """The first case that fails."""
+    return next((path.stem for path in cases if any(not it.has_passed for it in fits.show(Program(program, "rpg2"), path))), None)
+
+
+def differing(program, feature, count):
+    """The first deck by chance that differs, and how."""
+    for seed in range(1, count + 1):
+        with tempfile.TemporaryDirectory() as folder:
+            try:
+                fit.compared_in(fit.Room(program, folder, old_deck_sources.made(seed, {feature})))
+            except fit.Differs as how:
+                return f"old deck {seed} with {feature}: {str(how).splitlines()[0]}"
     return None
 
 
-def is_other(path, printed):
-    """Whether another answer than the right one came to a case."""
-    return printed.get(path.stem, "").rstrip("\n") != case_answer(path).rstrip("\n")
-
-
-def seen_by(wrong, printed, decks):
-    """The case or the deck that sees a wrong rule, and how."""
-    for path in sorted(CASES.glob("*.deck")):
-        if path.stem in printed and is_of_rule(path, wrong.rule) and is_other(path, printed):
-            return f"case {path.stem}"
-    for seed in range(1, decks + 1):
-        if how := differs(seed, wrong.feature, printed.get(f"{wrong.feature}-{seed}", "")):
-            return f"old deck {seed} with {wrong.feature}: {how.splitlines()[0]}"
-    return None
-
-
-def inputs_for(wrong, decks):
-    """All cases, and decks by chance with the features of the wrong rules."""
-    inputs = {path.stem: case_input(path) for path in CASES.glob("*.deck")}
-    for feature in {it.feature for it in wrong}:
-        for seed in range(1, decks + 1):
-            job = old_deck_sources.made(seed, {feature})
-            inputs[f"{feature}-{seed}"] = program_input(job.deck, job.table or [], job.switches, job.printer)
-    return inputs
-
-
-def tried(wrong, decks):
-    """What the program with some wrong rules prints of each input."""
-    with tempfile.TemporaryDirectory(prefix="wrong-rules-") as name:
-        folder = Path(name, "room")
-        build_room(folder, wrong)
-        return answers(folder, inputs_for(wrong, decks))
+def seen_by(program, wrong, decks):
+    """The case or the deck that sees a wrong rule."""
+    own = [path for path in CASES if path.stem.startswith(f"{wrong.rule}-")]
+    if case := failing(program, own):
+        return f"case {case}"
+    if deck := differing(program, wrong.feature, decks):
+        return deck
+    case = failing(program, [path for path in CASES if path not in own])
+    return case and f"case {case}"
 
 
 def main():
     words = argparse.ArgumentParser(usage=__doc__)
     words.add_argument("--decks", type=int, default=20)
-    words.add_argument("--right", action="store_true")
+    words.add_argument("--keep", type=Path)
     words.add_argument("words", nargs="*")
-    words = words.parse_args()
-    every = list(wrong_rules((HERE / "fit_wrong_rules.txt").read_text(encoding="utf-8")))
-    every = [it for it in every if not words.words or any(word in f"{it.rule} {it.feature}: {it.text}" for word in words.words)]
-    seen = 0
-    if words.right:
-        printed = tried([], 0)
-        for path in sorted(CASES.glob("*.deck")):
-            if is_other(path, printed):
-                print(f"case {path.stem} sees the rules as they are")
-    for wrong_of_round in rounds(every):
-        printed = tried(wrong_of_round, words.decks)
-        for wrong in wrong_of_round:
-            by = seen_by(wrong, printed, words.decks)
+    given = words.parse_args()
+    os.chdir(TOP)
+    every = list(wrong_rules(RULES.read_text(encoding="utf-8")))
+    chosen = [it for it in every if not given.words or any(word in f"{it.rule} {it.feature}: {it.text}" for word in given.words)]
+    with tempfile.TemporaryDirectory() as name:
+        program = build(given.keep.absolute() if given.keep else Path(name), every)
+        os.environ.pop("WRONG_RULE", None)
+        if case := failing(program, CASES):
+            sys.exit(f"case {case} fails with the right rules")
+        seen = 0
+        for wrong in chosen:
+            os.environ["WRONG_RULE"] = str(wrong.number)
+            by = seen_by(program, wrong, given.decks)
             seen += by is not None
             print(f"{wrong.rule} {wrong.text}: {f'seen by {by}' if by else 'NOT SEEN'}", flush=True)
-    print(f"{seen} seen, {len(every) - seen} not")
-    sys.exit(seen != len(every))
+    print(f"{seen} seen, {len(chosen) - seen} not")
+    sys.exit(seen != len(chosen))
 
 
 if __name__ == "__main__":

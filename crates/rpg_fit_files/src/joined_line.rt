@@ -4,8 +4,9 @@ use crate::other_printer::is_page;
 use crate::updated::{Both, Updated};
 use rpg_fit_deck::{Editor, Seen, Sentence, Word};
 use rpg_fit_words::{
-    Cards, Conjunction, Done, FreeIndicators, Indicator, Line, List, NewCard, Place, Printer,
-    RuleStop, calculation, insert_at, operand_on, push_conditioned, push_conditions, put_cards,
+    Cards, Conjunction, Done, FreeIndicators, Indicator, Line, List, NewCard, Outcome, Place,
+    Printer, RuleStop, calculation, insert_at, operand_on, push_conditioned, push_conditions,
+    put_cards,
 };
 
 /// Rejects lines that one line can't stand for. `both`: two that may be for one record.
@@ -137,21 +138,27 @@ impl Joined {
         }
     }
 
+    /// Returns the one line, derived from the card with a number.
+    fn cards(&self, updated: &Updated, number: usize) -> Outcome<Cards> {
+        let alloc = updated.deck.view.alloc;
+        let mut conditions = List::new(alloc);
+        for indicator in updated.types.indicators.as_slice() {
+            conditions.push(Conjunction::on(*indicator));
+        }
+        let mut cards = List::new(alloc);
+        push_conditions(&mut cards, updated.new_line(number), conditions.checked()?)?;
+        updated.record.push_fields(&mut cards, number);
+        cards.append(&self.fields);
+        Ok(cards)
+    }
+
     /// Replaces the lines by one, and reports that.
     fn put(&self, editor: &mut Editor, updated: &Updated, lines: &[&Line]) -> Done {
         let Some(first) = lines.first() else {
             return Ok(());
         };
         let with = updated.file.number;
-        let mut conditions = List::new(editor.alloc());
-        for indicator in updated.types.indicators.as_slice() {
-            conditions.push(Conjunction::on(*indicator));
-        }
-        let mut cards = List::new(editor.alloc());
-        let head = updated.new_line(first.head.number);
-        push_conditions(&mut cards, head, conditions.checked()?)?;
-        updated.record.push_fields(&mut cards, first.head.number);
-        cards.append(&self.fields);
+        let cards = self.cards(updated, first.head.number)?;
         put_cards(editor, first.head.at, cards.checked()?, with)?;
         for line in lines {
             line.remove(editor, with);

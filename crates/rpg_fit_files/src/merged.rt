@@ -20,27 +20,33 @@ const LONGEST: usize = 9999;
 /// compiler to report.
 pub fn merged_files(editor: &mut Editor) -> Done {
     let view = editor.view()?;
-    let secondaries = secondary_files(&view);
-    let files = secondaries.checked()?;
-    let [first, second, ..] = files else {
+    let files = secondary_files(&view);
+    merge(editor, &view, files.checked()?)
+}
+
+fn merge(editor: &mut Editor, view: &View, files: &[Seen]) -> Done {
+    let ([first, second, ..], Some(length)) = (files, new_length(files)) else {
         return Ok(());
     };
-    let Some(length) = new_length(files) else {
-        return Ok(());
-    };
-    let types = record_types(&view)?;
-    check_files(files)?;
-    check_types(types.as_slice(), files)?;
     let number = second.number;
-    name_types(editor, types.as_slice(), number);
-    for kind in types.iter() {
-        if let Some(place) = place_of(files, kind.file.text()) {
-            move_codes(editor, &view, kind, letter(place), file_name(first), number)?;
-            move_fields(editor, kind, number);
-        }
-    }
+    check_files(files)?;
+    move_types(editor, view, files, file_name(first), number)?;
     editor.change(first.at, with_record_length(&first.card, length), number);
     remove_others(editor, first, files);
+    Ok(())
+}
+
+/// Moves the columns of the files' types, and puts the first file on them.
+fn move_types(editor: &mut Editor, view: &View, files: &[Seen], first: &[u8], with: usize) -> Done {
+    let types = record_types(view)?;
+    check_types(types.as_slice(), files)?;
+    name_types(editor, types.as_slice(), with);
+    for kind in types.iter() {
+        if let Some(place) = place_of(files, kind.file.text()) {
+            move_codes(editor, view, kind, letter(place), first, with)?;
+            move_fields(editor, kind, with);
+        }
+    }
     Ok(())
 }
 

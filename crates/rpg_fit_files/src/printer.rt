@@ -8,7 +8,10 @@ use rpg_fit_words::{Done, List, RuleStop, file_name, is_card};
 pub fn printers(editor: &mut Editor, wanted: Option<&[u8]>) -> Done {
     let view = editor.view()?;
     let files = files_printed(&view);
-    let files = files.checked()?;
+    keep_one(editor, files.checked()?, wanted)
+}
+
+fn keep_one(editor: &mut Editor, files: &[Seen], wanted: Option<&[u8]>) -> Done {
     for file in files {
         name_device(editor, file);
     }

@@ -7,9 +7,9 @@ use crate::updated_line::write_lines;
 use rpg_fit_deck::{Editor, Seen, View, Word};
 use rpg_fit_terms::address_after;
 use rpg_fit_words::{
-    Conjunction, DeckLines, Done, FileTypes, FreeIndicators, Indicator, IndicatorUse, Line, List,
-    NewCard, RuleStop, UseKind, file_card, file_name, files_read, indicator_uses, name_files,
-    name_types, put_cards, record_length, record_types,
+    Conjunction, DeckLines, DeckTypes, Done, FileTypes, FreeIndicators, Indicator, IndicatorUse,
+    Line, List, NewCard, Outcome, RuleStop, UseKind, file_card, file_name, files_read,
+    indicator_uses, name_files, name_types, put_cards, record_length, record_types,
 };
 
 /// LR, which ends the job.
@@ -86,16 +86,21 @@ fn check_file(view: &View, file: &Seen) -> Done {
     Ok(())
 }
 
+/// Puts the name of its file on each type's card.
+fn name_all_types(editor: &mut Editor, with: usize) -> Done {
+    let unnamed = record_types(&editor.view()?)?;
+    name_types(editor, unnamed.as_slice(), with);
+    Ok(())
+}
+
 /// Gives each type of a file its name, and an indicator if it has none.
 fn complete_types(editor: &mut Editor, free: &mut FreeIndicators, file: &Seen) -> Done {
-    let unnamed = record_types(&editor.view()?)?;
-    name_types(editor, unnamed.as_slice(), file.number);
-    let view = editor.view()?;
-    let types = record_types(&view)?;
-    for kind in types.iter() {
+    name_all_types(editor, file.number)?;
+    let deck = DeckTypes::of(editor)?;
+    for kind in deck.types.iter() {
         let head = &kind.head;
         if kind.is_of(file_name(file)) && Indicator::at(&head.card, 19).is_blank() {
-            let indicator = free.take(&view, head.number)?;
+            let indicator = free.take(&deck.view, head.number)?;
             let card = head.card.with(19, 20, indicator.word().text());
             editor.change(head.at, card, file.number);
         }
@@ -110,20 +115,23 @@ fn write_back(editor: &mut Editor, free: &mut FreeIndicators, file: &Seen) -> Do
     };
     check_file(&editor.view()?, file)?;
     complete_types(editor, free, file)?;
-    let deck = DeckLines::of(editor)?;
-    let updated = Updated {
-        file: *file,
-        new: fresh_file(&deck.view),
-        types: FileTypes::of(&deck.view, Word::of(file_name(file)))?,
-        record: RecordText::of(&deck.view, length, file.number)?,
-        deck,
-    };
-    updated.check_indicators()?;
-    updated.check_lines()?;
+    let updated = Updated::of(editor, file, length)?;
     updated.put_back(editor, free)
 }
 
 impl Updated {
+    /// Returns a file of a deck in its present form, with records of a length.
+    fn of(editor: &Editor, file: &Seen, length: usize) -> Outcome<Updated> {
+        let deck = DeckLines::of(editor)?;
+        Ok(Updated {
+            file: *file,
+            new: fresh_file(&deck.view),
+            types: FileTypes::of(&deck.view, Word::of(file_name(file)))?,
+            record: RecordText::of(&deck.view, length, file.number)?,
+            deck,
+        })
+    }
+
     pub fn name(&self) -> Word {
         self.types.file
     }
@@ -140,6 +148,8 @@ impl Updated {
 
     /// Writes the records of the file to the new one by its lines.
     fn put_back(&self, editor: &mut Editor, free: &mut FreeIndicators) -> Done {
+        self.check_indicators()?;
+        self.check_lines()?;
         let puts = self.puts();
         let puts = puts.checked()?;
         let both = self.both(puts);
