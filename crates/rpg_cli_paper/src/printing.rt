@@ -49,45 +49,34 @@ fn keep_files<R: Files>(
     Ok(refuse_replacing(rt, FileArgument::Pdf, request.output, false)?)
 }
 
-/// Returns the answer for a fault of the PDF.
-fn output_answer(reason: Reason) -> Answer {
-    Answer::File {
-        argument: FileArgument::Pdf,
-        fault: FileFault::Output(reason),
-    }
-}
-
 /// Returns the answer for a print that isn't put on sheets. Reports a fault of its own.
 fn early_answer<L: Listener>(
     alloc: Global,
     request: &Request,
     fault: PaperFault,
-    read: Option<Reason>,
-    written: Option<Reason>,
+    (read, written): (Reason, Reason),
     listener: &mut L,
 ) -> Answer {
-    let page = match fault {
-        PaperFault::Page { number, .. } => number,
-        PaperFault::Pages => PAGE_TOO_MANY,
+    let (argument, fault) = match fault {
         PaperFault::NoMemory => return Answer::NoMemory,
-        PaperFault::Size => return output_answer(Reason::TooLarge),
-        PaperFault::Write => return output_answer(written.unwrap_or(Reason::Other)),
-        PaperFault::Read => {
-            return Answer::File {
-                argument: FileArgument::Printed,
-                fault: FileFault::Input(read.unwrap_or(Reason::Other)),
+        PaperFault::Read => (FileArgument::Printed, FileFault::Input(read)),
+        PaperFault::Write => (FileArgument::Pdf, FileFault::Output(written)),
+        PaperFault::Size => (FileArgument::Pdf, FileFault::Output(Reason::TooLarge)),
+        PaperFault::Page { .. } | PaperFault::Pages => {
+            let file = file_of(request, FileArgument::Printed);
+            let told = print_diagnostic(alloc, file, request.paper, fault);
+            tell_made(listener, told);
+            let page = match fault {
+                PaperFault::Page { number, .. } => number,
+                _ => PAGE_TOO_MANY,
             };
+            return Answer::PageRefused { page };
         }
     };
-    let file = file_of(request, FileArgument::Printed);
-    tell_made(
-        listener,
-        print_diagnostic(alloc, file, request.paper, fault),
-    );
-    Answer::PageRefused { page }
+    Answer::File { argument, fault }
 }
 
-/// Writes the PDF of an open print, unless that would lose a file.
+/// Writes the PDF of an open print, and moves it to its place, unless that would lose a file.
 fn write_opened<R: Files + Input + Print + AllocGlobal, L: Listener>(
     rt: &R,
     request: &Request,
@@ -95,7 +84,7 @@ fn write_opened<R: Files + Input + Print + AllocGlobal, L: Listener>(
     output: Opened<R::File>,
     pending: &Option<Pending<'_>>,
     listener: &mut L,
-) -> Result<u32, CommandStop> {
+) -> Result<Answer, CommandStop> {
     keep_files(rt, request, &print)?;
     if let Some(new) = pending {
         new.report_taken(rt.alloc(), listener);
@@ -108,36 +97,19 @@ fn write_opened<R: Files + Input + Print + AllocGlobal, L: Listener>(
     let (from, to) = (records(rt, print), lines(rt, output, None));
     let mut press = Press::new(rt.alloc(), settings, from, to);
     match press.print() {
-        Ok(pages) => Ok(pages),
+        Ok(pages) => {
+            if let Some(new) = pending {
+                named(FileArgument::Pdf, new.put_in_place(rt))?;
+            }
+            Ok(Answer::Paper { pages })
+        }
         Err(fault) => {
-            let (read, written) = (press.reader.device().fault(), press.writer.device().fault());
-            let answer = early_answer(rt.alloc(), request, fault, read, written, listener);
-            Err(answer.into())
+            let read = press.reader.device().fault().unwrap_or(Reason::Other);
+            let written = press.writer.device().fault().unwrap_or(Reason::Other);
+            let reasons = (read, written);
+            Err(early_answer(rt.alloc(), request, fault, reasons, listener).into())
         }
     }
-}
-
-/// Moves the PDF to its place once it is whole, or removes it.
-fn conclude<R: Files + AllocGlobal, L: Listener>(
-    rt: &R,
-    written: Result<u32, CommandStop>,
-    pending: &Option<Pending<'_>>,
-    listener: &mut L,
-) -> Result<u32, CommandStop> {
-    let Some(new) = pending else {
-        return written;
-    };
-    let concluded = match written {
-        Ok(pages) => match named(FileArgument::Pdf, new.put_in_place(rt)) {
-            Ok(()) => Ok(pages),
-            Err(answer) => Err(answer.into()),
-        },
-        Err(stop) => Err(stop),
-    };
-    if concluded.is_err() {
-        new.discard(rt, listener);
-    }
-    concluded
 }
 
 /// Puts each page of a print on a sheet, as a PDF.
@@ -151,7 +123,9 @@ pub fn paper_file<R: Files + Input + Print + AllocGlobal, L: Listener>(
     let print = opened_print(rt, request)?;
     let place = request.file(FileArgument::Pdf);
     let KeptFile { opened, pending } = named(FileArgument::Pdf, kept_file(rt, place, listener))?;
-    let written = write_opened(rt, request, print, opened, &pending, listener);
-    let pages = conclude(rt, written, &pending, listener)?;
-    Ok(Answer::Paper { pages })
+    let answer = write_opened(rt, request, print, opened, &pending, listener);
+    if let (Err(_), Some(new)) = (&answer, &pending) {
+        new.discard(rt, listener);
+    }
+    answer
 }

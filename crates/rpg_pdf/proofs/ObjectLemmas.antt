@@ -1,5 +1,5 @@
 -- Where the objects of a PDF begin.
-use Rattle.std.proofs.Common.{◌≡◌, ℕ, zero, suc, ◌+◌, ◌*◌, ◌<◌, List, [], ◌∷◌, ◌++◌, length, drop, refl, sym, ap, ◌∙◌, subst, arith, append_assoc, length-append, codes, decimal}
+use Rattle.std.proofs.Common.{◌≡◌, ℕ, zero, suc, ◌+◌, ◌<◌, List, [], ◌∷◌, ◌++◌, length, drop, refl, sym, ap, ◌∙◌, subst, arith, append_assoc, length-append, codes, decimal}
 use Rattle.std.specs.List.{concat, slice_index_or}
 use Rattle.std.specs.Prelude.{slice_index}
 use Rattle.std.proofs.Math.Seq.{drop-append_seam}
@@ -20,24 +20,18 @@ catalog_begins = let rest : List ℕ = codes "<</Type/Catalog/Pages 2 0 R>>\nend
 
 font_begins : Begins font (object_mark 3)
 unfolding font filled
-font_begins =
-    let rest : List ℕ = codes "<</Type/Font/Subtype/Type1/BaseFont/Courier/Encoding/WinAnsiEncoding>>\nendobj\n" in
-    (rest, sym (append_assoc (decimal 3) (codes " 0 obj\n") rest))
+font_begins = let rest : List ℕ = codes "<</Type/Font/Subtype/Type1/BaseFont/Courier/Encoding/WinAnsiEncoding>>\nendobj\n" in (rest, sym (append_assoc (decimal 3) (codes " 0 obj\n") rest))
 
 page_begins : (i : ℕ) → Begins (page_object i) (object_mark (page_number i))
 unfolding page_object filled
-page_begins i =
-    let rest : List ℕ = filled (codes "<</Type/Page/Parent 2 0 R/Contents # 0 R>>\nendobj\n") ((page_number i + 1) ∷ []) in
-    (rest, sym (append_assoc (decimal (page_number i)) (codes " 0 obj\n") rest))
+page_begins i = let rest : List ℕ = filled (codes "<</Type/Page/Parent 2 0 R/Contents # 0 R>>\nendobj\n") ((page_number i + 1) ∷ []) in (rest, sym (append_assoc (decimal (page_number i)) (codes " 0 obj\n") rest))
 
 regrouped : (number mark head text end : List ℕ) → number ++ (mark ++ head) ++ text ++ end ≡ number ++ mark ++ (head ++ text ++ end)
 regrouped number mark head text end = simp append_assoc
 
 contents_begin : (i : ℕ) (text : List ℕ) → Begins (contents_object i text) (object_mark (page_number i + 1))
 unfolding contents_object filled
-contents_begin i text =
-    let head : List ℕ = filled (codes "<</Length #>>\nstream\n") (length text ∷ []) in
-    (head ++ text ++ codes "endstream\nendobj\n", regrouped (decimal (page_number i + 1)) (codes " 0 obj\n") head text (codes "endstream\nendobj\n"))
+contents_begin i text = let head : List ℕ = filled (codes "<</Length #>>\nstream\n") (length text ∷ []) in (head ++ text ++ codes "endstream\nendobj\n", regrouped (decimal (page_number i + 1)) (codes " 0 obj\n") head text (codes "endstream\nendobj\n"))
 
 tree_begins : (s : Sheet) (n : ℕ) → Begins (tree s n) (object_mark 2)
 unfolding tree filled

@@ -1,14 +1,15 @@
 -- Strikes and lines, one after another.
-use Rattle.std.proofs.Common.{◌≡◌, ◌==◌, ◌+◌, ◌/◌, ◌≤◌, ℕ, true, List, [], ◌∷◌, ◌++◌, length, refl, sym, ap, ap₂, ◌∙◌, append_assoc, codes, Option, None, Some}
+use Rattle.std.proofs.Common.{◌≡◌, ◌==◌, ◌+◌, ◌/◌, ◌≤◌, ℕ, true, List, [], ◌∷◌, ◌++◌, length, sym, ap, ap₂, ◌∙◌, append_assoc, codes, Option, None, Some}
 use Rattle.std.proofs.lemmas.Bool.{cond-false, cond-true, le-ltb}
 use Rattle.std.proofs.lemmas.List.Splits.{length-slice_split}
 use Rattle.std.specs.List.{count_by}
 use Rattle.std.specs.Prelude.{min, nat_lt}
+use Rattle.rpg_pdf.proofs.MadeLemmas.{joined_three}
 use Rattle.rpg_pdf.proofs.TextLemmas.{put_more}
 use Rattle.rpg_pdf.specs.Contents.{all_lines_fault, background, bars_text, contents, first_of, lines_fault, lines_text, most_page_bytes, page_fault, strike_fault, strike_text, strikes_fault, strikes_text}
 use Rattle.rpg_pdf.specs.Pages.{lines, lines_in, printed, strikes}
 use Rattle.rpg_pdf.specs.Texts.{filled}
-use Rattle.rpg_pdf.specs.declared.fault.PageFault.{PageFault}
+use Rattle.rpg_pdf.specs.declared.state.PageFault.{PageFault}
 use Rattle.rpg_pdf.specs.declared.state.Sheet.{Sheet}
 
 -- ---- the next strike of a line
@@ -48,13 +49,9 @@ lines_counted text = sym (length-slice_split (λ b. b == 10) text)
 
 pub bars_shown : (s : Sheet) (bar : ℕ) (start first mid last : List ℕ) → s.settings.has_bars ≡ true → bar ≡ (s.settings.length + 5) / 6 → first ≡ start ++ codes "0.88 0.96 0.88 rg\n"
     → mid ≡ first ++ bars_text s bar → last ≡ mid ++ codes "0 g\n" → last ≡ start ++ background s
-bars_shown s bar start first mid last has n a b d =
-    let all : List ℕ = bars_text s ((s.settings.length + 5) / 6) in
+bars_shown s bar start first mid last has n a b d = let all : List ℕ = bars_text s ((s.settings.length + 5) / 6) in
     let grown : last ≡ start ++ codes "0.88 0.96 0.88 rg\n" ++ all ++ codes "0 g\n" = d ∙ ap (λ t. t ++ codes "0 g\n") (b ∙ ap₂ (λ t k. t ++ bars_text s k) a n) in
     grown ∙ joined_three start (codes "0.88 0.96 0.88 rg\n") all (codes "0 g\n") ∙ ap (λ t. start ++ t) (sym (cond-true s.settings.has_bars _ _ has))
-  where
-    joined_three : (p q r t : List ℕ) → p ++ q ++ r ++ t ≡ p ++ (q ++ r ++ t)
-    joined_three p q r t = ap (λ l. l ++ t) (append_assoc p q r) ∙ append_assoc p (q ++ r) t
 
 pub page_shown : (s : Sheet) (page text start a b d last : List ℕ) → length page ≤ most_page_bytes → text ≡ printed page → length (lines_in text) ≤ s.settings.length → lines_fault s 0 (lines_in text) ≡ None
     → a ≡ start ++ background s → b ≡ a ++ filled (codes "BT /F $ Tf\n") (s.font ∷ []) → d ≡ b ++ lines_text s 0 (lines_in text) → last ≡ d ++ codes "ET\n"

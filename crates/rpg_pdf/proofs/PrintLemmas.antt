@@ -1,5 +1,5 @@
 -- What is made and written of a print.
-use Rattle.std.proofs.Common.{◌≡◌, ◌==◌, if◌then◌else◌, ◌+◌, ◌*◌, ◌<◌, ◌≤◌, ℕ, zero, suc, true, false, List, [], ◌∷◌, ◌++◌, length, take, drop, refl, sym, ap, ap₂, ◌∙◌, subst, arith, append_assoc, append-nil, length-append, Option, None, Some, Ok, Err, Vec, Global, Bool, ◌≢◌}
+use Rattle.std.proofs.Common.{◌≡◌, ◌==◌, if◌then◌else◌, ◌+◌, ◌<◌, ◌≤◌, ℕ, suc, true, false, List, [], ◌∷◌, ◌++◌, length, take, drop, refl, sym, ap, ap₂, ◌∙◌, subst, arith, append_assoc, append-nil, length-append, Option, None, Some, Ok, Err, Vec, Global, Bool, ◌≢◌}
 use Rattle.std.proofs.KnownBytes.{Appends-kept, Appends-nil, Appends-trans}
 use Rattle.std.proofs.lemmas.Bool.Decides.{nat_tests}
 use Rattle.std.proofs.lemmas.Bool.{cond-false, cond-true, le-ltb, lt-ltb}
@@ -15,15 +15,15 @@ use Rattle.std.specs.Prelude.{nat_lt, IfErr, IfOk, IfSome, IsErrAnd, MatchResult
 use Rattle.rpg_files.specs.Counting.{device_of}
 use Rattle.rpg_files.specs.Sending.{AppendsPrefix}
 use Rattle.rpg_files.specs.declared.counting.Counted.{Counted}
-use Rattle.rpg_pdf.specs.Contents.{all_lines_fault, contents, lines_fault, most_page_bytes, page_fault}
+use Rattle.rpg_pdf.specs.Contents.{contents, most_page_bytes, page_fault}
 use Rattle.rpg_pdf.specs.Made.{Adds, AddsPage, Begins, Ends, place_of}
 use Rattle.rpg_pdf.specs.Objects.{body, catalog, contents_object, ending, entry, entry_count, first_bytes, first_objects, font, front, offsets, page_object, page_objects, pdf, starts, tree}
-use Rattle.rpg_pdf.specs.Outcomes.{Failures, HasSent, IsFault, IsFresh, IsPaper, IsStopped, IsUnsent, Laid, Reaches, Reading, known_print, most_bytes, most_pages, page_or, pages_fault, written_by}
-use Rattle.rpg_pdf.specs.Pages.{lines, pages}
-use Rattle.rpg_pdf.specs.declared.fault.PageFault.{PageFault}
-use Rattle.rpg_pdf.specs.declared.fault.PageFault.TheVariants as page_faults
-use Rattle.rpg_pdf.specs.declared.fault.PaperFault.{PaperFault}
-use Rattle.rpg_pdf.specs.declared.fault.PaperFault.TheVariants as faults
+use Rattle.rpg_pdf.specs.Outcomes.{Failures, HasSent, IsFault, IsFresh, IsPaper, IsStopped, IsUnsent, Laid, Reaches, Reading, known_print, most_pages, page_or, pages_fault, written_by}
+use Rattle.rpg_pdf.specs.Pages.{pages}
+use Rattle.rpg_pdf.specs.declared.state.PageFault.{PageFault}
+use Rattle.rpg_pdf.specs.declared.state.PageFault.TheVariants as page_faults
+use Rattle.rpg_pdf.specs.declared.state.PaperFault.{PaperFault}
+use Rattle.rpg_pdf.specs.declared.state.PaperFault.TheVariants as faults
 use Rattle.rpg_pdf.specs.declared.state.Sheet.{Sheet}
 use Rattle.rpg_pdf.specs.declared.state.Made.{Made}
 use Rattle.rpg_pdf.specs.declared.state.Press.{Press}

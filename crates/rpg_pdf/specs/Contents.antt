@@ -5,8 +5,8 @@ use Rattle.rpg_text.specs.Texts.{all_blank, is_character}
 use Rattle.rpg_pdf.specs.Pages.{lines, strikes}
 use Rattle.rpg_pdf.specs.Sheets.{baseline, line_top, strike_left, width_of}
 use Rattle.rpg_pdf.specs.Texts.{filled}
-use Rattle.rpg_pdf.specs.declared.fault.PageFault.{PageFault}
-use Rattle.rpg_pdf.specs.declared.fault.PageFault.TheVariants as faults
+use Rattle.rpg_pdf.specs.declared.state.PageFault.{PageFault}
+use Rattle.rpg_pdf.specs.declared.state.PageFault.TheVariants as faults
 use Rattle.rpg_pdf.specs.declared.state.Sheet.{Sheet}
 
 -- ---- a strike

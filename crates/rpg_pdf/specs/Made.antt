@@ -3,7 +3,7 @@ use Rattle.std.specs.Prelude.{◌≡◌, ℕ, ◌+◌, List, [], ◌∷◌, ◌+
 use Rattle.std.specs.List.{concat, flat_map}
 use Rattle.rpg_pdf.specs.Contents.{contents, page_fault}
 use Rattle.rpg_pdf.specs.Objects.{catalog, contents_object, ending, entry, entry_count, first_bytes, font, page_object, starts, tree}
-use Rattle.rpg_pdf.specs.declared.fault.PageFault.{PageFault}
+use Rattle.rpg_pdf.specs.declared.state.PageFault.{PageFault}
 use Rattle.rpg_pdf.specs.declared.state.Sheet.{Sheet}
 use Rattle.rpg_pdf.specs.declared.state.Made.{Made}
 

@@ -8,9 +8,9 @@ use Rattle.rpg_pdf.specs.Contents.{page_fault}
 use Rattle.rpg_pdf.specs.Made.{place_of}
 use Rattle.rpg_pdf.specs.Objects.{entry, first_bytes, first_objects, front, pdf, starts}
 use Rattle.rpg_pdf.specs.Pages.{pages}
-use Rattle.rpg_pdf.specs.declared.fault.PageFault.{PageFault}
-use Rattle.rpg_pdf.specs.declared.fault.PaperFault.{PaperFault}
-use Rattle.rpg_pdf.specs.declared.fault.PaperFault.TheVariants as faults
+use Rattle.rpg_pdf.specs.declared.state.PageFault.{PageFault}
+use Rattle.rpg_pdf.specs.declared.state.PaperFault.{PaperFault}
+use Rattle.rpg_pdf.specs.declared.state.PaperFault.TheVariants as faults
 use Rattle.rpg_pdf.specs.declared.state.Sheet.{Sheet}
 use Rattle.rpg_pdf.specs.declared.state.Made.{Made}
 use Rattle.rpg_pdf.specs.declared.state.Press.{Press}

@@ -1,16 +1,9 @@
 //! Where lines and columns are on a sheet, in hundredths of a point.
 
-ghost use Rattle.std.specs.Prelude.{◌≡◌, ◌*◌, is_some, IfSome};
-ghost use Rattle.rpg_pdf.specs.Sheets.{HasSettings, baseline, can_print, line_top, sheet_of, sheet_with, strike_left, turned, width_of};
+ghost use Rattle.std.specs.Prelude.{◌≡◌, is_some, IfSome};
+ghost use Rattle.rpg_pdf.specs.Sheets.{HasSettings, baseline, can_print, line_top, sheet_of, sheet_with, turned, width_of};
 
 use crate::state::{PaperForm, Settings, Sheet};
-
-/// Multiplies.
-pub(crate) fn times(count: u32, size: u32) -> u64
-    ensures { result ≡ count * size }
-{
-    u64::from(count) * u64::from(size)
-}
 
 impl Settings {
     /// Returns the settings for pages of 1 to 112 lines, which is their length, and of 20 to 198 columns.
@@ -29,6 +22,13 @@ impl Settings {
         })
     }
 
+    /// Returns the width of the columns.
+    pub(crate) fn width(self, font: u32) -> u64
+        ensures { result ≡ width_of self.columns font }
+    {
+        u64::from(6 * self.columns) * u64::from(font) / 10
+    }
+
     /// Returns a sheet of this size, with its lines in the middle.
     fn sheet(self, width: u32, height: u32, margins: u32) -> Sheet
         ensures { result ≡ sheet_with self width height margins }
@@ -36,15 +36,14 @@ impl Settings {
         let lead = height.saturating_sub(margins) / self.length;
         let room = u64::from(width.saturating_sub(margins)) * 10 / u64::from(6 * self.columns);
         let font = room.min(u64::from(lead.min(1200))) as u32;
-        let across = times(6 * self.columns, font) / 10;
-        let along = times(self.length, lead);
+        let along = u64::from(self.length) * u64::from(lead);
         Sheet {
             settings: self,
             width,
             height,
             font,
             lead,
-            left: (u64::from(width).saturating_sub(across) / 2) as u32,
+            left: (u64::from(width).saturating_sub(self.width(font)) / 2) as u32,
             top: (u64::from(height).saturating_sub(along) / 2) as u32,
         }
     }
@@ -74,32 +73,18 @@ impl Sheet {
         }
     }
 
-    /// Returns where a strike begins.
-    pub fn strike_left(&self, strike: u32) -> u64
-        ensures { result ≡ strike_left self.now strike }
-    {
-        u64::from(self.left) + times(strike, self.font) / 40
-    }
-
     /// Returns the upper edge of a line, from 0.
     pub fn line_top(&self, line: u32) -> u64
         ensures { result ≡ line_top self.now line }
     {
-        u64::from(self.height.saturating_sub(self.top)).saturating_sub(times(line, self.lead))
+        let above = u64::from(self.height.saturating_sub(self.top));
+        above.saturating_sub(u64::from(line) * u64::from(self.lead))
     }
 
-    /// Returns the baseline of a line.
     pub fn baseline(&self, line: u32) -> u64
         ensures { result ≡ baseline self.now line }
     {
         let middle = (u64::from(self.lead) + u64::from(self.font)) / 2;
         self.line_top(line).saturating_sub(middle) + u64::from(self.font / 5)
-    }
-
-    /// Returns the width of its columns.
-    pub fn columns_width(&self) -> u64
-        ensures { result ≡ width_of self.now.settings.columns self.now.font }
-    {
-        times(6 * self.settings.columns, self.font) / 10
     }
 }

@@ -3,7 +3,6 @@
 
 ghost use Rattle.rpg_pdf.specs.Objects.{EntriesAreOffsets};
 
-mod fault;
 mod geometry;
 mod objects;
 mod page;
@@ -11,8 +10,7 @@ mod press;
 mod state;
 mod text;
 
-pub use fault::{PageFault, PaperFault};
-pub use state::{PaperForm, Press, Settings};
+pub use state::{PageFault, PaperFault, PaperForm, Press, Settings};
 
 /// A law about the definitions: each entry of the cross reference table is the offset at which its object begins. Does nothing.
 pub fn entries_are_offsets()

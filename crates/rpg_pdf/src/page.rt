@@ -1,19 +1,14 @@
 //! What a sheet shows: the lines of a page as the operators of a PDF.
 
-ghost use Rattle.std.specs.Prelude.{◌≡◌, ◌+◌, ◌==◌, ◌<◌, ◌≤◌, ◌++◌, ◌∷◌, count_by, length, not, position, IfSome, OnOk};
+ghost use Rattle.std.specs.Prelude.{◌≡◌, ◌==◌, ◌<◌, ◌≤◌, ◌++◌, ◌∷◌, length, not, position, IfSome, OnOk};
 ghost use Rattle.std.specs.List.{slice_split};
 ghost use Rattle.rpg_text.specs.Texts.{is_character};
-ghost use Rattle.rpg_pdf.specs.Contents.{Shows, background, bars_text, contents, escaped, escaped_byte, lines_fault, lines_text, page_fault, strike_fault, strike_text, strikes_fault, strikes_text};
+ghost use Rattle.rpg_pdf.specs.Contents.{Shows, background, contents, escaped, lines_fault, lines_text, page_fault, strike_fault, strike_text, strikes_fault, strikes_text};
 ghost use Rattle.rpg_pdf.specs.Pages.{lines_in, parts_in, printed, strikes};
 
-use crate::fault::PageFault;
-use crate::geometry::times;
-use crate::state::Sheet;
+use crate::state::{PageFault, Sheet};
 use crate::text::{Put, fill};
 use rpg_text::{is_blank, is_character};
-
-/// The most bytes of a page.
-pub(crate) const MOST_PAGE_BYTES: usize = 1_048_576;
 
 /// Appends the bars, if they are asked for.
 fn put_bars(sheet: &Sheet, out: &mut Vec<u8>) -> Put<()>
@@ -23,16 +18,12 @@ fn put_bars(sheet: &Sheet, out: &mut Vec<u8>) -> Put<()>
         return Ok(());
     }
     out.extend_from_slice(b"0.88 0.96 0.88 rg\n")?;
+    let (left, width) = (u64::from(sheet.left), sheet.settings.width(sheet.font));
     for bar in 0..(sheet.settings.length + 5) / 6 {
         let covered = sheet.settings.length.saturating_sub(6 * bar).min(3);
         let lower = sheet.line_top(6 * bar + covered);
-        let place = [
-            u64::from(sheet.left),
-            lower,
-            sheet.columns_width(),
-            times(covered, sheet.lead),
-        ];
-        fill(out, b"$ $ $ $ re f\n", &place)?;
+        let height = u64::from(covered) * u64::from(sheet.lead);
+        fill(out, b"$ $ $ $ re f\n", &[left, lower, width, height])?;
     }
     out.extend_from_slice(b"0 g\n")?;
     Ok(())
@@ -56,27 +47,20 @@ fn cut(text: &[u8], end: u8) -> (&[u8], Option<&[u8]>)
     }
 }
 
-fn put_byte(out: &mut Vec<u8>, byte: u8) -> Put<()>
-    ensures { OnOk result (out.new.items ≡ out.old.items ++ escaped_byte byte) }
-{
-    match byte {
-        b'(' | b')' | b'\\' => out.extend_from_slice(&[b'\\', byte]),
-        _ => out.extend_from_slice(&[byte]),
-    }
-}
-
 /// Appends a text as it stands between parentheses.
 #[tactic(auto, using(crate::proofs::TextLemmas::escaped_more, crate::proofs::TextLemmas::escaped_all))]
 fn put_escaped(out: &mut Vec<u8>, text: &[u8]) -> Put<()>
     ensures { OnOk result (out.new.items ≡ out.old.items ++ escaped text.now) }
 {
     for byte in text {
-        put_byte(out, *byte)?;
+        match *byte {
+            b'(' | b')' | b'\\' => out.extend_from_slice(&[b'\\', *byte])?,
+            _ => out.push(*byte)?,
+        }
     }
     Ok(())
 }
 
-/// Returns the place of the first byte that is no character.
 fn bad_place(strike: &[u8]) -> Option<usize>
     ensures place { result ≡ position (λ b. not (is_character b)) strike.now }
     ensures within { IfSome result (λ i. i < length strike.now) }
@@ -112,8 +96,8 @@ fn put_strike(sheet: &Sheet, line: u32, number: u32, strike: &[u8], out: &mut Ve
     if is_blank(strike) {
         return Ok(());
     }
-    let place = [sheet.strike_left(number), sheet.baseline(line)];
-    fill(out, b"1 0 0 1 $ $ Tm (", &place)?;
+    let left = u64::from(sheet.left) + u64::from(number) * u64::from(sheet.font) / 40;
+    fill(out, b"1 0 0 1 $ $ Tm (", &[left, sheet.baseline(line)])?;
     put_escaped(out, strike)?;
     out.extend_from_slice(b") Tj\n")
 }
@@ -167,23 +151,14 @@ fn without_last_line_feeds(page: &[u8]) -> &[u8]
     &page[..end]
 }
 
-/// Returns how many lines a text has.
-#[tactic(auto, using(crate::proofs::PageLemmas::lines_counted))]
-fn line_count(text: &[u8]) -> usize
-    requires { length text.now ≤ 1048576 }
-    ensures { result ≡ length (lines_in text.now) }
-{
-    text.iter().filter(|byte| **byte == b'\n').count() + 1
-}
-
 /// Appends the contents of a sheet for a page, or returns why it doesn't fit.
-#[tactic(auto, unfolding(crate::specs::Contents::page_fault))]
+#[tactic(auto, using(crate::proofs::PageLemmas::lines_counted), unfolding(crate::specs::Contents::page_fault))]
 pub(crate) fn put_contents(sheet: &Sheet, page: &[u8], out: &mut Vec<u8>) -> Put<Option<PageFault>>
     requires { length page.now ≤ 1048576 }
     ensures { Shows (page_fault sheet.now page.now) (contents sheet.now page.now) out.old.items out.new.items result }
 {
     let text = without_last_line_feeds(page);
-    let count = line_count(text);
+    let count = text.iter().filter(|byte| **byte == b'\n').count() + 1;
     if count > sheet.settings.length as usize {
         return Ok(Some(PageFault::Lines { count }));
     }

@@ -6,9 +6,7 @@ ghost use Rattle.rpg_pdf.specs.Outcomes.{CanFail, EndsPage, Finishes, HasPrinted
 ghost use Rattle.rpg_pdf.specs.declared.state.Sheet.{Sheet};
 ghost use Rattle.rpg_pdf.specs.Sheets.{sheet_of};
 
-use crate::fault::{PageFault, PaperFault};
-use crate::page::MOST_PAGE_BYTES;
-use crate::state::{Made, Press, Settings, Sheet};
+use crate::state::{Made, PageFault, PaperFault, Press, Settings, Sheet};
 use rpg_files::{Counted, send};
 use std::alloc::{AllocError, Global};
 use std::io::{Read, Write};
@@ -19,7 +17,9 @@ const MOST_PAGES: u32 = 99_999;
 /// The most bytes of a PDF: a place has ten digits in the table of its objects.
 const MOST_BYTES: u64 = 9_999_999_999;
 
-/// The byte that ends a page.
+/// The most bytes of a page.
+const MOST_PAGE_BYTES: usize = 1_048_576;
+
 const FORM_FEED: u8 = 12;
 
 impl<R: Read, W: Write> Press<R, W> {
@@ -88,9 +88,8 @@ impl<R: Read, W: Write> Press<R, W> {
         ensures moved { OnOk result ((self.new.reader ≡ self.old.reader) × (self.new.page.items ≡ []) × (self.new.number ≡ self.old.number + 1)) }
         ensures failures { failures_of self.new ≡ failures_after (failures_of self.old) result }
     {
-        let made = self
-            .made
-            .add_page(&self.sheet, self.number, self.page.as_slice());
+        let page = self.page.as_slice();
+        let made = self.made.add_page(&self.sheet, self.number, page);
         if let Some(fault) = self.noted(made)? {
             let number = self.number + 1;
             return Err(PaperFault::Page { number, fault });

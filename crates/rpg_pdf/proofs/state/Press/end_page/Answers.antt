@@ -10,19 +10,19 @@ returns-in_err-fault-clause-reached g c = λ s before all later r.
 
 pub returns-in-Some-clause-reached : goal.returns-in-Some-clause-reached
 returns-in-Some-clause-reached g c = λ s before all later r.
-    let made = at_ok (AddsPage c.args.self.now.sheet c.args.self.now.number c.as_slice.result.now c.args.self.now.made c.add_page-made.new.self) c.add_page-made.result c.in_ok-fault.field-0 c.add_page-made.ensures c.in_ok-fault.ensures.made.0 in
-    page_stops g.W.Write.contents s before all later c.args.self.now.page.items c.as_slice.result.now c.args.self.now _ c.noted.new.self c.in-Some.fault c.in_ok-fault.field-0 r c.requires.few c.as_slice.ensures.value made.fault_is c.in-Some.is
+    let made = at_ok (AddsPage c.args.self.now.sheet c.args.self.now.number c.as_slice-page.result.now c.args.self.now.made c.add_page-made.new.self) c.add_page-made.result c.in_ok-fault.field-0 c.add_page-made.ensures c.in_ok-fault.ensures.made.0 in
+    page_stops g.W.Write.contents s before all later c.args.self.now.page.items c.as_slice-page.result.now c.args.self.now _ c.noted.new.self c.in-Some.fault c.in_ok-fault.field-0 r c.requires.few c.as_slice-page.ensures.value made.fault_is c.in-Some.is
     c.in_ok-fault.ensures.made.1 refl refl
 
 pub returns-in_err-send-clause-reached : goal.returns-in_err-send-clause-reached
 returns-in_err-send-clause-reached g c = λ s before all later r.
-    let made = at_ok (AddsPage c.args.self.now.sheet c.args.self.now.number c.as_slice.result.now c.args.self.now.made c.add_page-made.new.self) c.add_page-made.result c.in_ok-fault.field-0 c.add_page-made.ensures c.in_ok-fault.ensures.made.0 in
+    let made = at_ok (AddsPage c.args.self.now.sheet c.args.self.now.number c.as_slice-page.result.now c.args.self.now.made c.add_page-made.new.self) c.add_page-made.result c.in_ok-fault.field-0 c.add_page-made.ensures c.in_ok-fault.ensures.made.0 in
     passed_on _ _ c.from_residual-in_err-send.result c.in_err-send.field-0.0 c.from_residual-in_err-send.ensures.1
-    (page_unsent g.W.Write.contents s before all later c.args.self.now.page.items c.as_slice.result.now c.args.self.now _ c.noted.new.self c.send.new.self c.in_ok-fault.field-0 c.in_err-send.field-0.0 r c.as_slice.ensures.value made c.in_default.is
+    (page_unsent g.W.Write.contents s before all later c.args.self.now.page.items c.as_slice-page.result.now c.args.self.now _ c.noted.new.self c.send.new.self c.in_ok-fault.field-0 c.in_err-send.field-0.0 r c.as_slice-page.ensures.value made c.in_default.is
     c.in_ok-fault.ensures.made.1 refl c.in_err-send.ensures.sent)
 
 pub returns-clause-reached : goal.returns-clause-reached
 returns-clause-reached g c = λ s before all later r.
-    let made = at_ok (AddsPage c.args.self.now.sheet c.args.self.now.number c.as_slice.result.now c.args.self.now.made c.add_page-made.new.self) c.add_page-made.result c.in_ok-fault.field-0 c.add_page-made.ensures c.in_ok-fault.ensures.made.0 in
-    page_done g.W.Write.contents s before all later c.args.self.now.page.items c.as_slice.result.now c.args.self.now _ c.noted.new.self c.send.new.self _ c.in_ok-fault.field-0 r c.requires.few c.as_slice.ensures.value made c.in_default.is
+    let made = at_ok (AddsPage c.args.self.now.sheet c.args.self.now.number c.as_slice-page.result.now c.args.self.now.made c.add_page-made.new.self) c.add_page-made.result c.in_ok-fault.field-0 c.add_page-made.ensures c.in_ok-fault.ensures.made.0 in
+    page_done g.W.Write.contents s before all later c.args.self.now.page.items c.as_slice-page.result.now c.args.self.now _ c.noted.new.self c.send.new.self _ c.in_ok-fault.field-0 r c.requires.few c.as_slice-page.ensures.value made c.in_default.is
     c.in_ok-fault.ensures.made.1 refl refl refl c.in_ok-send.ensures.sent refl refl refl refl

@@ -1,5 +1,5 @@
 use Rattle.std.proofs.Common.{refl}
-use Rattle.rpg_pdf.proofs.PrintLemmas.{at_ok_any, if_known, known_kept, none_sent, passed_stop, stopped_first, unread}
+use Rattle.rpg_pdf.proofs.PrintLemmas.{at_ok_any, if_known, known_kept, passed_stop, stopped_first, unread}
 use Rattle.rpg_pdf.specs.Outcomes.{written_by}
 use Rattle.rpg_pdf.specs.Pages.{pages}
 use Rattle.rpg_pdf.proofs.state.Press.print.Goals as goal

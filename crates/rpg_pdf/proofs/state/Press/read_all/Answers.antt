@@ -1,8 +1,8 @@
-use Rattle.std.proofs.Common.{◌≡◌, ◌<◌, ◌++◌, ◌∷◌, ℕ, List, [], length, take, refl, sym, ap, ap₂, ◌∙◌, arith}
+use Rattle.std.proofs.Common.{◌≡◌, ◌<◌, ◌++◌, ℕ, List, [], length, take, refl, ap, ap₂, ◌∙◌, arith}
 use Rattle.rpg_files.specs.Counting.{device_of}
 use Rattle.rpg_pdf.proofs.PrintLemmas.{at_end, passed_on, read_on, reader_moved, same_reads, stopped}
 use Rattle.rpg_pdf.specs.Pages.{pages}
-use Rattle.rpg_pdf.specs.declared.fault.PaperFault.TheVariants as faults
+use Rattle.rpg_pdf.specs.declared.state.PaperFault.TheVariants as faults
 use Rattle.rpg_pdf.proofs.state.Press.read_all.Goals as goal
 
 pub reads-init : goal.reads-init

@@ -1,4 +1,4 @@
-use Rattle.std.proofs.Common.{◌≡◌, ◌+◌, ◌++◌, ◌∷◌, ◌∙◌, length, drop, get_or, arith, subst, ap}
+use Rattle.std.proofs.Common.{◌≡◌, ◌+◌, ◌++◌, ◌∷◌, ◌∙◌, drop, get_or, arith, subst}
 use Rattle.std.proofs.lemmas.List.{drop_all, drop_more}
 use Rattle.rpg_pdf.proofs.PrintLemmas.{passed_on}
 use Rattle.rpg_pdf.specs.Outcomes.{Reading}
