@@ -3,7 +3,7 @@
 
 usage: bench/records.py [RECORDS]        100,000 where it isn't given; RPG2 names the program
 
-It makes decks and records by chance: texts, zoned, packed and binary numbers of all sizes, two record types, the three framings, code page 037
+It makes decks and records by chance: texts, zoned, packed and binary numbers of all sizes, and arrays of such, two record types, the three framings, code page 037
 and ASCII. A converter of its own, over Python's cp037, says which lines and which new deck are wanted, and which records lines go back to. Lines
 with something that has no place must be refused, each for its reason. Decks with packed and binary output get their new decks, and their lines
 become records (written_records.py). All 256 bytes are held against the code page. Records of text are compared with `dd conv=ascii` and with `iconv`. Last, `rpg2 records` and
@@ -39,9 +39,13 @@ class Field:
     start: int
     end: int
     kind: str  # text, zoned, packed or binary
+    entries: int = 0  # of an array, and the digits of each
+    length: int = 0
 
     @property
     def digits(self):
+        if self.entries:
+            return self.entries * self.length
         size = self.end - self.start
         return {"packed": 2 * size - 1, "binary": {2: 4, 4: 9}.get(size, 0), "zoned": size, "text": 0}[self.kind]
 
@@ -56,6 +60,8 @@ class Layout:
     def deck(self, moved=False):
         width = max(self.width(code) for code in self.types) if moved else self.length
         cards = [card(c6="F", c7="MASTER", c15="IP", c19="F", c24=f"{width:4}", c40="DISK")]
+        arrays = [it for fields in self.types.values() for it in fields if it.entries]
+        cards += [card(c6="E", c27=it.name, c36=f"{it.entries:4}", c40=f"{it.length:3}", c44="0") for it in arrays]
         for number, (code, fields) in enumerate(self.types.items(), start=1):
             cards.append(card(c6="I", c7="MASTER", c15=code * 2, c19=f"{number:02}", c21=f"   1 C{code}"))
             end = self.length
@@ -64,7 +70,7 @@ class Layout:
                 first, last = (end + 1, end + field.digits) if moved and is_hidden else (field.start + 1, field.end)
                 end += field.digits if is_hidden else 0
                 form = {"packed": "P", "binary": "B"}.get(field.kind, " ") if not moved else " "
-                decimals = " " if field.kind == "text" else "0"
+                decimals = " " if field.kind == "text" or field.entries else "0"
                 cards.append(card(c6="I", c43=form, c44=f"{first:4}{last:4}", c52=decimals, c53=field.name))
         return "".join(cards)
 
@@ -80,12 +86,21 @@ def layout_by_chance():
         while at < length:
             kind = RANDOM.choice(["text", "zoned", "packed", "packed", "binary"])
             size = {"text": RANDOM.randint(1, 12), "zoned": RANDOM.randint(1, 9), "packed": RANDOM.randint(1, 8), "binary": RANDOM.choice([2, 4])}[kind]
+            name, entries, digits = f"F{len(fields)}", 0, 0
+            if kind in ("packed", "binary") and RANDOM.random() < 0.3:
+                name, entries, digits = f"{code}{len(fields)}", RANDOM.randint(1, 5), RANDOM.randint(1, 15 if kind == "packed" else 9)
+                size = entries * bytes_of(kind, digits)
             if at + size > length:
                 break
-            fields.append(Field(f"F{len(fields)}", at, at + size, kind))
+            fields.append(Field(name, at, at + size, kind, entries, digits))
             at += size
         types[code] = fields
     return Layout(length, types)
+
+
+def bytes_of(kind, digits):
+    """How many bytes an entry of an array has."""
+    return digits // 2 + 1 if kind == "packed" else 2 if digits <= 4 else 4
 
 
 def zoned(number, digits):
@@ -112,11 +127,20 @@ def field_by_chance(field, page):
     if field.kind == "text":
         text = "".join(RANDOM.choices(PLAIN, k=size))
         return encoded(text, page), text, "", encoded(text, page)
-    number = number_by_chance(field.digits)
+    if field.entries:
+        each = bytes_of(field.kind, field.length)
+        parts = [number_by_form(field.kind, each, field.length) for _ in range(field.entries)]
+        return tuple(type(of[0])().join(of) for of in zip(*parts))
     if field.kind == "zoned":
-        return zoned_by_chance(number, size, page)
-    digits = zoned(number, field.digits)
-    if field.kind == "packed":
+        return zoned_by_chance(number_by_chance(size), size, page)
+    return number_by_form(field.kind, size, field.digits)
+
+
+def number_by_form(kind, size, length):
+    """The same of a packed or binary number of so many bytes, which has no more digits than a line has of it."""
+    number = number_by_chance(length)
+    digits = zoned(number, length)
+    if kind == "packed":
         sign = RANDOM.choice("bd") if number < 0 else RANDOM.choice("acef")
         return packed(number, size, sign), " " * size, digits, packed(number, size, "d" if number < 0 else "f")
     written = number.to_bytes(size, "big", signed=True)
@@ -192,17 +216,18 @@ def damage_by_chance(layout, line):
     for it in numbers:
         places[it.name] = end
         end += it.digits
+    numbers = [it for it in numbers if not it.entries]
     line = list(line.ljust(end + 1))
     if not numbers:
         line[end] = "X"
-        return "".join(line), f'column {end + 1}: "X" stands where no digits go'
+        return "".join(line), f'column {end + 1}: "X" is where no digits go'
     field = RANDOM.choice(numbers)
     at = places[field.name]
     told = f"columns {at + 1} to {at + field.digits} (card "
     kind = RANDOM.choice(["blank", "letter", "character", "short", "after"])
     if kind == "after":
         line[end] = "X"
-        return "".join(line), f'column {end + 1}: "X" stands where no digits go'
+        return "".join(line), f'column {end + 1}: "X" is where no digits go'
     if kind == "character":
         line[RANDOM.randrange(field.start, field.end)] = "7"
         return "".join(line), f"columns {field.start + 1} to {field.end} (card "

@@ -91,10 +91,10 @@ outcome_is_seen f bytes (Err fault) = refl
 
 abbrev seen_text : List ℕ → NumberSeen → TextOrFault
 seen_text r s =
-    if nat_le s.last (length r) then seen_outcome s (slice_range r (s.first - 1) s.last) (digits_in s.form (slice_range r (s.first - 1) s.last)) else Err faults.NoType
+    if nat_le s.last (length r) then seen_outcome s (slice_range r (s.first - 1) s.last) (digits_in s.form (digits_seen s) (slice_range r (s.first - 1) s.last)) else Err faults.NoType
 
 text_is_seen : (r : List ℕ) (f : NumberField) → field_text r f ≡ seen_text r (number_seen f)
-text_is_seen r f = ap (λ (o : TextOrFault). if nat_le f.last (length r) then o else Err faults.NoType) (outcome_is_seen f (bytes_of_field f r) (digits_in f.form (bytes_of_field f r)))
+text_is_seen r f = ap (λ (o : TextOrFault). if nat_le f.last (length r) then o else Err faults.NoType) (outcome_is_seen f (bytes_of_field f r) (digits_in f.form (field_digits f) (bytes_of_field f r)))
 
 abbrev seen_digits : List ℕ → List NumberSeen → TextOrFault
 seen_digits r [] = Ok []

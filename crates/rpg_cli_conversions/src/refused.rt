@@ -74,14 +74,6 @@ fn write_array_fault(out: &mut TextWriter, fault: CardFault) {
                 columns.into(),
             ],
         ),
-        CardFault::EntryDigits {
-            name,
-            digits,
-            bytes,
-        } => out.fill(
-            "the array {} has entries of {} digits, fewer than their {} bytes have",
-            &[trimmed(&name).into(), digits.into(), bytes.into()],
-        ),
         fault => write_output_fault(out, fault),
     }
 }

@@ -153,6 +153,8 @@ struct FieldCard {
     last: u16,
     decimals: Option<u8>,
     form: Option<NumberForm>,
+    /// The most digits that it has, though its bytes may have more.
+    digits: u16,
 }
 
 impl FieldCard {
@@ -164,6 +166,7 @@ impl FieldCard {
             last: number_of(columns(&card.card, 48, 51)),
             decimals: decimals_of(columns(&card.card, 52, 52)),
             form: form_of(43, &card.card),
+            digits: u16::MAX,
         }
     }
 }
@@ -206,7 +209,10 @@ impl FieldType {
         }
         let size = usize::from(of.last.saturating_sub(of.first).saturating_add(1));
         let (start, width) = match of.form {
-            Some(form) => (self.digits, form.digit_count(size)),
+            Some(form) => (
+                self.digits,
+                form.digit_count(size).min(usize::from(of.digits)),
+            ),
             None => (usize::from(of.first).saturating_sub(1), size),
         };
         let kind = match (of.form, of.decimals) {
@@ -250,6 +256,7 @@ impl FieldType {
                 first,
                 last: first.saturating_add(size - 1),
                 decimals: decimals_of(columns(array, 44, 44)),
+                digits: number_of(columns(array, 40, 42)).max(1),
                 ..whole
             })?;
         }

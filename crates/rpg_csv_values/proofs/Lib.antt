@@ -1,2 +1,3 @@
 -- Lemmas about numbers.
 mod NumberLemmas
+mod ContentLemmas

@@ -1,5 +1,5 @@
 -- The columns that a cell fills.
-use Rattle.std.specs.Prelude.{ℕ, ◌-◌, ◌==◌, ◌||◌, nat_lt, ℤ, Bool, if◌then◌else◌, List, [], ◌++◌, length, replicate, Result, Ok, Err}
+use Rattle.std.specs.Prelude.{ℕ, ◌-◌, ◌==◌, ◌||◌, nat_lt, ℤ, if◌then◌else◌, List, [], ◌++◌, length, replicate, Result, Ok, Err}
 use Rattle.rpg_text.specs.Texts.{trimmed}
 use Rattle.rpg_decimal_words.specs.Zoned.{zoned_text}
 use Rattle.rpg_csv_values.specs.Numbers.{cell_number, without_blanks}

@@ -1,7 +1,7 @@
 //! The contents of cells, by the columns of a line.
 
-ghost use Rattle.std.specs.Prelude.{◌≡◌, ◌<◌, ◌^◌, ◌++◌, length, unsigned_abs, IfSome, OnOk};
-ghost use Rattle.rpg_csv_values.specs.Contents.{columns_number, minus_of, pointed, without_leading_zeros};
+ghost use Rattle.std.specs.Prelude.{◌≡◌, ◌<◌, ◌^◌, ◌++◌, length, unsigned_abs, IfOk, IfSome, OnOk, None, Some, if◌then◌else◌, option_map};
+ghost use Rattle.rpg_csv_values.specs.Contents.{ContentsAreReadBack, HasMade, column_content, columns_number, minus_of, number_content, pointed, without_leading_zeros};
 
 use crate::cell::CellKind;
 use rpg_decimal::{read_zoned, write_zoned};
@@ -56,6 +56,7 @@ pub(crate) fn add_number(
     out: &mut Vec<u8>,
 ) -> Result<(), AllocError>
     requires { unsigned_abs number < 10 ^ 15 }
+    ensures { OnOk result (out.new.items ≡ out.old.items ++ number_content decimals point number) }
 {
     let mut room = [b'0'; MOST_DIGITS];
     write_zoned(number.unsigned_abs() as i64, &mut room);
@@ -82,7 +83,9 @@ fn add_number_of(
     point: u8,
     columns: &[u8],
     out: &mut Vec<u8>,
-) -> Result<bool, AllocError> {
+) -> Result<bool, AllocError>
+    ensures { IfOk result (λ is_made. HasMade out.old.items out.new.items (option_map (number_content decimals point) (columns_number columns.now)) is_made) }
+{
     match columns_number(columns) {
         Some(number) => {
             add_number(number, decimals, point, out)?;
@@ -99,7 +102,9 @@ pub fn add_content_of(
     point: u8,
     columns: &[u8],
     out: &mut Vec<u8>,
-) -> Result<bool, AllocError> {
+) -> Result<bool, AllocError>
+    ensures { IfOk result (λ is_made. HasMade out.old.items out.new.items (column_content kind point columns.now) is_made) }
+{
     match kind {
         CellKind::Code | CellKind::Text => {
             out.extend_from_slice(trimmed(columns))?;
@@ -112,3 +117,8 @@ pub fn add_content_of(
         }
     }
 }
+
+/// A law of the definitions: the content of columns that a cell filled fills them again. Does nothing.
+pub fn contents_are_read_back()
+    ensures { ContentsAreReadBack }
+{}

@@ -7,6 +7,6 @@ mod number;
 mod printed;
 
 pub use cell::{CellFault, CellKind, write_cell};
-pub use column::add_content_of;
+pub use column::{add_content_of, contents_are_read_back};
 pub use number::{NumberFormat, without_blanks};
 pub use printed::{Printed, Printing};

@@ -4,6 +4,7 @@ ghost use Rattle.std.specs.Prelude.{◌≡◌, ◌≤◌, ◌<◌, ◌^◌, ◌+
 ghost use Rattle.rpg_csv_values.specs.Numbers.{after_point, before_point, cell_number, counted, digits_number, digits_with_point, has_minus, is_grouped, is_separator, number_size, parts_number, signed_size, whole_number, without_blanks, without_sign, without_zeros};
 
 use crate::cell::CellFault;
+use rpg_records::power_of_ten;
 use rpg_text::trimmed;
 
 /// How the numbers of cells are written.
@@ -155,35 +156,6 @@ fn digits_number(text: &[u8], group: Option<u8>) -> Option<u64>
         number = with_digit(number, *byte - b'0');
     }
     Some(number)
-}
-
-/// The powers of ten, lowest first.
-const POWERS_OF_TEN: [u64; 16] = [
-    1,
-    10,
-    100,
-    1_000,
-    10_000,
-    100_000,
-    1_000_000,
-    10_000_000,
-    100_000_000,
-    1_000_000_000,
-    10_000_000_000,
-    100_000_000_000,
-    1_000_000_000_000,
-    10_000_000_000_000,
-    100_000_000_000_000,
-    1_000_000_000_000_000,
-];
-
-/// Returns ten to a power.
-fn power_of_ten(exponent: u8) -> u64
-    requires { exponent ≤ 15 }
-    ensures value { result ≡ 10 ^ exponent }
-    ensures few { result ≤ 10 ^ 15 }
-{
-    POWERS_OF_TEN[usize::from(exponent)]
 }
 
 /// Returns a number in units of the last of a field's decimals, which has `before` digits before these.

@@ -12,7 +12,7 @@ use Rattle.rpg_sheet_specs.specs.declared.input.InputSpec.{InputSpec}
 use Rattle.rpg_sheet_specs.specs.declared.input.InputSpec.TheVariants as input
 use Rattle.rpg_sheet_specs.specs.declared.input.RecordCode.{RecordCode}
 use Rattle.rpg_text.specs.Texts.{all_blank, is_between}
-use Rattle.rpg_records.specs.Fields.{is_field_size}
+use Rattle.rpg_records.specs.Fields.{digit_count, is_field_size}
 use Rattle.rpg_records.specs.Seen.{NumberSeen}
 use Rattle.rpg_records.specs.declared.layout.Code.{Code}
 use Rattle.rpg_records.specs.declared.layout.NumberForm.{NumberForm}
@@ -125,7 +125,7 @@ with_columns_of t f = unless_fault (shared_fault t f) (record { card = t.card; c
 
 -- a packed or binary field, by its card's number
 abbrev pub number_on_card : ℕ → FieldColumns → NumberForm → NumberSeen
-number_on_card n f form = record { card = n; first = f.first; last = f.last; form = form }
+number_on_card n f form = record { card = n; first = f.first; last = f.last; form = form; digits = digit_count form (f.last - f.first + 1) }
 
 -- a type with a field's number, if it is packed or binary
 abbrev pub with_field_number : ℕ → FieldColumns → Option NumberForm → TypeRead → TypeRead

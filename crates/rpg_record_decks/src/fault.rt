@@ -40,12 +40,6 @@ pub enum CardFault {
         bytes: u16,
         columns: u16,
     },
-    /// The entries of a packed or binary array have fewer digits than their bytes.
-    EntryDigits {
-        name: [u8; 6],
-        digits: u16,
-        bytes: u16,
-    },
     /// The longest line would have more than 9,999 columns.
     Wide {
         columns: usize,

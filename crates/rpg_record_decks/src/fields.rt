@@ -94,5 +94,6 @@ pub(crate) fn number_field(
         first,
         last,
         form,
+        digits: form.digit_count(usize::from(last - first) + 1),
     })
 }

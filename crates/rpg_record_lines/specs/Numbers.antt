@@ -1,10 +1,9 @@
 -- The digits of a record's packed and binary fields, and the bytes of such digits.
 use Rattle.std.specs.Prelude.{◌≡◌, ℕ, false, ◌+◌, ◌-◌, ◌∷◌, min, nat_le, nat_lt, not, if◌then◌else◌, List, [], ◌++◌, drop, length, position, replicate, slice_index, slice_range, take, Option, Some, None, Result, Ok, Err}
 use Rattle.rpg_text.specs.Texts.{all_blank, is_blank}
-use Rattle.rpg_records.specs.Unpacked.{binary_text, bytes_of_binary_text, bytes_of_packed_text, packed_text}
+use Rattle.rpg_records.specs.Unpacked.{binary_text, bytes_of_binary_text, bytes_of_packed_text, packed_fault, packed_text}
 use Rattle.rpg_records.specs.declared.digits.NumberFault.{NumberFault}
 use Rattle.rpg_records.specs.declared.digits.NumberFault.TheVariants as numbers
-use Rattle.rpg_records.specs.Fields.{digit_count}
 use Rattle.rpg_records.specs.Sizes.{counted, field_digits, field_size}
 use Rattle.rpg_record_lines.specs.Outcomes.{TextOrFault, text_and_then, joined_texts, some_or}
 use Rattle.rpg_record_lines.specs.declared.fault.FieldBytes.{FieldBytes}
@@ -16,10 +15,10 @@ use Rattle.rpg_records.specs.declared.layout.NumberForm.TheVariants as forms
 
 -- ---- digits of bytes
 
--- the digits of bytes, or why they have none
-abbrev pub digits_in : NumberForm → List ℕ → Result (List ℕ) NumberFault
-digits_in forms.Packed bytes = some_or numbers.NotPacked (packed_text bytes)
-digits_in forms.Binary bytes = some_or numbers.TooLarge (binary_text (digit_count forms.Binary (length bytes)) bytes)
+-- the k digits of bytes, or why they have none
+abbrev pub digits_in : NumberForm → ℕ → List ℕ → Result (List ℕ) NumberFault
+digits_in forms.Packed k bytes = some_or (packed_fault bytes) (packed_text k bytes)
+digits_in forms.Binary k bytes = some_or numbers.TooLarge (binary_text k bytes)
 
 -- the first 15 bytes of a field, and how many it has
 abbrev pub field_bytes : List ℕ → FieldBytes
@@ -37,7 +36,7 @@ bytes_of_field f record_bytes = slice_range record_bytes (f.first - 1) f.last
 -- the digits of a record's field, which the record must have
 abbrev pub field_text : List ℕ → NumberField → TextOrFault
 field_text record_bytes f =
-    if nat_le f.last (length record_bytes) then field_outcome f (bytes_of_field f record_bytes) (digits_in f.form (bytes_of_field f record_bytes)) else Err faults.NoType
+    if nat_le f.last (length record_bytes) then field_outcome f (bytes_of_field f record_bytes) (digits_in f.form (field_digits f) (bytes_of_field f record_bytes)) else Err faults.NoType
 
 -- the digits of all fields, in order
 abbrev pub digits_of_fields : List ℕ → List NumberField → TextOrFault

@@ -16,8 +16,8 @@ use rpg_text::is_blank;
 fn write_digits(field: &NumberField, bytes: &[u8], digits: &mut [u8]) -> Result<(), NumberFault>
     requires bytes { length bytes.now ≡ field_size field.now }
     requires digits { length digits.old ≡ field_digits field.now }
-    ensures digits { OnOk result (digits_in field.now.form bytes.now ≡ Ok digits.new) }
-    ensures fault { IfErr result (λ fault. digits_in field.now.form bytes.now ≡ Err fault) }
+    ensures digits { OnOk result (digits_in field.now.form (field_digits field.now) bytes.now ≡ Ok digits.new) }
+    ensures fault { IfErr result (λ fault. digits_in field.now.form (field_digits field.now) bytes.now ≡ Err fault) }
 {
     match field.form {
         NumberForm::Packed => packed_to_zoned(bytes, digits),

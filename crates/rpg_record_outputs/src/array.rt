@@ -8,7 +8,7 @@ use crate::name::{Named, array_named, is_array, name_of, number_on};
 use rpg_record_decks::{
     CardFault, DeckCard, DeckFault, changed_card, columns, form_of, is_on_sheet, number_columns,
 };
-use rpg_records::NumberForm;
+use rpg_records::{Layout, NumberField, NumberForm};
 use rpg_sheet::Card;
 use rpg_text::{is_blank, trimmed};
 use std::alloc::{AllocError, Global};
@@ -31,13 +31,6 @@ fn entries_on(card: &Card, form: NumberForm, array: Named) -> Result<Entries, Ca
         return Err(CardFault::BinaryDigits);
     }
     let bytes = bytes_of(form, array.length);
-    if form.digit_count(usize::from(bytes)) != usize::from(array.length) {
-        return Err(CardFault::EntryDigits {
-            name,
-            digits: array.length,
-            bytes,
-        });
-    }
     let (first, last) = (number_on(card, 44, 47), number_on(card, 48, 51));
     let width = last.saturating_add(1).saturating_sub(first);
     if first == 0 || array.entries == 0 || width != bytes.saturating_mul(array.entries) {
@@ -151,4 +144,44 @@ pub(crate) fn entry_cards(alloc: Global, cards: &[DeckCard]) -> Result<Vec<DeckC
         add_card(alloc, &mut all, cards, card)?;
     }
     Ok(all)
+}
+
+/// Returns the number of an array's entry, which has the digits of the array, though its bytes may have more.
+fn entry_number(cards: &[DeckCard], number: NumberField) -> NumberField {
+    for card in cards {
+        if card.number == number.card
+            && let Some((_, array)) = array_read(cards, card)
+        {
+            let NumberField {
+                card,
+                first,
+                last,
+                form,
+                digits,
+            } = number;
+            let digits = usize::from(array.length).max(1).min(digits);
+            return NumberField {
+                card,
+                first,
+                last,
+                form,
+                digits,
+            };
+        }
+    }
+    number
+}
+
+/// Sets the digits of the numbers that are entries of arrays.
+fn set_digits(cards: &[DeckCard], numbers: &mut [NumberField]) {
+    for place in 0..numbers.len() {
+        numbers[place] = entry_number(cards, numbers[place]);
+    }
+}
+
+/// Sets the digits of the entries of packed and binary arrays.
+pub(crate) fn set_entry_digits(cards: &[DeckCard], layout: &mut Layout) {
+    for kind in layout.types.as_mut_slice() {
+        set_digits(cards, kind.numbers.as_mut_slice());
+    }
 }

@@ -6,7 +6,7 @@ ghost use Rattle.rpg_record_decks.specs.Layouts.{layout_by, layout_by_cards};
 ghost use Rattle.rpg_record_decks.specs.Outcomes.{IsDeckFaultOf};
 ghost use Rattle.rpg_record_outputs.specs.Arrays.{ReadsNoArray, reads_arrays};
 
-use crate::array::{entry_cards, reads_arrays};
+use crate::array::{entry_cards, reads_arrays, set_entry_digits};
 use crate::file::{disk_file, written_file};
 use crate::line::{Line, is_same, layout_of_lines, lines_of};
 use rpg_record_decks::{
@@ -216,7 +216,9 @@ fn read_layout(
         return layout_by_cards(alloc, arguments, cards);
     }
     let entries = entry_cards(alloc, cards)?;
-    layout_by_cards(alloc, arguments, entries.as_slice())
+    let mut layout = layout_by_cards(alloc, arguments, entries.as_slice())?;
+    set_entry_digits(cards, &mut layout);
+    Ok(layout)
 }
 
 /// Returns the layout of the records of the input file that the arguments name, or of the primary one, by its I cards.

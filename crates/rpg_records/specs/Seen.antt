@@ -1,7 +1,6 @@
 -- What a layout describes, independent of its lists' memory.
-use Rattle.std.specs.Prelude.{ℕ, ◌+◌, ◌-◌, max, List, [], ◌∷◌, map, sum_by}
+use Rattle.std.specs.Prelude.{ℕ, ◌+◌, max, List, [], ◌∷◌, map, sum_by}
 use Rattle.rpg_records.specs.declared.column.Column.{Column}
-use Rattle.rpg_records.specs.Fields.{digit_count}
 use Rattle.rpg_records.specs.Sizes.{counted}
 use Rattle.rpg_records.specs.declared.layout.Code.{Code}
 use Rattle.rpg_records.specs.declared.layout.Layout.{Layout}
@@ -9,12 +8,13 @@ use Rattle.rpg_records.specs.declared.layout.NumberField.{NumberField}
 use Rattle.rpg_records.specs.declared.layout.NumberForm.{NumberForm}
 use Rattle.rpg_records.specs.declared.layout.RecordType.{RecordType}
 
--- a packed or binary field: its card, its columns and how its bytes stand
+-- a packed or binary field: its card, its columns, how its bytes stand and how many digits it has
 pub record NumberSeen : Type 0 where
   pub card : ℕ
   pub first : ℕ
   pub last : ℕ
   pub form : NumberForm
+  pub digits : ℕ
 
 -- a record type: its card, its codes, the contents of each column, its packed and binary fields
 pub record TypeSeen : Type 0 where
@@ -31,7 +31,7 @@ pub record LayoutSeen : Type 0 where
 
 -- a field of numbers, as specs see it
 abbrev pub number_seen : NumberField → NumberSeen
-number_seen f = record { card = f.card; first = f.first; last = f.last; form = f.form }
+number_seen f = record { card = f.card; first = f.first; last = f.last; form = f.form; digits = f.digits }
 
 -- a record type, as specs see it
 abbrev pub type_seen : RecordType → TypeSeen
@@ -43,7 +43,7 @@ layout_seen layout = record { card = layout.card; length = layout.length; types 
 
 -- how many digits a field has
 abbrev pub digits_seen : NumberSeen → ℕ
-digits_seen f = digit_count f.form (f.last - f.first + 1)
+digits_seen f = f.digits
 
 -- the most digits that a line of one of these types takes
 abbrev pub most_seen : List TypeSeen → ℕ

@@ -1,6 +1,5 @@
 -- How many digits and columns records have as lines.
 use Rattle.std.specs.Prelude.{ℕ, ◌+◌, ◌-◌, ◌^◌, max, min, List, [], ◌∷◌, sum_by}
-use Rattle.rpg_records.specs.Fields.{digit_count}
 use Rattle.rpg_records.specs.declared.layout.Layout.{Layout}
 use Rattle.rpg_records.specs.declared.layout.NumberField.{NumberField}
 use Rattle.rpg_records.specs.declared.layout.RecordType.{RecordType}
@@ -15,7 +14,7 @@ field_size f = f.last - f.first + 1
 
 -- how many digits its number has
 abbrev pub field_digits : NumberField → ℕ
-field_digits f = digit_count f.form (field_size f)
+field_digits f = f.digits
 
 -- how many digits the fields of a type have
 abbrev pub digits_after : RecordType → ℕ

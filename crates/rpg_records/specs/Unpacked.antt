@@ -1,16 +1,26 @@
 -- Packed and binary numbers as zoned texts, and back.
-use Rattle.std.specs.Prelude.{ℕ, ◌-◌, ◌*◌, ◌^◌, nat_lt, unsigned_abs, if◌then◌else◌, List, length, Option, Some, None, option_map}
+use Rattle.std.specs.Prelude.{ℕ, ℤ, ◌^◌, nat_lt, unsigned_abs, if◌then◌else◌, List, Option, Some, None, option_and_then, option_map}
 use Rattle.rpg_decimal_words.specs.Zoned.{number_in, zoned_text}
 use Rattle.rpg_records.specs.Binary.{binary_bytes, binary_number}
-use Rattle.rpg_records.specs.Packed.{packed_bytes, packed_in}
+use Rattle.rpg_records.specs.Packed.{is_packed, packed_bytes, packed_in}
+use Rattle.rpg_records.specs.declared.digits.NumberFault.{NumberFault}
+use Rattle.rpg_records.specs.declared.digits.NumberFault.TheVariants as numbers
 
--- the digits of packed bytes, if they are a number
-abbrev pub packed_text : List ℕ → Option (List ℕ)
-packed_text bytes = option_map (zoned_text (2 * length bytes - 1)) (packed_in bytes)
+-- the k digits of a number, if it has no more
+abbrev pub number_text : ℕ → ℤ → Option (List ℕ)
+number_text k n = if nat_lt (unsigned_abs n) (10 ^ k) then Some (zoned_text k n) else None
+
+-- the k digits of packed bytes, if they are a number that has no more
+abbrev pub packed_text : ℕ → List ℕ → Option (List ℕ)
+packed_text k bytes = option_and_then (number_text k) (packed_in bytes)
+
+-- why packed bytes have no such digits
+abbrev pub packed_fault : List ℕ → NumberFault
+packed_fault bytes = if is_packed bytes then numbers.TooLarge else numbers.NotPacked
 
 -- the k digits of binary bytes, if they have no more
 abbrev pub binary_text : ℕ → List ℕ → Option (List ℕ)
-binary_text k bytes = if nat_lt (unsigned_abs (binary_number bytes)) (10 ^ k) then Some (zoned_text k (binary_number bytes)) else None
+binary_text k bytes = number_text k (binary_number bytes)
 
 -- the k packed bytes of digits, if they are a number
 abbrev pub bytes_of_packed_text : ℕ → List ℕ → Option (List ℕ)

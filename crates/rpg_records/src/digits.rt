@@ -4,7 +4,7 @@ ghost use Rattle.std.specs.Prelude.{◌≡◌, ◌-◌, ◌*◌, ◌^◌, ◌≤
 ghost use Rattle.rpg_decimal_words.specs.Zoned.{number_in};
 ghost use Rattle.rpg_records.specs.Binary.{binary_number};
 ghost use Rattle.rpg_records.specs.Packed.{packed_in};
-ghost use Rattle.rpg_records.specs.Unpacked.{binary_text, bytes_of_binary_text, bytes_of_packed_text, packed_text};
+ghost use Rattle.rpg_records.specs.Unpacked.{binary_text, bytes_of_binary_text, bytes_of_packed_text, number_text, packed_fault, packed_text};
 
 use crate::binary::{read_binary, write_binary};
 use crate::packed::{read_packed, write_packed};
@@ -21,30 +21,73 @@ pub enum NumberFault {
     TooLarge,
 }
 
-/// Writes the digits of a packed number.
+/// The powers of ten, lowest first.
+const POWERS_OF_TEN: [u64; 16] = [
+    1,
+    10,
+    100,
+    1_000,
+    10_000,
+    100_000,
+    1_000_000,
+    10_000_000,
+    100_000_000,
+    1_000_000_000,
+    10_000_000_000,
+    100_000_000_000,
+    1_000_000_000_000,
+    10_000_000_000_000,
+    100_000_000_000_000,
+    1_000_000_000_000_000,
+];
+
+/// Returns ten to a power.
+pub fn power_of_ten(exponent: u8) -> u64
+    requires { exponent ≤ 15 }
+    ensures value { result ≡ 10 ^ exponent }
+    ensures few { result ≤ 10 ^ 15 }
+{
+    POWERS_OF_TEN[usize::from(exponent)]
+}
+
+/// Writes a number, if it has no more digits than there is room for.
+fn write_number(n: i64, digits: &mut [u8]) -> Result<(), NumberFault>
+    requires low { 1 ≤ length digits.old }
+    requires high { length digits.old ≤ 15 }
+    ensures digits { OnOk result (number_text (length digits.old) n ≡ Some digits.new) }
+    ensures number { OnOk result (number_in digits.new ≡ Some n) }
+    ensures fault { OnErr result (number_text (length digits.old) n ≡ None) }
+    ensures reason { IfErr result (λ fault. fault ≡ NumberFault.TooLarge) }
+{
+    if n.unsigned_abs() >= power_of_ten(digits.len() as u8) {
+        return Err(NumberFault::TooLarge);
+    }
+    write_zoned(n, digits);
+    Ok(())
+}
+
+/// Writes the digits of a packed number. There may be fewer than its bytes have.
 pub fn packed_to_zoned(bytes: &[u8], digits: &mut [u8]) -> Result<(), NumberFault>
     requires low { 1 ≤ length bytes.now }
     requires high { length bytes.now ≤ 8 }
-    requires long { length digits.old ≡ 2 * length bytes.now - 1 }
-    ensures digits { OnOk result (packed_text bytes.now ≡ Some digits.new) }
+    requires some { 1 ≤ length digits.old }
+    requires few { length digits.old ≤ 15 }
+    ensures digits { OnOk result (packed_text (length digits.old) bytes.now ≡ Some digits.new) }
     ensures number { OnOk result (number_in digits.new ≡ packed_in bytes.now) }
-    ensures fault { OnErr result (packed_in bytes.now ≡ None) }
-    ensures reason { IfErr result (λ fault. fault ≡ NumberFault.NotPacked) }
+    ensures fault { OnErr result (packed_text (length digits.old) bytes.now ≡ None) }
+    ensures reason { IfErr result (λ fault. fault ≡ packed_fault bytes.now) }
 {
     match read_packed(bytes) {
-        Some(n) => {
-            write_zoned(n, digits);
-            Ok(())
-        }
+        Some(n) => write_number(n, digits),
         None => Err(NumberFault::NotPacked),
     }
 }
 
-/// Writes digits as a packed number.
+/// Writes digits as a packed number. There may be fewer than its bytes have.
 pub fn zoned_to_packed(digits: &[u8], bytes: &mut [u8]) -> Result<(), NumberFault>
-    requires low { 1 ≤ length bytes.old }
+    requires low { 1 ≤ length digits.now }
     requires high { length bytes.old ≤ 8 }
-    requires long { length digits.now ≡ 2 * length bytes.old - 1 }
+    requires room { length digits.now ≤ 2 * length bytes.old - 1 }
     ensures bytes { OnOk result (bytes_of_packed_text (length bytes.old) digits.now ≡ Some bytes.new) }
     ensures number { OnOk result (packed_in bytes.new ≡ number_in digits.now) }
     ensures fault { OnErr result (number_in digits.now ≡ None) }
@@ -58,24 +101,6 @@ pub fn zoned_to_packed(digits: &[u8], bytes: &mut [u8]) -> Result<(), NumberFaul
     }
 }
 
-fn power_of_ten(exponent: usize) -> u64
-    requires { exponent ≤ 9 }
-    ensures { result ≡ 10 ^ exponent }
-{
-    match exponent {
-        0 => 1,
-        1 => 10,
-        2 => 100,
-        3 => 1_000,
-        4 => 10_000,
-        5 => 100_000,
-        6 => 1_000_000,
-        7 => 10_000_000,
-        8 => 100_000_000,
-        _ => 1_000_000_000,
-    }
-}
-
 /// Writes the digits of a binary number.
 pub fn binary_to_zoned(bytes: &[u8], digits: &mut [u8]) -> Result<(), NumberFault>
     requires few { length bytes.now ≤ 4 }
@@ -86,12 +111,7 @@ pub fn binary_to_zoned(bytes: &[u8], digits: &mut [u8]) -> Result<(), NumberFaul
     ensures fault { OnErr result (binary_text (length digits.old) bytes.now ≡ None) }
     ensures reason { IfErr result (λ fault. fault ≡ NumberFault.TooLarge) }
 {
-    let n = read_binary(bytes);
-    if n.unsigned_abs() >= power_of_ten(digits.len()) {
-        return Err(NumberFault::TooLarge);
-    }
-    write_zoned(n, digits);
-    Ok(())
+    write_number(read_binary(bytes), digits)
 }
 
 /// Writes digits as a binary number.

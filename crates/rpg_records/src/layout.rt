@@ -57,9 +57,13 @@ pub struct NumberField {
     pub first: u16,
     pub last: u16,
     pub form: NumberForm,
+    /// How many digits its number has in a line: all that its bytes have, or fewer.
+    pub digits: usize,
     ghost from_one: { 1 ≤ first },
     ghost ordered: { first ≤ last },
     ghost size: { IsTrue (is_field_size form (last + 1 - first)) },
+    ghost some: { 1 ≤ digits },
+    ghost few: { digits ≤ digit_count form (last + 1 - first) },
 }
 
 impl NumberField {
@@ -80,7 +84,7 @@ impl NumberField {
         ensures low { 1 ≤ result }
         ensures high { result ≤ 15 }
     {
-        self.form.digit_count(self.size())
+        self.digits
     }
 }
 

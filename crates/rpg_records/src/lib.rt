@@ -13,7 +13,9 @@ mod translation;
 
 pub use binary::{read_binary, write_binary};
 pub use column::Column;
-pub use digits::{NumberFault, binary_to_zoned, packed_to_zoned, zoned_to_binary, zoned_to_packed};
+pub use digits::{
+    NumberFault, binary_to_zoned, packed_to_zoned, power_of_ten, zoned_to_binary, zoned_to_packed,
+};
 pub use laws::{code_page_is_one_to_one, packed_numbers_come_back};
 pub use layout::{Code, Layout, NumberField, NumberForm, RecordType};
 pub use packed::{read_packed, write_packed};

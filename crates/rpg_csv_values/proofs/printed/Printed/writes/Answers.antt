@@ -1,4 +1,4 @@
-use Rattle.std.proofs.Common.{◌≡◌, ℕ, ◌+◌, length, arith, refl, sym, to_z-of_z, ◌∙◌}
+use Rattle.std.proofs.Common.{◌≡◌, length, refl, sym, to_z-of_z, ◌∙◌}
 use Rattle.std.specs.Cmp.Lexicographic.{same_text}
 use Rattle.rpg_edit_marks.specs.Code.{code_marks, coded}
 use Rattle.rpg_csv_values.proofs.NumberLemmas.{written_text}
