@@ -3,15 +3,12 @@
 //! A message says what they hold, what that is in RPG II, what they may hold, and whether the text is in the wrong columns.
 #![tactic(auto)]
 
-mod card;
 mod features;
-mod operations;
-mod pattern;
+mod ranges;
 mod refused;
-mod sheets;
 mod shift;
 mod unread;
 
-pub use pattern::{begins_range, character_at, text_in};
+pub use ranges::{begins_range, character_at, text_in};
 pub use refused::{before_comma, capitalised, write_bad_columns, write_form_type};
 pub use unread::{has_card_number, pointed_at};

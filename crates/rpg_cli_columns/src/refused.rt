@@ -1,13 +1,64 @@
-//! Messages about columns that are rejected.
+//! Messages about columns that are rejected, and operations similar to a misspelt one.
 
-use crate::card::CardKind;
-use crate::operations::{add_near_operations, is_operation};
-use crate::pattern::{Range, WantedRange, character_at, range_of, text_in, write_columns};
+use crate::ranges::{CardKind, Range, WantedRange, character_at, range_of, text_in, write_columns};
 use crate::shift::{add_card_move, add_moves, is_readable};
 use crate::unread::{Unread, feature_at, has_number_after};
 use rpg_cli_diagnostics::Draft;
-use rpg_cli_text::TextWriter;
-use rpg_sheet::ColumnFault;
+use rpg_cli_text::{TextWriter, is_near};
+use rpg_sheet::{ColumnFault, Operation};
+use rpg_text::trimmed;
+
+/// Whether columns of a card are those of an operation.
+fn is_operation(line: &[u8], columns: ColumnFault) -> bool {
+    matches!((columns.column, columns.last), (28, 32))
+        && matches!(CardKind::of(line), CardKind::Calculation)
+}
+
+/// Returns the operations whose names are similar to a text; None for the second if there is one, and none if there are more than two.
+fn near_operations(text: &[u8]) -> (Option<Operation>, Option<Operation>) {
+    let mut meant = (None, None);
+    for operation in Operation::ALL {
+        if is_near(text, trimmed(operation.letters())) {
+            meant = match meant {
+                (None, _) => (Some(operation), None),
+                (first, None) => (first, Some(operation)),
+                _ => return (None, None),
+            };
+        }
+    }
+    meant
+}
+
+fn meant_by(sign: &[u8]) -> &'static str {
+    match sign {
+        b"*" => "MULT",
+        b"+" => "ADD",
+        b"-" => "SUB",
+        b"/" => "DIV",
+        b"=" => "Z-ADD (a number) or MOVE",
+        _ => "",
+    }
+}
+
+/// Adds which operation may be meant by rejected columns, or which two, if they have a misspelt operation or a sign.
+fn add_near_operations(draft: &mut Draft<'_>, line: &[u8], columns: ColumnFault) {
+    let text = text_in(line, columns);
+    if !is_operation(line, columns) || text.contains(&b' ') {
+        return;
+    }
+    let mut remark = draft.text();
+    match (near_operations(text), meant_by(text)) {
+        ((None, _), "") => return,
+        ((None, _), word) => remark.fill_one("is {} meant?", word),
+        ((Some(it), None), _) => remark.fill_one("is {} meant?", trimmed(it.letters())),
+        ((Some(first), Some(second)), _) => remark.fill_two(
+            "is {} or {} meant?",
+            trimmed(first.letters()),
+            trimmed(second.letters()),
+        ),
+    }
+    draft.remark(remark);
+}
 
 const FORM_TYPE: ColumnFault = ColumnFault { column: 6, last: 6 };
 
@@ -43,15 +94,10 @@ pub fn write_form_type(draft: &mut Draft<'_>, line: &[u8]) {
     if form.is_ascii_lowercase() {
         out.write_str(CAPITALS);
     }
-    if is_starred(line) {
+    if line.iter().copied().find(|byte| *byte != b' ') == Some(b'*') {
         out.write_str("; a comment has * in column 7");
     }
     add_card_move(draft, line);
-}
-
-/// Whether a card begins with an asterisk, as if it were a comment.
-fn is_starred(line: &[u8]) -> bool {
-    line.iter().copied().find(|byte| *byte != b' ') == Some(b'*')
 }
 
 const NUMBER_AFTER: &str =
@@ -104,7 +150,6 @@ pub fn capitalised(line: &[u8], columns: ColumnFault) -> Option<[u8; 80]> {
     if is_readable(&card) { Some(card) } else { None }
 }
 
-/// Returns a text up to its first comma.
 pub fn before_comma(text: &[u8]) -> &[u8] {
     match text.iter().position(|byte| *byte == b',') {
         Some(place) => text.get(..place).unwrap_or(text),
@@ -156,7 +201,6 @@ pub fn write_bad_columns(draft: &mut Draft<'_>, line: &[u8], columns: ColumnFaul
     }
 }
 
-/// Writes the columns and what they hold.
 fn write_columns_found(
     out: &mut TextWriter,
     line: &[u8],
@@ -168,26 +212,21 @@ fn write_columns_found(
         Some(range) => out.fill_one("{} (", range.name),
         None => out.write_str("column "),
     }
-    write_column_numbers(out, columns);
+    let ColumnFault { column, last } = columns;
+    let numbers = if column < last { "{}-{}" } else { "{}" };
+    out.fill_two(numbers, column, last);
     out.write_str(if range.is_some() {
         ") has \""
     } else {
         " has \""
     });
     match text {
-        Text::Other => write_columns(out, line, columns.column.into(), columns.last.into()),
+        Text::Other => write_columns(out, line, column.into(), last.into()),
         _ => out.write_shown(text_in(line, columns)),
     }
     out.write_str("\": ");
 }
 
-fn write_column_numbers(out: &mut TextWriter, columns: ColumnFault) {
-    let ColumnFault { column, last } = columns;
-    let sentence = if column < last { "{}-{}" } else { "{}" };
-    out.fill(sentence, &[column.into(), last.into()]);
-}
-
-/// Whether a text has a small letter.
 fn has_small_letter(text: &[u8]) -> bool {
     text.iter().any(|byte| byte.is_ascii_lowercase())
 }
@@ -210,7 +249,6 @@ fn is_unclosed(line: &[u8], columns: ColumnFault) -> bool {
     is_apostrophe(column) && !(column.saturating_add(1)..=last).any(is_apostrophe)
 }
 
-/// Writes what the columns may hold.
 fn write_wanted(out: &mut TextWriter, line: &[u8], columns: ColumnFault, range: Option<Range>) {
     match range {
         Some(_) if is_unclosed(line, columns) => {
@@ -225,11 +263,6 @@ fn write_wanted(out: &mut TextWriter, line: &[u8], columns: ColumnFault, range: 
     }
 }
 
-/// Whether all columns of a range are filled.
-fn is_full(line: &[u8], first: u8, last: u8) -> bool {
-    (first..=last).all(|column| character_at(line, usize::from(column)) != b' ')
-}
-
 /// Writes that a name which continues from the columns before these may be too long for its own.
 fn write_overlong(out: &mut TextWriter, line: &[u8], columns: ColumnFault) {
     let before = range_of(CardKind::of(line), WantedRange::NameBefore(columns.column));
@@ -237,7 +270,8 @@ fn write_overlong(out: &mut TextWriter, line: &[u8], columns: ColumnFault) {
         return;
     };
     let ColumnFault { column, last } = range.columns;
-    if is_full(line, column, columns.column) {
+    let mut filled = column..=columns.column;
+    if filled.all(|column| character_at(line, usize::from(column)) != b' ') {
         let length = columns.column.saturating_sub(column);
         out.fill(
             "; or {} ({}-{}) is longer than its {} columns",

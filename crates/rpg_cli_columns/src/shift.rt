@@ -1,7 +1,6 @@
 //! Texts that are shifted by a column or two from the columns they belong in.
 
-use crate::card::CardKind;
-use crate::pattern::{WantedRange, character_at, range_of, write_columns};
+use crate::ranges::{CardKind, WantedRange, character_at, range_of, write_columns};
 use rpg_cli_diagnostics::Draft;
 use rpg_sheet::{Card, ColumnFault};
 use rpg_text::has_only_characters;
@@ -22,12 +21,9 @@ struct Run {
     last: usize,
 }
 
-/// How far a text is shifted to the right, or to the left.
+/// How many columns a text is shifted to the right; to the left if it is negative.
 #[derive(Clone, Copy)]
-struct Move {
-    right: usize,
-    left: usize,
-}
+struct Move(isize);
 
 impl Run {
     fn has(self, column: usize) -> bool {
@@ -36,28 +32,19 @@ impl Run {
 }
 
 impl Move {
-    fn right(by: usize) -> Self {
-        Move { right: by, left: 0 }
-    }
-
-    fn left(by: usize) -> Self {
-        Move { right: 0, left: by }
+    fn back(self) -> Move {
+        Move(self.0.saturating_neg())
     }
 
     fn applied_to(self, column: usize) -> usize {
-        column.saturating_add(self.right).saturating_sub(self.left)
+        column.saturating_add_signed(self.0)
     }
 
-    fn source_of(self, column: usize) -> usize {
-        column.saturating_add(self.left).saturating_sub(self.right)
-    }
-
-    /// Returns how far a text is shifted, and which way.
     fn words(self) -> &'static str {
-        match (self.right, self.left) {
-            (1, _) => "one column to the right",
-            (_, 1) => "one column to the left",
-            (_, 0) => "two columns to the right",
+        match self.0 {
+            1 => "one column to the right",
+            -1 => "one column to the left",
+            2 => "two columns to the right",
             _ => "two columns to the left",
         }
     }
@@ -74,7 +61,7 @@ fn has_room(line: &[u8], run: Run, by: Move) -> bool {
 
 /// Returns the character in a column after a text is shifted.
 fn moved_at(line: &[u8], run: Run, by: Move, column: usize) -> u8 {
-    let source = by.source_of(column);
+    let source = by.back().applied_to(column);
     if run.has(source) {
         character_at(line, source)
     } else if run.has(column) {
@@ -127,23 +114,12 @@ fn word_at(line: &[u8], column: usize) -> Run {
             first = at.saturating_add(1);
         }
     }
-    Run {
-        first,
-        last: word_end(line, column),
-    }
-}
-
-fn word_end(line: &[u8], column: usize) -> usize {
     let mut columns = column..LAST;
     let end = columns.find(|at| character_at(line, at.saturating_add(1)) == b' ');
-    end.unwrap_or(LAST)
+    let last = end.unwrap_or(LAST);
+    Run { first, last }
 }
 
-fn first_filled(line: &[u8]) -> Option<usize> {
-    (FIRST..=LAST).find(|column| character_at(line, *column) != b' ')
-}
-
-/// Returns the whole text of a card from a column on.
 fn rest_from(line: &[u8], first: usize) -> Run {
     let mut last = first;
     for column in first..=LAST {
@@ -169,49 +145,41 @@ fn add_move(draft: &mut Draft<'_>, line: &[u8], run: Run, by: Move, is_card: boo
 }
 
 /// Adds the shift of a text, or of the whole card, that makes the card readable, if exactly one does.
-fn add_run_move(draft: &mut Draft<'_>, line: &[u8], run: Run, by: usize, is_card: bool) -> bool {
-    let right = helps_run(line, run, Move::right(by), is_card);
-    let left = helps_run(line, run, Move::left(by), is_card);
-    if right == left {
+fn add_run_move(draft: &mut Draft<'_>, line: &[u8], run: Run, by: Move, is_card: bool) -> bool {
+    let right = helps_run(line, run, by, is_card);
+    if right == helps_run(line, run, by.back(), is_card) {
         return false;
     }
-    let only = if right {
-        Move::right(by)
-    } else {
-        Move::left(by)
-    };
+    let only = if right { by } else { by.back() };
     add_move(draft, line, run, only, is_card);
     true
 }
 
-/// Whether a text begins in a column, or in the first of some.
-fn begins_word(line: &[u8], first: usize, column: usize) -> bool {
-    character_at(line, column) != b' '
-        && (column == first || character_at(line, column.saturating_sub(1)) == b' ')
-}
-
 /// Like `add_run_move`, for each text that the rejected columns have a part of.
-fn add_word_move(draft: &mut Draft<'_>, line: &[u8], refused: ColumnFault, by: usize) -> bool {
+fn add_word_move(draft: &mut Draft<'_>, line: &[u8], refused: ColumnFault, by: Move) -> bool {
     let first = usize::from(refused.column);
+    let mut before = b' ';
     for column in first..=usize::from(refused.last) {
-        if begins_word(line, first, column)
-            && add_run_move(draft, line, word_at(line, column), by, false)
-        {
+        let character = character_at(line, column);
+        let begins_text = before == b' ' && character != b' ';
+        if begins_text && add_run_move(draft, line, word_at(line, column), by, false) {
             return true;
         }
+        before = character;
     }
     false
 }
 
 /// Adds which text, or whether the whole card, can be read after a shift by a column or, at most, a few. Adds nothing if no shift helps, or
 /// both ways do.
-pub(crate) fn add_moves(draft: &mut Draft<'_>, line: &[u8], refused: ColumnFault, most: usize) {
+pub(crate) fn add_moves(draft: &mut Draft<'_>, line: &[u8], refused: ColumnFault, most: isize) {
+    let first = (FIRST..=LAST).find(|column| character_at(line, *column) != b' ');
     for by in 1..=most {
-        if add_word_move(draft, line, refused, by) {
+        if add_word_move(draft, line, refused, Move(by)) {
             return;
         }
-        if let Some(first) = first_filled(line) {
-            if add_run_move(draft, line, rest_from(line, first), by, true) {
+        if let Some(first) = first {
+            if add_run_move(draft, line, rest_from(line, first), Move(by), true) {
                 return;
             }
         }
@@ -220,7 +188,7 @@ pub(crate) fn add_moves(draft: &mut Draft<'_>, line: &[u8], refused: ColumnFault
 
 /// Adds that a card is to be moved, if that brings a form type into its column and makes the card readable.
 fn add_card_move_by(draft: &mut Draft<'_>, line: &[u8], by: Move) -> bool {
-    let column = by.source_of(FORM_TYPE);
+    let column = by.back().applied_to(FORM_TYPE);
     let run = rest_from(line, column);
     let is_in_word = character_at(line, column.saturating_sub(1)).is_ascii_alphabetic();
     if is_in_word || !helps(line, run, by) {
@@ -233,9 +201,8 @@ fn add_card_move_by(draft: &mut Draft<'_>, line: &[u8], by: Move) -> bool {
 /// Adds where a card is to be moved, if it can be read after a shift.
 pub(crate) fn add_card_move(draft: &mut Draft<'_>, line: &[u8]) {
     for by in 1..=2 {
-        if add_card_move_by(draft, line, Move::right(by))
-            || add_card_move_by(draft, line, Move::left(by))
-        {
+        let by = Move(by);
+        if add_card_move_by(draft, line, by) || add_card_move_by(draft, line, by.back()) {
             return;
         }
     }

@@ -1,15 +1,11 @@
 //! What the sheets of RPG II have and this profile doesn't support.
 
-use crate::card::CardKind;
 use crate::features::FEATURES;
-use crate::pattern::{character_at, columns_at, is_at};
-use crate::sheets::sheet_of;
+use crate::ranges::{CardKind, character_at, columns_at, is_at, sheet_of};
 use rpg_sheet::ColumnFault;
 
 /// The first column of the directives for a listing, whatever column 6 has.
 const DIRECTIVE: ColumnFault = ColumnFault { column: 7, last: 7 };
-
-const FORM_TYPE: usize = 6;
 
 /// The letter of a card that is on no sheet: data and comments may have any character in column 6.
 const NO_SHEET: u8 = b'?';
@@ -30,7 +26,6 @@ pub(crate) struct Unread {
 }
 
 impl Unread {
-    /// Returns the feature of a line of the table.
     fn of(line: &'static [u8], is_any: bool) -> Unread {
         let (at, line) = match line {
             [b'!', ..] => (Some(columns_at(line, 2)), line.get(7..).unwrap_or(&[])),
@@ -47,19 +42,14 @@ impl Unread {
     }
 }
 
-/// Whether one of some patterns fits a card from a column on.
-fn any_is_at(line: &[u8], column: u8, patterns: &str) -> bool {
-    let mut patterns = patterns.split(' ');
-    patterns.any(|pattern| is_at(line, usize::from(column), pattern.as_bytes()))
-}
-
 /// Whether rejected columns of a card are those of a place and match one of its patterns.
 fn fits(place: &str, letter: u8, line: &[u8], columns: ColumnFault) -> bool {
     let ColumnFault { column, last } = columns_at(place.as_bytes(), 4);
+    let mut patterns = place.get(PATTERN..).unwrap_or("").split(' ');
     character_at(place.as_bytes(), 2) == letter
         && column <= columns.column
         && columns.last <= last
-        && any_is_at(line, columns.column, place.get(PATTERN..).unwrap_or(""))
+        && patterns.any(|pattern| is_at(line, columns.column.into(), pattern.as_bytes()))
 }
 
 /// Returns the first feature in columns of a card with this letter.
@@ -77,7 +67,7 @@ fn first_at(letter: u8, line: &[u8], columns: ColumnFault) -> Option<Unread> {
 
 /// Whether columns 1 to 5 hold only blanks and a number, as a card's may.
 pub fn has_card_number(line: &[u8]) -> bool {
-    (1..FORM_TYPE).all(|column| matches!(character_at(line, column), b' ' | b'0'..=b'9'))
+    (1..6).all(|column| matches!(character_at(line, column), b' ' | b'0'..=b'9'))
 }
 
 /// The first and the last column after those that RPG II uses.

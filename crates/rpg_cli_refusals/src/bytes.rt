@@ -1,7 +1,7 @@
 //! Bytes that aren't an object program, and what an object program has at an offset: the parts of rows, in the order of their bytes, with how
 //! many bytes each has, and its name. The counts before the offset aren't checked.
 
-use crate::causes::counted;
+use crate::rules::counted;
 use rpg_cli_diagnostics::{At, Diagnostic, Draft, FileName, Level, Place};
 use rpg_cli_text::{TextWriter, Topic, topic_of};
 use rpg_object_format::fault::Code;
@@ -16,17 +16,8 @@ const MOST_SHOWN: usize = 32;
 
 const HEX: &[u8; 16] = b"0123456789abcdef";
 
-/// Whether columns 1 to 5 of a card may be its number: blanks and digits.
-fn is_numbering(columns: &[u8]) -> bool {
-    for byte in columns {
-        if !matches!(*byte, b' ' | b'0'..=b'9') {
-            return false;
-        }
-    }
-    true
-}
-
-/// Whether the first line is one that sources begin with: a comment, an H card, or an F card of an input or an output file.
+/// Whether the first line is one that sources begin with: a comment, an H card, or an F card of an input or an output file. Columns 1 to 5
+/// may have the number of the card.
 fn begins_source(bytes: &[u8]) -> bool {
     if bytes.is_empty() {
         return false;
@@ -38,15 +29,8 @@ fn begins_source(bytes: &[u8]) -> bool {
         (Some(b'H'), _, _) => true,
         _ => false,
     };
-    is_card && is_numbering(line.get(..5).unwrap_or(&[]))
-}
-
-fn write_wanted(out: &mut TextWriter, spot: Spot) {
-    out.write_str(spot.name);
-    if let Some(row) = spot.row.number {
-        out.fill(" of {} {}", &[spot.row.table.into(), row.into()]);
-    }
-    out.write_str(" was expected");
+    let mut numbering = line.iter().take(5);
+    is_card && numbering.all(|byte| matches!(*byte, b' ' | b'0'..=b'9'))
 }
 
 /// Writes the bytes at an offset, `count` at most.
@@ -75,12 +59,15 @@ fn write_found(out: &mut TextWriter, bytes: &[u8], offset: usize, count: usize) 
     out.write_str(stand);
 }
 
-/// Writes what was expected at an offset, and what is there.
 fn write_spot(out: &mut TextWriter, bytes: &[u8], offset: usize) {
     out.fill_one(": offset {}: ", offset);
     match spot_at(bytes, offset) {
         Some(spot) => {
-            write_wanted(out, spot);
+            out.write_str(spot.name);
+            if let Some(row) = spot.row.number {
+                out.fill_two(" of {} {}", spot.row.table, row);
+            }
+            out.write_str(" was expected");
             write_found(out, bytes, offset, spot.bytes);
         }
         None => {
@@ -177,10 +164,21 @@ impl Walk<'_> {
         }
     }
 
+    fn pass_equal(&mut self, count: usize, name: &'static str, bytes: usize, row: TableRow) {
+        for _ in 0..count {
+            if self.found.is_none() {
+                self.pass(name, bytes, row);
+            }
+        }
+    }
+
+    /// Passes the parts of a row: a line for each, with its bytes and its name. A part that comes several times has how often before an `x`.
     fn pass_parts(&mut self, parts: &'static str, row: TableRow) {
         for part in parts.lines() {
-            if let (None, Some((bytes, name))) = (self.found, part.split_once(' ')) {
-                self.pass(name, bytes.parse().unwrap_or(1), row);
+            if let (None, Some((size, name))) = (self.found, part.split_once(' ')) {
+                let (count, bytes) = size.split_once('x').unwrap_or(("1", size));
+                let (count, bytes) = (count.parse().unwrap_or(1), bytes.parse().unwrap_or(1));
+                self.pass_equal(count, name, bytes, row);
             }
         }
     }
@@ -220,21 +218,13 @@ impl Walk<'_> {
         self.pass_parts(end, header);
     }
 
-    fn pass_entries(&mut self, count: usize, length: usize, row: TableRow) {
-        for _ in 0..count {
-            if self.found.is_none() {
-                self.pass("a first value", length, row);
-            }
-        }
-    }
-
     /// Passes the first values of all fields, given where the rows of the fields begin.
     fn pass_values(&mut self, fields: usize) {
         let mut row = fields;
         for field in 1..=self.number(18) {
             let length = self.number_in(row, 2);
             let entries = self.number_in(row, 6);
-            self.pass_entries(entries, length, row_of("field", field));
+            self.pass_equal(entries, "a first value", length, row_of("field", field));
             row = row.saturating_add(8);
         }
     }
@@ -310,7 +300,7 @@ pub(crate) fn spot_at(bytes: &[u8], offset: usize) -> Option<Spot> {
 }
 
 /// The header without its last part.
-pub(crate) const HEADER: &str = "6 the name RPGOBJ
+const HEADER: &str = "6 the name RPGOBJ
 2 version 1, 2 or 3
 2 the allowance, 1 to 65,535,
 2 the length of a record, 1 to 9,999,
@@ -324,16 +314,16 @@ pub(crate) const HEADER: &str = "6 the name RPGOBJ
 2 the count of total instructions, at most 8,192 with those before,
 2 the count of subroutines, at most 100,";
 
-pub(crate) const HEADER_END: &str = "2 a number that is always 0";
+const HEADER_END: &str = "2 a number that is always 0";
 
-pub(crate) const HEADER_END_2: &str = "2 the length of a secondary record, 0 to 9,999,";
+const HEADER_END_2: &str = "2 the length of a secondary record, 0 to 9,999,";
 
-pub(crate) const HEADER_END_3: &str = "2 the length of a secondary record, 0 to 9,999,
+const HEADER_END_3: &str = "2 the length of a secondary record, 0 to 9,999,
 2 the page length, 3 to 112,
 2 the overflow line, 1 to the page length,
 2 the file that ends the job, 0 to 2, and 0 without a secondary file,";
 
-pub(crate) const FIELD: &str = "1 the kind, 1 or 2,
+const FIELD: &str = "1 the kind, 1 or 2,
 1 the class, 0 to 4,
 2 the length
 1 the decimals
@@ -341,58 +331,49 @@ pub(crate) const FIELD: &str = "1 the kind, 1 or 2,
 2 the entries";
 
 /// The head of a record type in version 1.
-pub(crate) const TYPE: &str = "1 the indicator, 0 to 129,
+const TYPE: &str = "1 the indicator, 0 to 129,
 1 a number that is always 0
 2 the count of record codes, at most 100,
 2 the count of control fields, at most 100,
 2 the count of input fields, at most 500,";
 
 /// The head of a record type in versions 2 and 3.
-pub(crate) const TYPE_2: &str = "1 the indicator, 0 to 129,
+const TYPE_2: &str = "1 the indicator, 0 to 129,
 1 the file, 0 or 1,
 2 the count of record codes, at most 100,
 2 the count of control fields, at most 100,
 2 the count of input fields, at most 500,
 2 the count of match fields, at most 9,";
 
-pub(crate) const RECORD_CODE: &str = "2 a code's position
+const RECORD_CODE: &str = "2 a code's position
 1 a code's negation, 0 or 1,
 1 a code's character";
 
-pub(crate) const CONTROL_FIELD: &str = "1 a control field's level, 1 to 9,
+const CONTROL_FIELD: &str = "1 a control field's level, 1 to 9,
 1 a control field's kind, 0 or 1,
-2 a control field's column
-2 a control field's column";
+2x2 a control field's column";
 
-pub(crate) const MATCH_FIELD: &str = "1 a match field's level, 1 to 9,
+const MATCH_FIELD: &str = "1 a match field's level, 1 to 9,
 1 a match field's kind, 0 or 1,
-2 a match field's column
-2 a match field's column";
+2x2 a match field's column";
 
-pub(crate) const INPUT_FIELD: &str = "2 an input field's column
-2 an input field's column
+const INPUT_FIELD: &str = "2x2 an input field's column
 2 an input field's number
-1 an input field's indicator, 0 to 129,
-1 an input field's indicator, 0 to 129,
-1 an input field's indicator, 0 to 129,
+3x1 an input field's indicator, 0 to 129,
 1 a number that is always 0";
 
-pub(crate) const LINE: &str = "1 the file, 1 or 2,
+const LINE: &str = "1 the file, 1 or 2,
 1 the time, 1 to 4,
-1 a space or a skip
-1 a space or a skip
-1 a space or a skip
-1 a space or a skip
+4x1 a space or a skip
 2 the count of alternatives, 1 to 50,
 2 the count of fields, at most 200,
 2 a number that is always 0";
 
-pub(crate) const ALTERNATIVE: &str = "2 the count of an alternative's conditions, at most 60,";
+const ALTERNATIVE: &str = "2 the count of an alternative's conditions, at most 60,";
 
-pub(crate) const CONDITION: &str = "1 a condition of an alternative
-1 a condition of an alternative";
+const CONDITION: &str = "2x1 a condition of an alternative";
 
-pub(crate) const LINE_FIELD: &str = "1 a field's kind, 1 or 2,
+const LINE_FIELD: &str = "1 a field's kind, 1 or 2,
 1 a field's editing
 1 a field's fill
 1 a field's blank after, 0 or 1,
@@ -400,24 +381,17 @@ pub(crate) const LINE_FIELD: &str = "1 a field's kind, 1 or 2,
 2 a field's index
 2 a field's edit word
 2 a field's end
-1 a field's condition, 0 to 129,
-1 a field's condition, 0 to 129,
-1 a field's condition, 0 to 129,
+3x1 a field's condition, 0 to 129,
 1 a field's negations, 0 to 7,";
 
-pub(crate) const INSTRUCTION: &str = "1 the operation, 1 to 19,
+const INSTRUCTION: &str = "1 the operation, 1 to 19,
 1 half adjust, 0 or 1,
-2 factor 1
-2 factor 1
-2 factor 2
-2 factor 2
-2 the result
-2 the result
-1 an indicator, 0 to 129,
-1 an indicator, 0 to 129,
-1 an indicator, 0 to 129,
+2x2 factor 1
+2x2 factor 2
+2x2 the result
+3x1 an indicator, 0 to 129,
 2 the target
 1 the negations, 0 to 7,";
 
-pub(crate) const SUBROUTINE: &str = "2 the level
+const SUBROUTINE: &str = "2 the level
 2 the count of instructions";

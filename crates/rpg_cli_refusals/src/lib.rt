@@ -3,7 +3,6 @@
 #![tactic(auto)]
 
 mod bytes;
-mod causes;
 mod rules;
 
 pub use bytes::bytes_diagnostic;

@@ -2,24 +2,16 @@
 //! and what happens then.
 #![tactic(auto)]
 
-mod bytes;
-mod faults;
-mod halts;
 mod indicators;
 mod near;
 mod page;
-mod piece;
-mod rewriting;
-mod rules;
-mod sheets;
+mod pages;
 mod text;
 mod topic;
-mod warnings;
 mod writer;
 
 pub use indicators::indicator_name;
 pub use near::is_near;
-pub use piece::Piece;
 pub use text::{all_pages, list_text, pages_text};
 pub use topic::{HALTS, Topic, sentence_of, topic_of};
-pub use writer::TextWriter;
+pub use writer::{Piece, TextWriter};

@@ -12,7 +12,6 @@ pub(crate) struct Page {
     pub breaks: &'static str,
     /// A similar example that keeps it.
     pub keeps: &'static str,
-    /// What to do.
     pub advice: &'static str,
 }
 

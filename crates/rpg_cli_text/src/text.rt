@@ -5,7 +5,6 @@ use crate::topic::{FAMILIES, Topic};
 use crate::writer::TextWriter;
 use std::alloc::{AllocError, Global};
 
-/// The title above all pages.
 const TITLE: &str =
     "# What rpg2's codes mean\n\nrpg2 explain CODE prints one code of this list, such as F16, S5, V21, B5 or halt 4; rpg2 explain prints\nthem all. Cards are shown below a ruler, which is a comment card: column 1 is the first of the line.\n";
 
@@ -13,7 +12,6 @@ const TITLE: &str =
 const RULER: &str =
     "```text\n....+.*..1....+....2....+....3....+....4....+....5....+....6....+....7....+....8\n";
 
-/// The fence below them.
 const FENCE: &str = "```\n";
 
 /// Returns the headings above the examples of a page.

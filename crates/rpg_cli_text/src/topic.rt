@@ -1,13 +1,7 @@
 //! Codes, and their pages.
 
-use crate::bytes::BYTES;
-use crate::faults::FAULTS;
-use crate::halts::HALTS as HALT_PAGES;
 use crate::page::Page;
-use crate::rewriting::REWRITINGS;
-use crate::rules::RULES;
-use crate::sheets::SHEETS;
-use crate::warnings::WARNINGS;
+use crate::pages::{BYTES, FAULTS, HALTS as HALT_PAGES, REWRITINGS, RULES, SHEETS, WARNINGS};
 use crate::writer::TextWriter;
 
 /// A code with a page, by its number in its family, from 1.
@@ -51,6 +45,19 @@ impl Topic {
         }
     }
 
+    /// Returns the pages of its family, and its number among them.
+    const fn place(self) -> (&'static str, usize) {
+        match self {
+            Topic::Sheet(number) => (SHEETS, number),
+            Topic::Fault(number) => (FAULTS, number),
+            Topic::Warning(number) => (WARNINGS, number),
+            Topic::Halt(number) => (HALT_PAGES, number),
+            Topic::Rule(number) => (RULES, number),
+            Topic::Bytes(number) => (BYTES, number),
+            Topic::Rewriting(number) => (REWRITINGS, number),
+        }
+    }
+
     /// Returns the code of its family with this number.
     const fn sibling(self, number: usize) -> Topic {
         match self {
@@ -75,35 +82,15 @@ impl Topic {
     }
 
     pub(crate) fn page(self) -> Page {
-        let (pages, number) = match self {
-            Topic::Sheet(number) => (SHEETS, number),
-            Topic::Fault(number) => (FAULTS, number),
-            Topic::Warning(number) => (WARNINGS, number),
-            Topic::Halt(number) => (HALT_PAGES, number),
-            Topic::Rule(number) => (RULES, number),
-            Topic::Bytes(number) => (BYTES, number),
-            Topic::Rewriting(number) => (REWRITINGS, number),
-        };
+        let (pages, number) = self.place();
         Page::of(pages, number.saturating_sub(1))
-    }
-
-    /// Returns its number in its family.
-    const fn number(self) -> usize {
-        match self {
-            Topic::Sheet(number)
-            | Topic::Fault(number)
-            | Topic::Warning(number)
-            | Topic::Halt(number)
-            | Topic::Rule(number)
-            | Topic::Bytes(number)
-            | Topic::Rewriting(number) => number,
-        }
     }
 
     /// Writes the code: `F16`, `halt 4`.
     pub fn write_code(self, out: &mut TextWriter) {
+        let (_, number) = self.place();
         let blank = if let Topic::Halt(_) = self { " " } else { "" };
-        out.fill_three("{}{}{}", self.letters(), blank, self.number());
+        out.fill_three("{}{}{}", self.letters(), blank, number);
     }
 
     /// Returns a sentence on what is wrong, or what a rule does.
@@ -111,7 +98,6 @@ impl Topic {
         self.page().sentence
     }
 
-    /// Returns what to do.
     pub fn advice(self) -> &'static str {
         self.page().advice
     }

@@ -1,9 +1,61 @@
-//! Text that is written piece by piece, with one check for memory at the end.
+//! Text that is written piece by piece, with one check for memory at the end, and what fills the places of a sentence.
 
-use crate::piece::Piece;
 use rpg_text::shown;
 use std::alloc::{AllocError, Global};
 use std::fmt::Display;
+
+/// What a place of a sentence is filled with.
+#[derive(Clone, Copy)]
+pub enum Piece<'a> {
+    Number(u64),
+    Character(char),
+    Word(&'a str),
+    /// A text from outside, with a question mark for each byte that isn't a
+    /// character.
+    Outside(&'a [u8]),
+}
+
+impl From<u8> for Piece<'_> {
+    fn from(number: u8) -> Self {
+        Piece::Number(u64::from(number))
+    }
+}
+
+impl From<u16> for Piece<'_> {
+    fn from(number: u16) -> Self {
+        Piece::Number(u64::from(number))
+    }
+}
+
+impl From<u64> for Piece<'_> {
+    fn from(number: u64) -> Self {
+        Piece::Number(number)
+    }
+}
+
+impl From<usize> for Piece<'_> {
+    fn from(number: usize) -> Self {
+        Piece::Number(number as u64)
+    }
+}
+
+impl From<char> for Piece<'_> {
+    fn from(character: char) -> Self {
+        Piece::Character(character)
+    }
+}
+
+impl<'a> From<&'a str> for Piece<'a> {
+    fn from(word: &'a str) -> Self {
+        Piece::Word(word)
+    }
+}
+
+impl<'a> From<&'a [u8]> for Piece<'a> {
+    fn from(text: &'a [u8]) -> Self {
+        Piece::Outside(text)
+    }
+}
 
 /// Text under construction. Once an allocation fails it ignores further pieces, and [`TextWriter::finish`] returns the error, so nothing in
 /// between has to.
@@ -22,14 +74,12 @@ impl TextWriter {
         }
     }
 
-    /// Appends a piece of text.
     pub fn write_str(&mut self, piece: &str) {
         if !self.ran_out {
             self.ran_out = self.text.push_str(piece).is_err();
         }
     }
 
-    /// Appends a character.
     pub fn write_char(&mut self, character: char) {
         if !self.ran_out {
             self.ran_out = self.text.push(character).is_err();
@@ -69,12 +119,10 @@ impl TextWriter {
         self.write_str(rest);
     }
 
-    /// Appends a sentence with one place.
     pub fn fill_one<'a>(&mut self, sentence: &str, piece: impl Into<Piece<'a>>) {
         self.fill(sentence, &[piece.into()]);
     }
 
-    /// Appends a sentence with two places.
     pub fn fill_two<'a>(
         &mut self,
         sentence: &str,
@@ -84,7 +132,6 @@ impl TextWriter {
         self.fill(sentence, &[first.into(), second.into()]);
     }
 
-    /// Appends a sentence with three places.
     pub fn fill_three<'a>(
         &mut self,
         sentence: &str,
@@ -149,16 +196,11 @@ impl TextWriter {
         self.write_char('\n');
     }
 
-    /// Returns the length of the text so far, in bytes.
     pub fn len(&self) -> usize {
         self.text.len()
     }
 
-    /// Returns the text so far.
-    ///
-    /// # Errors
-    ///
-    /// Memory ran out for one of its pieces.
+    /// Returns the text so far. The error is that memory ran out for one of its pieces.
     pub fn so_far(&self) -> Result<&str, AllocError> {
         if self.ran_out {
             return Err(AllocError);
@@ -172,11 +214,7 @@ impl TextWriter {
         self.ran_out = false;
     }
 
-    /// Returns the text.
-    ///
-    /// # Errors
-    ///
-    /// Memory ran out for one of its pieces.
+    /// Returns the text. The error is as for `so_far`.
     pub fn finish(self) -> Result<String, AllocError> {
         if self.ran_out {
             return Err(AllocError);

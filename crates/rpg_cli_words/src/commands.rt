@@ -1,11 +1,15 @@
-//! The commands and their arguments, as data: one a line.
+//! The commands and their arguments, as data, one a line, and as clap has them.
+//!
+//! An argument is built by a chain of small functions: the proof of a chain of calls grows with its length.
 
-use clap::ArgAction;
 use clap::builder::ValueParser;
+use clap::error::ErrorKind;
+use clap::{Arg, ArgAction, ArgMatches, Command, Error};
+use std::alloc::{AllocError, Global};
 use std::ops::RangeInclusive;
 
 /// The commands, in the order of the help: the name, the keys of the arguments, and what the command does.
-pub(crate) const COMMANDS: &str =
+const COMMANDS: &str =
     "compile: SRC OBJ.new output allowance faults deny allow format color quiet: Compiles the source SRC to the object program OBJ
 check: SRC.each faults deny allow format color quiet: Reports all faults of each source SRC on standard error, and writes nothing
 list: SRC format color: Lists the source SRC: its cards with their faults, record layouts, names, indicators and printed lines
@@ -24,27 +28,17 @@ paper: PRINT.paper PDF form length.paper columns.paper bars format color quiet: 
 ///
 /// What an argument takes is a letter:
 ///
-/// | | |
-/// |---|---|
-/// | `R`, `P` | a positional argument; with `P` it is optional |
-/// | `U` | a positional argument, unless the other argument is there |
-/// | `S`, `M` | all arguments from its place on; with `M` there may be none |
-/// | `F` | nothing: a flag |
-/// | `Q` | nothing: the flag with the short form `-q` |
-/// | `V` | a value |
-/// | `O` | a value, with the short form `-o` |
-/// | `E` | a value, unless the other argument, or `--merge` or `--ahead`, is there |
-/// | `W` | a value, several times |
-/// | `A` | an allowance: a number from 1 on, 1000 by default |
-/// | `N` | how many lines: a number from 0 on, 20 by default |
-/// | `B` | a number that may be large |
-/// | `L` | the length of a record: 1 to 9,999 |
-/// | `G`, `J` | the lines of a page, 1 to 112, and its columns, 20 to 198: 66 and 132 by default |
-/// | `H` | a form of paper, `a4` by default |
-/// | `D` | a form of diagnostics, `text` by default |
-/// | `X` | when marks are coloured, `auto` by default |
-/// | `C` | the code of a warning, several times |
-/// | `K` | the same, after `=`; or nothing, for all codes |
+/// - `R`, `P`: a positional argument; with `P` it is optional
+/// - `U`: a positional argument, unless the other argument is there
+/// - `S`, `M`: all arguments from its place on; with `M` there may be none
+/// - `F`, `Q`: nothing, a flag; `Q` has the short form `-q`
+/// - `V`, `O`: a value; `O` has the short form `-o`
+/// - `E`: a value, unless the other argument, or `--merge` or `--ahead`, is there
+/// - `W`: a value, several times
+/// - `A`, `N`, `L`, `G`, `J`, `B`: a number; `value_parser` has its limits
+/// - `H`, `D`, `X`: a name that `value_parser` has
+/// - `C`: the code of a warning, several times
+/// - `K`: the same, after `=`; or nothing, for all codes
 ///
 /// `=VALUE` after the letter is what help calls the value, and `!OTHER` names an argument that conflicts with this one.
 const ARGUMENTS: &str = "SRC R The source, one card per line; - is standard input
@@ -117,15 +111,6 @@ trace-record B=N Reports the cycle of record N
 watch F Reports control fields that go down, and counts records and lines
 sorted F Ends with status 5 if a control field goes down, as in an input that isn't sorted";
 
-/// The forms of diagnostics, as arguments.
-const FORMATS: &[&str] = &["text", "json"];
-
-/// When marks are coloured, as arguments.
-const COLOURS: &[&str] = &["auto", "always", "never"];
-
-/// The forms of paper, as arguments.
-const PAPERS: &[&str] = &["a4", "letter", "fanfold"];
-
 /// The codes of warnings that may be denied; all but the first may be allowed.
 const DENIED_CODES: &[&str] = &[
     "all", "W1", "W2", "W3", "W4", "W5", "W6", "W7", "W8", "W9", "W10", "W11", "W12", "W13", "W14",
@@ -139,15 +124,15 @@ pub(crate) fn cut(text: &'static str, mark: &str) -> (&'static str, &'static str
 
 /// A command, as its line describes it.
 #[derive(Clone, Copy)]
-pub(crate) struct CommandRow {
-    pub name: &'static str,
+struct CommandRow {
+    name: &'static str,
     /// The keys of its arguments.
-    pub arguments: &'static str,
-    pub about: &'static str,
+    arguments: &'static str,
+    about: &'static str,
 }
 
 impl CommandRow {
-    pub fn of(line: &'static str) -> CommandRow {
+    fn of(line: &'static str) -> CommandRow {
         let (name, rest) = cut(line, ": ");
         let (arguments, about) = cut(rest, ": ");
         CommandRow {
@@ -158,14 +143,16 @@ impl CommandRow {
     }
 }
 
-/// Returns the line of a command.
-pub(crate) fn line_of(name: &str) -> Option<&'static str> {
-    for line in COMMANDS.lines() {
-        if CommandRow::of(line).name == name {
-            return Some(line);
+/// Returns the line of the command that the arguments name, or those of all.
+fn lines_of(arguments: &[String]) -> &'static str {
+    if let Some(name) = arguments.get(1) {
+        for line in COMMANDS.lines() {
+            if CommandRow::of(line).name == name.as_str() {
+                return line;
+            }
         }
     }
-    None
+    COMMANDS
 }
 
 /// An argument of a command, as its line describes it.
@@ -176,19 +163,14 @@ pub(crate) struct Argument {
     letter: u8,
     /// What help calls its value.
     pub value: &'static str,
-    /// The argument that conflicts with it.
     pub other: Option<&'static str>,
-}
-
-/// Returns what follows a key and a blank at the start of a line.
-fn after_key(line: &'static str, key: &str) -> Option<&'static str> {
-    line.strip_prefix(key)?.strip_prefix(' ')
 }
 
 /// Returns what follows a key in the line of its argument.
 fn row_of(key: &str) -> &'static str {
     for line in ARGUMENTS.lines() {
-        if let Some(row) = after_key(line, key) {
+        let (found, row) = cut(line, " ");
+        if found == key {
             return row;
         }
     }
@@ -196,7 +178,6 @@ fn row_of(key: &str) -> &'static str {
 }
 
 impl Argument {
-    /// Returns the argument with this key.
     pub fn of(key: &'static str) -> Argument {
         let (name, _) = cut(key, ".");
         let (kind, help) = cut(row_of(key), " ");
@@ -210,25 +191,6 @@ impl Argument {
         }
     }
 
-    pub fn is_required(self) -> bool {
-        matches!(self.letter, b'R' | b'S')
-    }
-
-    /// Whether it is positional.
-    pub fn is_placed(self) -> bool {
-        matches!(self.letter, b'R' | b'P' | b'U' | b'S' | b'M')
-    }
-
-    /// Returns its short form.
-    pub fn short(self) -> Option<char> {
-        match self.letter {
-            b'Q' => Some('q'),
-            b'O' => Some('o'),
-            _ => None,
-        }
-    }
-
-    /// Returns the action of each use.
     pub fn action(self) -> ArgAction {
         match self.letter {
             b'F' | b'Q' => ArgAction::SetTrue,
@@ -237,7 +199,6 @@ impl Argument {
         }
     }
 
-    /// Returns how many values a use takes.
     pub fn values(self) -> RangeInclusive<usize> {
         match self.letter {
             b'F' | b'Q' => 0..=0,
@@ -247,7 +208,6 @@ impl Argument {
         }
     }
 
-    /// Returns the parser for its values.
     pub fn value_parser(self) -> ValueParser<'static> {
         match self.letter {
             b'A' => ValueParser::Signed(1, 65_535),
@@ -255,10 +215,10 @@ impl Argument {
             b'L' => ValueParser::Signed(1, 9_999),
             b'G' => ValueParser::Signed(1, 112),
             b'J' => ValueParser::Signed(20, 198),
-            b'H' => ValueParser::Names(PAPERS),
+            b'H' => ValueParser::Names(&["a4", "letter", "fanfold"]),
             b'B' => ValueParser::Unsigned(0, u64::MAX),
-            b'D' => ValueParser::Names(FORMATS),
-            b'X' => ValueParser::Names(COLOURS),
+            b'D' => ValueParser::Names(&["text", "json"]),
+            b'X' => ValueParser::Names(&["auto", "always", "never"]),
             b'C' => ValueParser::Names(DENIED_CODES.get(1..).unwrap_or(&[])),
             b'K' => ValueParser::Names(DENIED_CODES),
             b'F' | b'Q' => ValueParser::Bool,
@@ -266,7 +226,6 @@ impl Argument {
         }
     }
 
-    /// Returns its default values.
     pub fn defaults(self) -> &'static [&'static str] {
         match self.letter {
             b'A' => &["1000"],
@@ -280,12 +239,7 @@ impl Argument {
         }
     }
 
-    /// Whether a value follows `=`.
-    pub fn takes_equals(self) -> bool {
-        self.letter == b'K'
-    }
-
-    /// Returns what a use without a value stands for.
+    /// Returns what a use without a value stands for, if a value may be missing: one that is there follows `=`.
     pub fn without_value(self) -> &'static [&'static str] {
         match self.letter {
             b'K' => &["all"],
@@ -301,4 +255,113 @@ impl Argument {
             _ => &[],
         }
     }
+}
+
+fn plain<'a>(alloc: Global, argument: Argument) -> Arg<'a> {
+    Arg::new(alloc, argument.name)
+        .help(argument.help)
+        .required(matches!(argument.letter, b'R' | b'S'))
+}
+
+fn named<'a>(alloc: Global, argument: Argument) -> Arg<'a> {
+    match argument.letter {
+        b'R' | b'P' | b'U' | b'S' | b'M' => plain(alloc, argument),
+        b'Q' => plain(alloc, argument).long(argument.name).short('q'),
+        b'O' => plain(alloc, argument).long(argument.name).short('o'),
+        _ => plain(alloc, argument).long(argument.name),
+    }
+}
+
+fn parsed<'a>(alloc: Global, argument: Argument) -> Arg<'a> {
+    let missing = argument.without_value();
+    named(alloc, argument)
+        .action(argument.action())
+        .value_parser(argument.value_parser())
+        .require_equals(!missing.is_empty())
+        .default_missing_values(missing)
+}
+
+fn valued<'a>(alloc: Global, argument: Argument) -> Arg<'a> {
+    parsed(alloc, argument)
+        .num_args(argument.values())
+        .value_name(argument.value)
+        .default_values(argument.defaults())
+}
+
+/// Builds an argument for clap, with the one that conflicts with it, and the one that can replace it.
+fn arg<'a>(alloc: Global, argument: Argument) -> Result<Arg<'a>, AllocError> {
+    valued(alloc, argument)
+        .conflicts_with_all(argument.other.as_slice())?
+        .required_unless_present_any(argument.unless())
+}
+
+fn put<T: Drop>(made: &mut Vec<T>, one: Result<T, AllocError>) -> Result<(), AllocError> {
+    made.push(one?)?;
+    Ok(())
+}
+
+fn args_of<'a>(alloc: Global, keys: &'static str) -> Result<Vec<Arg<'a>>, AllocError> {
+    let mut args = Vec::new(alloc);
+    for key in keys.split(' ') {
+        put(&mut args, arg(alloc, Argument::of(key)))?;
+    }
+    Ok(args)
+}
+
+fn command_of<'a>(alloc: Global, row: CommandRow) -> Result<Command<'a>, AllocError> {
+    let args = args_of(alloc, row.arguments)?;
+    Command::new(alloc, row.name).about(row.about).args(args)
+}
+
+fn commands<'a>(alloc: Global, lines: &'static str) -> Result<Vec<Command<'a>>, AllocError> {
+    let mut commands = Vec::new(alloc);
+    for line in lines.lines() {
+        put(&mut commands, command_of(alloc, CommandRow::of(line)))?;
+    }
+    Ok(commands)
+}
+
+const STATUSES: &str =
+    "Exit statuses:\n  0  success\n  1  a file or a device failed, or memory ran out\n  2  the command line or the date is wrong, or a disk file or a secondary file is missing\n  3  the source, or a record, is rejected\n  4  the object program is rejected\n  5  the job halted, or its input isn't sorted";
+
+/// The version, as in CHANGELOG.md; the formats of object programs; and the logic in which the program is proved. Several kits have the
+/// same logic.
+const VERSION: &str =
+    "1.0.0 (unreleased), object programs of versions 1, 2 and 3, proved in Rattle's logic dac8208d650f15bf";
+
+/// Builds the program's command, without its subcommands.
+fn root<'a>(alloc: Global) -> Command<'a> {
+    Command::new(alloc, "rpg2")
+        .about("Compiles, checks and runs RPG II reports")
+        .version(VERSION)
+        .after_help(STATUSES)
+        .subcommand_required(true)
+        .arg_required_else_help(true)
+}
+
+fn command<'a>(alloc: Global, lines: &'static str) -> Result<Command<'a>, AllocError> {
+    let commands = commands(alloc, lines)?;
+    root(alloc).subcommands(commands)
+}
+
+/// Parses the arguments, or returns what clap reports instead. The first argument is the program's name. Only the command named after it is
+/// built, or all of them, as when help is requested: each costs some ten allocations.
+pub(crate) fn matches_of<'a>(
+    alloc: Global,
+    arguments: &'a [String],
+) -> Result<ArgMatches<'a>, Error> {
+    command(alloc, lines_of(arguments))?.try_get_matches_from(arguments)
+}
+
+/// A fault of the command line that clap doesn't detect, in clap's form, for a program of this name.
+pub(crate) fn fault(
+    alloc: Global,
+    program: &str,
+    kind: ErrorKind,
+    message: &str,
+) -> Result<Error, AllocError> {
+    let mut command = command(alloc, COMMANDS)?.bin_name(program)?;
+    let error = command.error(kind, message);
+    drop(command);
+    error
 }

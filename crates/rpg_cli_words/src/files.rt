@@ -3,7 +3,7 @@
 use crate::options::RecordsWay;
 use crate::request::Request;
 
-/// An argument that names a file.
+/// An argument that names a file, as `names` calls it.
 #[derive(Clone, Copy)]
 pub enum FileArgument {
     Source,
@@ -14,7 +14,6 @@ pub enum FileArgument {
     Disk,
     /// The source of an object program that is shown or run.
     OwnSource,
-    /// The input of `records`: records or lines.
     In,
     Out,
     /// The deck of records that are converted to lines.
@@ -23,11 +22,9 @@ pub enum FileArgument {
     To,
     /// The old deck whose secondary files are merged.
     Merge,
-    /// The deck that reads the lines.
     NewDeck,
     /// The rewritten form of an old deck.
     Fitted,
-    /// The print that `paper` puts on sheets.
     Printed,
     Pdf,
     /// The records of a table file, by its place among those that the arguments name.
@@ -60,12 +57,10 @@ impl FileArgument {
         }
     }
 
-    /// Returns the name of the argument in messages.
     pub fn name(self) -> &'static str {
         self.names().0
     }
 
-    /// Returns the argument as in clap's texts.
     pub(crate) fn text(self) -> &'static str {
         self.names().1
     }
@@ -112,7 +107,6 @@ pub(crate) fn may_be_standard(path: Option<&str>) -> bool {
 }
 
 impl<'a> Request<'a> {
-    /// Returns the file that an argument names, if it is there.
     pub fn path(&self, argument: FileArgument) -> Option<&'a str> {
         match argument {
             FileArgument::Source => self.sources.first().copied(),
@@ -136,7 +130,6 @@ impl<'a> Request<'a> {
         self.path(argument).unwrap_or("")
     }
 
-    /// Returns the source. `check` may have others.
     pub fn source(&self) -> &'a str {
         self.file(FileArgument::Source)
     }
@@ -164,9 +157,7 @@ impl<'a> Request<'a> {
 
     /// Whether the output of a command goes to standard output, so that the line of its answer can't.
     pub fn writes_standard_output(&self) -> bool {
-        [self.print, self.disk, self.new_deck]
-            .iter()
-            .any(|path| may_be_standard(*path))
+        may_be_standard(self.print) || may_be_standard(self.disk) || may_be_standard(self.new_deck)
     }
 
     /// Returns two arguments that name standard input, or standard output: their data would be mixed.

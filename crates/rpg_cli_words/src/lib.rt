@@ -1,18 +1,16 @@
 //! The commands of `rpg2` and their arguments, as data and as clap builds them, and the request of a command line.
 #![tactic(auto)]
 
-mod building;
+mod checking;
 mod commands;
-mod faults;
 mod files;
-mod merging;
 mod options;
 mod outputs;
 mod refusal;
 mod request;
 
+pub use checking::{LinesWay, RowArguments, RowsWay};
 pub use files::{FileArgument, SameFile, Shared, is_standard};
-pub use merging::{LinesWay, RowArguments, RowsWay};
 pub use options::{
     AnswerArguments, CardsWanted, Colours, Cycles, Format, LookArguments, PaperArgument,
     PaperArguments, RecordFraming, RecordsWay, TableArgument, WarningArguments, join_codes,

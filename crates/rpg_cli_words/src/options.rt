@@ -4,10 +4,8 @@ use clap::ArgMatches;
 use rpg_cli_values::{WarningCode, WarningCodes};
 use std::alloc::{AllocError, Global};
 
-/// The form of diagnostics and of the answer.
 #[derive(Clone, Copy, PartialEq, Eq)]
 pub enum Format {
-    /// Lines for people.
     Text,
     /// One JSON object a line.
     Json,
@@ -16,7 +14,6 @@ pub enum Format {
 /// When marks in diagnostics are coloured.
 #[derive(Clone, Copy)]
 pub enum Colours {
-    /// On a terminal.
     Auto,
     Always,
     Never,
@@ -25,9 +22,7 @@ pub enum Colours {
 /// How a command reports its end. One without these options is never quiet.
 #[derive(Clone, Copy)]
 pub struct AnswerArguments {
-    /// Whether no line is printed if the exit status is 0.
     pub is_quiet: bool,
-    /// The form of diagnostics and of the answer.
     pub format: Format,
     pub colours: Colours,
 }
@@ -49,14 +44,10 @@ impl AnswerArguments {
     }
 }
 
-/// How the warnings of a source are treated.
 #[derive(Clone, Copy)]
 pub struct WarningArguments {
-    /// The codes of the warnings that reject the source.
     pub denied: WarningCodes,
-    /// The codes of the warnings that are left out.
     pub allowed: WarningCodes,
-    /// The most faults or warnings to list.
     pub most: u16,
 }
 
@@ -91,13 +82,9 @@ impl Cycles {
 /// What is reported about a job while it runs.
 #[derive(Clone, Copy)]
 pub struct LookArguments {
-    /// The cycles that are reported one by one.
     pub traced: Option<Cycles>,
-    /// The number of the record whose cycle is reported.
     pub record: Option<u64>,
-    /// Whether control fields, records and lines are counted.
     pub watches: bool,
-    /// Whether a control field that goes down is a fault.
     pub is_sorted: bool,
 }
 
@@ -107,12 +94,10 @@ impl LookArguments {
         self.traced.is_some() || self.record.is_some()
     }
 
-    /// Whether control fields are compared.
     pub fn compares(self) -> bool {
         self.watches || self.is_sorted
     }
 
-    /// Whether the job is watched.
     pub fn looks(self) -> bool {
         self.traces() || self.compares()
     }
@@ -127,7 +112,6 @@ impl LookArguments {
     }
 }
 
-/// What `cards` prints.
 #[derive(Clone, Copy)]
 pub enum CardsWanted {
     Cards,
@@ -146,12 +130,9 @@ impl CardsWanted {
     }
 }
 
-/// The direction of a conversion of records.
 #[derive(Clone, Copy, PartialEq, Eq)]
 pub enum RecordsWay {
-    /// Records become lines.
     ToLines,
-    /// Lines become records.
     ToRecords,
 }
 
@@ -161,7 +142,6 @@ pub enum RecordFraming {
     EndToEnd,
     /// Each follows its record descriptor word.
     Descriptors,
-    /// One a line.
     Lines,
 }
 
@@ -183,30 +163,24 @@ pub struct TableArgument<'a> {
 }
 
 impl<'a> TableArgument<'a> {
-    /// Returns the table file of an argument `NAME=FILE`.
     pub(crate) fn of(text: &'a str) -> Option<TableArgument<'a>> {
         let (name, path) = text.split_once('=')?;
         (!name.is_empty()).then_some(TableArgument { name, path })
     }
 }
 
-/// A form of paper.
 #[derive(Clone, Copy)]
 pub enum PaperArgument {
     A4,
     Letter,
-    /// 14 by 11 inches.
     Fanfold,
 }
 
-/// How pages are put on paper.
 #[derive(Clone, Copy)]
 pub struct PaperArguments {
     pub form: PaperArgument,
-    /// The lines of a page.
     pub length: u16,
     pub columns: u16,
-    /// Whether there are bars behind the lines.
     pub has_bars: bool,
 }
 

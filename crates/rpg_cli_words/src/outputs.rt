@@ -38,7 +38,6 @@ pub struct Unreplaced {
 }
 
 impl Unreplaced {
-    /// Returns the text after the argument.
     pub(crate) fn text(self) -> &'static str {
         match (self.written, self.existing) {
             (FileArgument::Fitted, _) => "exists: --force replaces it",

@@ -2,7 +2,7 @@
 
 ghost use Rattle.std.specs.Prelude.{◌≤◌, IfOk};
 
-use crate::building::fault;
+use crate::commands::fault;
 use crate::files::SameFile;
 use crate::outputs::Unreplaced;
 use clap::Error;
@@ -66,7 +66,6 @@ pub fn refuse_bytes(alloc: Global) -> Refusal {
     Refusal::of(fault(alloc, PROGRAM, ErrorKind::InvalidValue, message))
 }
 
-/// Rejects arguments that contradict one another.
 fn conflict(alloc: Global, message: Result<String, AllocError>) -> Refusal {
     match message {
         Ok(message) => {
@@ -77,13 +76,11 @@ fn conflict(alloc: Global, message: Result<String, AllocError>) -> Refusal {
     }
 }
 
-/// Rejects an output that doesn't replace what is at its place.
 pub fn refuse_unreplaced(alloc: Global, unreplaced: Unreplaced) -> Refusal {
     let (written, text) = (unreplaced.written.text(), unreplaced.text());
     conflict(alloc, format!(in alloc; "'{written}' {text}"))
 }
 
-/// Rejects arguments that name the same file.
 pub fn refuse_same_file(alloc: Global, same: SameFile) -> Refusal {
     let (written, earlier) = (same.written.text(), same.earlier.text());
     let (between, after) = same.shared.texts();
@@ -93,13 +90,7 @@ pub fn refuse_same_file(alloc: Global, same: SameFile) -> Refusal {
     )
 }
 
-/// Returns the program's name, which the first argument ends in.
-fn program_name(arguments: &[String]) -> &str {
-    let path = arguments.first().map_or(PROGRAM, |path| path.as_str());
-    path.rsplit_once('/').map_or(path, |(_, name)| name)
-}
-
-/// Returns the fault of arguments that clap accepts but that make no request.
+/// Returns the fault of arguments that clap accepts but that make no request. The program's name is what the first ends in.
 pub(crate) fn unread(
     alloc: Global,
     arguments: &[String],
@@ -109,5 +100,7 @@ pub(crate) fn unread(
         Some(message) => (ErrorKind::InvalidValue, message),
         None => (ErrorKind::MissingSubcommand, "a command is required"),
     };
-    fault(alloc, program_name(arguments), kind, message)
+    let path = arguments.first().map_or(PROGRAM, |path| path.as_str());
+    let name = path.rsplit_once('/').map_or(path, |(_, name)| name);
+    fault(alloc, name, kind, message)
 }

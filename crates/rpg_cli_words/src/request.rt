@@ -2,9 +2,8 @@
 
 ghost use Rattle.std.specs.Prelude.{◌<◌};
 
-use crate::building::matches_of;
-use crate::faults::bad_value;
-use crate::merging::{LinesWay, RowArguments, in_and_out, push_merged};
+use crate::checking::{LinesWay, RowArguments, bad_value, push_merged};
+use crate::commands::matches_of;
 use crate::options::{
     AnswerArguments, CardsWanted, LookArguments, PaperArguments, RecordFraming, RecordsWay,
     TableArgument, WarningArguments,
@@ -14,7 +13,6 @@ use clap::ArgMatches;
 use rpg_cli_values::{DateArgument, byte_of};
 use std::alloc::{AllocError, Global};
 
-/// A command.
 #[derive(Clone, Copy, PartialEq, Eq)]
 pub enum CommandName {
     Compile,
@@ -32,7 +30,6 @@ pub enum CommandName {
 }
 
 impl CommandName {
-    /// Returns the command with a name.
     fn of(name: &str) -> Option<CommandName> {
         Some(match name {
             "compile" => CommandName::Compile,
@@ -62,7 +59,8 @@ impl CommandName {
     }
 }
 
-/// A command and its arguments, which the lines of `commands` describe. One that its command doesn't have is absent or the default.
+/// A command and its arguments, which the lines of `commands` describe under the same names. One that its command doesn't have is absent or
+/// the default.
 #[derive(Drop)]
 pub struct Request<'a> {
     pub command: CommandName,
@@ -75,16 +73,11 @@ pub struct Request<'a> {
     pub date: Option<DateArgument<'a>>,
     pub secondary: Option<&'a str>,
     pub disk: Option<&'a str>,
-    /// The source of the object program that is shown or run.
     pub own_source: Option<&'a str>,
-    /// The greatest bound that a program may have.
     pub most: Option<u64>,
-    /// How many bytes a job may write to all its files.
     pub most_bytes: Option<u64>,
-    /// Whether output files keep their contents until the job ends normally.
     pub keeps: bool,
     pub looks: LookArguments,
-    /// How many backward branches and calls a cycle may take.
     pub allowance: u16,
     pub warnings: WarningArguments,
     pub answer: AnswerArguments,
@@ -94,18 +87,13 @@ pub struct Request<'a> {
     /// OUT of `records`, or PDF of `paper`.
     pub output: Option<&'a str>,
     pub paper: PaperArguments,
-    /// The deck that describes the records, and the direction.
     pub deck: Option<&'a str>,
     pub way: RecordsWay,
-    /// The file's name in the deck, if it isn't the primary one.
     pub file_name: Option<&'a str>,
-    /// How many bytes a record has: 1 to 9,999.
     pub length: Option<u16>,
     pub framing: RecordFraming,
     pub is_ascii: bool,
-    /// Whether a byte 00 among characters is read as a blank.
     pub low_blank: bool,
-    /// The first byte of records that are left out.
     pub dropped: Option<u8>,
     /// What `records` does with whole lines, if it takes them as they are.
     pub lines_way: Option<LinesWay>,
@@ -113,19 +101,14 @@ pub struct Request<'a> {
     pub rows_of_values: Option<RowArguments<'a>>,
     /// The deck that reads the lines, or the rewritten form of an old deck.
     pub new_deck: Option<&'a str>,
-    /// Whether that form replaces a deck.
     pub forces: bool,
     /// Table files, or the secondary files that are merged.
     pub tables: Vec<TableArgument<'a>>,
-    /// Eight digits: for each of U1 to U8 whether it is on. All are off by default.
     pub switches: Option<&'a str>,
-    /// Whether `--forms` is given, which has no effect: L cards are read.
     pub gives_forms: bool,
-    /// The file of the printer whose deck is wanted, if the deck has several.
     pub printer: Option<&'a str>,
     /// The codes, with the number of a halt as one of its own; if there are none, all are explained.
     pub codes: Vec<&'a str>,
-    /// Whether `explain` prints a line for each code instead of pages.
     pub lists: bool,
     ghost positive: { 0 < allowance },
 }
@@ -139,7 +122,6 @@ impl Request<'_> {
         }
     }
 
-    /// Replaces `today` by its digits.
     pub fn set_today(&mut self, digits: [u8; 6]) {
         self.date = Some(DateArgument::Clock(digits));
     }
@@ -153,7 +135,6 @@ fn texts<'a>(
     given.get_strs(name).unwrap_or(&[]).to_vec(alloc)
 }
 
-/// Returns the table files, or the secondary files that are merged.
 fn tables<'a>(alloc: Global, given: &ArgMatches<'a>) -> Result<Vec<TableArgument<'a>>, AllocError> {
     let tables = given.get_strs("table").unwrap_or(&[]).iter().copied();
     let mut tables: Vec<TableArgument<'a>> = tables.filter_map(TableArgument::of).collect(alloc)?;
@@ -161,23 +142,21 @@ fn tables<'a>(alloc: Global, given: &ArgMatches<'a>) -> Result<Vec<TableArgument
     Ok(tables)
 }
 
-/// Returns the deck that describes records, and the direction.
-fn deck<'a>(given: &ArgMatches<'a>) -> (Option<&'a str>, RecordsWay) {
-    match given.get_str("by").or(given.get_str("merge")) {
-        None => (given.get_str("to"), RecordsWay::ToRecords),
-        deck => (deck, RecordsWay::ToLines),
-    }
-}
-
-/// Returns the request of a command.
 fn requested<'a>(
     alloc: Global,
     command: CommandName,
     given: &ArgMatches<'a>,
 ) -> Result<Request<'a>, AllocError> {
     let own_source = given.get_str("source");
-    let (deck, way) = deck(given);
-    let (records, output) = in_and_out(given);
+    let (deck, way) = match given.get_str("by").or(given.get_str("merge")) {
+        None => (given.get_str("to"), RecordsWay::ToRecords),
+        deck => (deck, RecordsWay::ToLines),
+    };
+    let (first, second) = (given.get_str("IN"), given.get_str("OUT"));
+    let (records, output) = match given.get_str("merge") {
+        None => (first, second),
+        Some(_) => (None, first),
+    };
     let (input, print) = command.devices(given);
     Ok(Request {
         command,
@@ -221,7 +200,6 @@ fn requested<'a>(
     })
 }
 
-/// Returns the request of arguments that clap accepts.
 fn read<'a>(
     alloc: Global,
     arguments: &[String],

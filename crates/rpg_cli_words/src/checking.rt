@@ -1,11 +1,82 @@
-//! The arguments of `records` for whole lines, `--merge` and `--ahead`, and for comma-separated values.
+//! Values that clap accepts and no command takes; the arguments of `records` for whole lines, `--merge` and `--ahead`, and for comma-separated
+//! values.
 
 use crate::commands::cut;
-use crate::faults::have_table;
 use crate::files::may_be_standard;
-use crate::options::TableArgument;
+use crate::options::{Cycles, TableArgument};
 use clap::ArgMatches;
+use rpg_cli_values::{are_switches, byte_of};
 use std::alloc::AllocError;
+
+/// The arguments that can't be a standard stream: the command, `.` for all of them; the argument; and the message if it is one.
+const FILES: &str = ". OBJ '<OBJ>' can't be '-', a standard stream; a file of that name is './-'
+. output '--output <OBJ>' can't be '-', a standard stream; a file of that name is './-'
+. source '--source <SRC>' can't be '-', a standard stream; a file of that name is './-'
+. by '--by <SRC>' can't be '-', a standard stream; a file of that name is './-'
+. merge '--merge <SRC>' can't be '-', a standard stream; a file of that name is './-'
+. to '--to <SRC>' can't be '-', a standard stream; a file of that name is './-'
+records OUT '<OUT>' must be a file: what went to standard output can't be taken back
+records deck '--deck <NEW>' must be a file: what went to standard output can't be taken back
+paper PDF '<PDF>' must be a file: what went to standard output can't be taken back
+fit SRC '<SRC>' can't be '-', a standard stream; a file of that name is './-'";
+
+/// Returns the message for a file that is a standard stream and can't be.
+fn bad_file(command: &str, given: &ArgMatches<'_>) -> Option<&'static str> {
+    for line in FILES.lines() {
+        let (whose, rest) = cut(line, " ");
+        let (name, message) = cut(rest, " ");
+        if (whose == "." || whose == command) && may_be_standard(given.get_str(name)) {
+            return Some(message);
+        }
+    }
+    None
+}
+
+/// Whether one of these arguments names a table file by this name.
+fn have_table(texts: &[&str], name: &str) -> bool {
+    let mut tables = texts.iter().copied().filter_map(TableArgument::of);
+    tables.any(|table| table.name == name)
+}
+
+const NO_TABLE: &str = "'--table <NAME=FILE>' needs a file's name from the cards, =, and a path";
+
+fn bad_table(texts: &[&str]) -> Option<&'static str> {
+    for i in 0..texts.len() {
+        match TableArgument::of(texts[i]) {
+            None => return Some(NO_TABLE),
+            Some(table) if have_table(&texts[i + 1..], table.name) => {
+                return Some("'--table <NAME=FILE>' can be given only once for each name");
+            }
+            Some(_) => {}
+        }
+    }
+    None
+}
+
+/// Returns what is wrong with the values of a command that clap accepts.
+pub(crate) fn bad_value(matches: &ArgMatches<'_>) -> Option<&'static str> {
+    let (command, given) = matches.subcommand()?;
+    let file = bad_file(command, given);
+    let rows = match command {
+        "records" => bad_lines(given).or(bad_rows(given)),
+        _ => None,
+    };
+    let (trace, drop) = (given.get_str("trace"), given.get_str("drop"));
+    match (trace, drop, given.get_str("switches")) {
+        _ if file.is_some() => file,
+        _ if rows.is_some() => rows,
+        (Some(text), ..) if Cycles::of(text).is_none() => {
+            Some("'--trace <N>' needs a number of cycles, or a range such as 100-120")
+        }
+        (_, Some(text), _) if byte_of(text).is_none() => {
+            Some("'--drop <XX>' needs two hexadecimal digits, such as FF")
+        }
+        (.., Some(text)) if !are_switches(text) => {
+            Some("'--switches <00000000>' needs eight digits, each 0 or 1")
+        }
+        _ => bad_table(given.get_strs("table").unwrap_or(&[])),
+    }
+}
 
 /// What `records` does with whole lines.
 #[derive(Clone, Copy)]
@@ -16,21 +87,19 @@ pub enum LinesWay {
     Ahead { first: u16, last: u16 },
 }
 
-/// The arguments that neither takes: flags, and those with a value.
-const FLAGS: &str = "csv to-csv rdw lines ascii low-blank no-header";
-
-const VALUES: &str = "by to file drop columns delimiter decimal group replace deck";
+/// The arguments that neither takes.
+const OTHERS: &str =
+    "csv to-csv rdw lines ascii low-blank no-header by to file drop columns delimiter decimal group replace deck";
 
 const STREAM: &str = "'<OUT>' must be a file: what went to standard output can't be taken back";
 
-const FILES: &str =
+const MERGED: &str =
     "'--merge <SRC>' needs OUT, and then each secondary file as its name from the cards, =, and a path";
 
 const COLUMNS: &str =
     "'--ahead <A-B>' needs columns such as 2-6 of a record, and '--length <N>' says how many a record has";
 
 impl LinesWay {
-    /// Returns what is done, if whole lines are written.
     pub(crate) fn of(given: &ArgMatches<'_>) -> Option<LinesWay> {
         match given.get_str("ahead") {
             Some(columns) => ahead(columns),
@@ -49,17 +118,7 @@ fn ahead(columns: &str) -> Option<LinesWay> {
     })
 }
 
-/// Returns the path of what `records` reads, and that of what it writes: OUT is the first argument after `--merge`.
-pub(crate) fn in_and_out<'a>(given: &ArgMatches<'a>) -> (Option<&'a str>, Option<&'a str>) {
-    let (first, second) = (given.get_str("IN"), given.get_str("OUT"));
-    if given.get_str("merge").is_some() {
-        (None, first)
-    } else {
-        (first, second)
-    }
-}
-
-/// Appends the files that are merged.
+/// Appends the files that are merged: OUT is the first argument after `--merge`, and names what is written.
 pub(crate) fn push_merged<'a>(
     files: &mut Vec<TableArgument<'a>>,
     given: &ArgMatches<'a>,
@@ -78,16 +137,14 @@ pub(crate) fn push_merged<'a>(
     Ok(())
 }
 
-/// Whether an argument is given that only other conversions take.
 fn has_other(given: &ArgMatches<'_>) -> bool {
-    FLAGS.split(' ').any(|name| given.get_flag(name))
-        || VALUES.split(' ').any(|name| given.get_str(name).is_some())
+    OTHERS.split(' ').any(|name| is_given(given, name))
 }
 
 /// Returns what is wrong with a file that is merged, given those after it.
-fn bad_file(text: &str, others: &[&str]) -> Option<&'static str> {
+fn bad_merged(text: &str, others: &[&str]) -> Option<&'static str> {
     match TableArgument::of(text) {
-        None => Some(FILES),
+        None => Some(MERGED),
         Some(file) if may_be_standard(Some(file.path)) => Some(
             "'<NAME=FILE>' can't be '-', a standard stream; a file of that name is NAME=./-",
         ),
@@ -98,16 +155,6 @@ fn bad_file(text: &str, others: &[&str]) -> Option<&'static str> {
     }
 }
 
-/// Returns what is wrong with the files that are merged.
-fn bad_files(first: &str, others: &[&str]) -> Option<&'static str> {
-    let mut bad = bad_file(first, others);
-    for (place, text) in others.iter().enumerate() {
-        bad = bad.or(bad_file(*text, others.get(place.saturating_add(1)..).unwrap_or(&[])));
-    }
-    bad
-}
-
-/// Returns what is wrong with the arguments of a merge.
 fn bad_merge(given: &ArgMatches<'_>) -> Option<&'static str> {
     if has_other(given) || given.get_one::<u16>("length").is_some() {
         return Some("'--merge <SRC>' can be used only with '--format <FORMAT>'");
@@ -115,11 +162,15 @@ fn bad_merge(given: &ArgMatches<'_>) -> Option<&'static str> {
     if may_be_standard(given.get_str("IN")) {
         return Some(STREAM);
     }
-    let first = given.get_str("OUT").unwrap_or("");
-    bad_files(first, given.get_strs("FILES").unwrap_or(&[]))
+    let others = given.get_strs("FILES").unwrap_or(&[]);
+    let mut bad = bad_merged(given.get_str("OUT").unwrap_or(""), others);
+    for (place, text) in others.iter().enumerate() {
+        let after = others.get(place.saturating_add(1)..).unwrap_or(&[]);
+        bad = bad.or(bad_merged(*text, after));
+    }
+    bad
 }
 
-/// Returns what is wrong with the columns that are looked ahead.
 fn bad_ahead(given: &ArgMatches<'_>, columns: &str) -> Option<&'static str> {
     if has_other(given) {
         return Some("'--ahead <A-B>' can be used only with '--length <N>' and '--format <FORMAT>'");
@@ -133,8 +184,7 @@ fn bad_ahead(given: &ArgMatches<'_>, columns: &str) -> Option<&'static str> {
     }
 }
 
-/// Returns what is wrong with the arguments for whole lines.
-pub(crate) fn bad_lines(given: &ArgMatches<'_>) -> Option<&'static str> {
+fn bad_lines(given: &ArgMatches<'_>) -> Option<&'static str> {
     let has_files = given.get_strs("FILES").is_some();
     match (given.get_str("merge"), given.get_str("ahead")) {
         (Some(_), Some(_)) => Some("'--merge <SRC>' can't be used with '--ahead <A-B>'"),
@@ -145,12 +195,9 @@ pub(crate) fn bad_lines(given: &ArgMatches<'_>) -> Option<&'static str> {
     }
 }
 
-/// The direction of a conversion of rows.
 #[derive(Clone, Copy, PartialEq, Eq)]
 pub enum RowsWay {
-    /// Rows become lines.
     ToLines,
-    /// Lines become rows.
     ToRows,
 }
 
@@ -158,20 +205,16 @@ pub enum RowsWay {
 #[derive(Clone, Copy)]
 pub struct RowArguments<'a> {
     pub way: RowsWay,
-    /// The names of the columns, with commas between them.
     pub columns: Option<&'a str>,
     /// Whether the first row names the columns.
     pub has_header: bool,
     pub delimiter: u8,
-    /// The decimal point.
     pub decimal: u8,
-    /// What separates groups of three digits.
     pub group: Option<u8>,
-    /// What replaces a character that rpg2 doesn't have.
     pub replacement: Option<u8>,
 }
 
-/// The arguments that exclude each other: the two, and the message.
+/// The arguments that exclude each other: the two, and the message. After a `-` comes one that only conversions of rows have.
 const EXCLUDED: &str = "csv to-csv '--csv' can't be used with '--to-csv'
 csv rdw '--csv' can't be used with '--rdw'
 csv lines '--csv' can't be used with '--lines'
@@ -187,15 +230,13 @@ to-csv columns '--to-csv' can't be used with '--columns <NAMES>'
 to-csv no-header '--to-csv' can't be used with '--no-header'
 to-csv group '--to-csv' can't be used with '--group <C>'
 to-csv replace '--to-csv' can't be used with '--replace <C>'
-to-csv deck '--to-csv' can't be used with '--deck <NEW>'";
-
-/// The arguments that only conversions of rows have: the argument, and the message.
-const OWN: &str = "columns '--columns <NAMES>' can be used only with '--csv'
-no-header '--no-header' can be used only with '--csv'
-group '--group <C>' can be used only with '--csv'
-replace '--replace <C>' can be used only with '--csv'
-delimiter '--delimiter <C>' can be used only with '--csv' or '--to-csv'
-decimal '--decimal <C>' can be used only with '--csv' or '--to-csv'";
+to-csv deck '--to-csv' can't be used with '--deck <NEW>'
+- columns '--columns <NAMES>' can be used only with '--csv'
+- no-header '--no-header' can be used only with '--csv'
+- group '--group <C>' can be used only with '--csv'
+- replace '--replace <C>' can be used only with '--csv'
+- delimiter '--delimiter <C>' can be used only with '--csv' or '--to-csv'
+- decimal '--decimal <C>' can be used only with '--csv' or '--to-csv'";
 
 const CHARACTERS: &str =
     "'--delimiter <C>', '--group <C>' and '--replace <C>' need one character from blank to ~, no letter, digit, \", - or +; a delimiter may be tab";
@@ -213,7 +254,6 @@ fn character(given: &ArgMatches<'_>, name: &str) -> Result<Option<u8>, &'static 
     }
 }
 
-/// Returns the decimal point that an argument names.
 fn decimal(text: Option<&str>) -> Result<u8, &'static str> {
     match text {
         None | Some(".") => Ok(b'.'),
@@ -248,42 +288,34 @@ impl<'a> RowArguments<'a> {
     }
 }
 
-/// Whether an argument is given: a flag, or one with a value.
 fn is_given(given: &ArgMatches<'_>, name: &str) -> bool {
     match name {
-        "to-csv" | "rdw" | "lines" | "ascii" | "low-blank" | "no-header" => given.get_flag(name),
+        "csv" | "to-csv" | "rdw" | "lines" | "ascii" | "low-blank" | "no-header" => {
+            given.get_flag(name)
+        }
         _ => given.get_str(name).is_some(),
     }
 }
 
-/// Returns the message of the first argument of these lines that is given.
-fn first_given(given: &ArgMatches<'_>) -> Option<&'static str> {
-    for line in OWN.lines() {
-        let (name, message) = cut(line, " ");
-        if is_given(given, name) {
-            return Some(message);
-        }
-    }
-    None
-}
-
 /// Returns the message of the first two arguments that exclude each other and are both given.
 fn first_excluded(given: &ArgMatches<'_>) -> Option<&'static str> {
+    let converts = given.get_flag("csv") || given.get_flag("to-csv");
     for line in EXCLUDED.lines() {
         let (one, rest) = cut(line, " ");
         let (other, message) = cut(rest, " ");
-        if given.get_flag(one) && is_given(given, other) {
+        let excludes = if one == "-" {
+            !converts
+        } else {
+            given.get_flag(one)
+        };
+        if excludes && is_given(given, other) {
             return Some(message);
         }
     }
     None
 }
 
-/// Returns what is wrong with the arguments for comma-separated values.
-pub(crate) fn bad_rows(given: &ArgMatches<'_>) -> Option<&'static str> {
-    if !given.get_flag("csv") && !given.get_flag("to-csv") {
-        return first_given(given);
-    }
+fn bad_rows(given: &ArgMatches<'_>) -> Option<&'static str> {
     let excluded = first_excluded(given);
     if excluded.is_some() {
         return excluded;
