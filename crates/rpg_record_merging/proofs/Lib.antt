@@ -1,0 +1,2 @@
+-- Lemmas about the next record.
+mod OrderLemmas
