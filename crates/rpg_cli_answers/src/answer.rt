@@ -23,9 +23,7 @@ pub enum RefusedRow {
 /// How a command ended. What makes a command fail is passed on as it is.
 #[derive(Clone, Copy)]
 pub enum Answer {
-    /// The source was compiled to an object program.
     Compiled,
-    /// The source has no faults.
     Faultless,
     /// Several sources were checked: how many, how many of them were rejected, how many couldn't be read, if any, and the greatest
     /// exit status.
@@ -50,7 +48,6 @@ pub enum Answer {
     Unsorted {
         record: u64,
     },
-    /// The source is rejected.
     Source(SourceFault),
     /// The object file doesn't hold an accepted program.
     Object(ObjectFault),
@@ -68,16 +65,13 @@ pub enum Answer {
     },
     /// The run produced no report.
     Run(RunFault),
-    /// The file of an argument failed.
     File {
         argument: FileArgument,
         fault: FileFault,
     },
-    /// A code was explained.
     Explained,
     /// Shorthand was converted to cards, or cards to shorthand.
     Deck,
-    /// A line of shorthand isn't a card.
     NoCard {
         line: u16,
     },
@@ -117,7 +111,6 @@ pub enum Answer {
     PageRefused {
         page: u32,
     },
-    /// There is no such code.
     NoSuchCode,
     NoMemory,
 }

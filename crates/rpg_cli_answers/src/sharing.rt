@@ -39,13 +39,9 @@ fn identity_of<F: OpenFile>(
 
 impl NamedFile {
     pub fn at<R: Files>(rt: &R, argument: FileArgument, path: &str) -> NamedFile {
-        NamedFile {
-            argument,
-            identity: identity_at(rt, path),
-        }
+        NamedFile::named(rt, argument, Some(path))
     }
 
-    /// Returns the file that an argument may name.
     pub fn named<R: Files>(rt: &R, argument: FileArgument, path: Option<&str>) -> NamedFile {
         NamedFile {
             argument,
@@ -86,7 +82,6 @@ impl NamedFile {
     }
 }
 
-/// Refuses to write a file that another argument names too.
 pub fn refuse_same_file(written: NamedFile, others: &[NamedFile]) -> Result<(), SameFile> {
     if written.identity.is_none() {
         return Ok(());
@@ -103,7 +98,6 @@ pub fn refuse_same_file(written: NamedFile, others: &[NamedFile]) -> Result<(), 
     Ok(())
 }
 
-/// Returns what is at the place of an output.
 fn existing_at<R: Files>(rt: &R, path: &str) -> Existing {
     match begins_with(rt, path, b"RPGOBJ") {
         None => Existing::Nothing,
@@ -136,7 +130,6 @@ pub fn file_at(argument: FileArgument, path: &str) -> FileName<'_> {
     }
 }
 
-/// Returns the file that an argument names.
 pub fn file_of<'a>(request: &Request<'a>, argument: FileArgument) -> FileName<'a> {
     file_at(argument, request.file(argument))
 }

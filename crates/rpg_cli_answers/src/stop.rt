@@ -17,7 +17,6 @@ pub enum CommandStop {
     Unreplaced(Unreplaced),
     /// A text couldn't be printed completely.
     Unshown(Reason),
-    /// The job produced no report.
     Job { answer: Answer, reasons: Reasons },
 }
 

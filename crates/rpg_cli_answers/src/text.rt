@@ -9,7 +9,6 @@ use crate::answer::{Answer, Line, RefusedRow};
 use arrayvec::ArrayVec;
 use itoa::Buffer;
 use rpg_cli_files::FileFault;
-use rpg_cli_values::WarningCode;
 use rpg_engine::{JobEnd, ObjectFault, Report, RunFault};
 use rpg_faults::SourceFault;
 
@@ -30,6 +29,16 @@ fn put_number(text: &mut Text, number: u64)
     ensures len { array_vec_len text.new ≤ array_vec_len text.old + 20 }
 {
     put(text, Buffer::new().format(number).as_bytes());
+}
+
+/// Writes a number after a piece.
+fn put_after(text: &mut Text, piece: &[u8], number: u64)
+    requires { array_vec_len text.old + length piece.now ≤ 76 }
+    ensures items { text.new.items ≡ text.old.items ++ (piece.now ++ decimal number) }
+    ensures len { array_vec_len text.new ≤ array_vec_len text.old + length piece.now + 20 }
+{
+    put(text, piece);
+    put_number(text, number);
 }
 
 /// Writes a number of at most three digits.
@@ -60,12 +69,9 @@ fn put_report(text: &mut Text, report: Report)
     ensures { text.new.items ≡ text.old.items ++ answers.report_text report }
 {
     put_ending(text, report.ending);
-    put(text, b", cycles ");
-    put_number(text, report.cycles);
-    put(text, b", steps ");
-    put_number(text, report.most);
-    put(text, b" of ");
-    put_number(text, report.bound);
+    put_after(text, b", cycles ", report.cycles);
+    put_after(text, b", steps ", report.most);
+    put_after(text, b" of ", report.bound);
 }
 
 fn put_card(text: &mut Text, card: u16)
@@ -73,17 +79,8 @@ fn put_card(text: &mut Text, card: u16)
     ensures items { text.new.items ≡ text.old.items ++ answers.card_text card }
     ensures len { array_vec_len text.new ≤ array_vec_len text.old + 27 }
 {
-    put(text, b"card ");
-    put_number(text, u64::from(card));
+    put_after(text, b"card ", u64::from(card));
     put(text, b": ");
-}
-
-fn put_denied(text: &mut Text, card: u16, code: WarningCode)
-    requires { array_vec_len text.old ≤ 4 }
-    ensures { text.new.items ≡ text.old.items ++ answers.denied_text card code }
-{
-    put_card(text, card);
-    put(text, code.text().as_bytes());
 }
 
 fn put_unread(text: &mut Text, unread: Option<u64>)
@@ -92,10 +89,7 @@ fn put_unread(text: &mut Text, unread: Option<u64>)
 {
     match unread {
         None => {}
-        Some(unread) => {
-            put(text, b", unread ");
-            put_number(text, unread);
-        }
+        Some(unread) => put_after(text, b", unread ", unread),
     }
 }
 
@@ -111,14 +105,12 @@ fn put_checked(text: &mut Text, sources: u64, rejected: u64, unread: Option<u64>
 }
 
 fn put_source_fault(text: &mut Text, fault: SourceFault)
-    requires { array_vec_len text.old ≤ 60 }
+    requires { array_vec_len text.old ≤ 4 }
     ensures { text.new.items ≡ text.old.items ++ answers.source_fault_text fault }
 {
     match fault {
         SourceFault::At { card, code, .. } => {
-            put(text, b"card ");
-            put_number(text, u64::from(card));
-            put(text, b": ");
+            put_card(text, card);
             put(text, code.text().as_bytes());
         }
         SourceFault::NoMemory => put(text, b"no memory"),
@@ -133,14 +125,11 @@ fn put_object_fault(text: &mut Text, fault: ObjectFault)
         ObjectFault::NotAnObject { offset, code } => {
             put(text, b"refused: ");
             put(text, code.text().as_bytes());
-            put(text, b" at ");
-            put_number(text, offset as u64);
+            put_after(text, b" at ", offset as u64);
         }
         ObjectFault::Refused(broken) => {
-            put(text, b"refused: V");
-            put_number(text, u64::from(broken.rule.number()));
-            put(text, b" row ");
-            put_number(text, broken.row as u64);
+            put_after(text, b"refused: V", u64::from(broken.rule.number()));
+            put_after(text, b" row ", broken.row as u64);
         }
         ObjectFault::NoMemory => put(text, b"no memory"),
     }
@@ -175,12 +164,9 @@ fn put_counts(text: &mut Text, records: u64, dropped: u64, columns: u64)
     requires { array_vec_len text.old ≤ 4 }
     ensures { text.new.items ≡ text.old.items ++ answers.counts_text records dropped columns }
 {
-    put(text, b"records ");
-    put_number(text, records);
-    put(text, b", dropped ");
-    put_number(text, dropped);
-    put(text, b", columns ");
-    put_number(text, columns);
+    put_after(text, b"records ", records);
+    put_after(text, b", dropped ", dropped);
+    put_after(text, b", columns ", columns);
 }
 
 fn put_refused_deck(text: &mut Text, card: Option<u16>)
@@ -188,9 +174,7 @@ fn put_refused_deck(text: &mut Text, card: Option<u16>)
     ensures { text.new.items ≡ text.old.items ++ answers.refused_deck_text card }
 {
     if let Some(card) = card {
-        put(text, b"card ");
-        put_number(text, u64::from(card));
-        put(text, b": ");
+        put_card(text, card);
     }
     put(text, b"refused");
 }
@@ -201,36 +185,9 @@ fn put_refused_row(text: &mut Text, row: RefusedRow)
 {
     match row {
         RefusedRow::Header => put(text, b"header"),
-        RefusedRow::Row(number) => {
-            put(text, b"row ");
-            put_number(text, number);
-        }
-        RefusedRow::Line(number) => {
-            put(text, b"line ");
-            put_number(text, number);
-        }
+        RefusedRow::Row(number) => put_after(text, b"row ", number),
+        RefusedRow::Line(number) => put_after(text, b"line ", number),
     }
-    put(text, b": refused");
-}
-
-/// Writes the card of an old deck, and the rule that rejects it.
-fn put_refused_card(text: &mut Text, card: u64, rule: u8)
-    requires { array_vec_len text.old ≤ 4 }
-    ensures { text.new.items ≡ text.old.items ++ answers.refused_card_text card rule }
-{
-    put(text, b"card ");
-    put_number(text, card);
-    put(text, b": A");
-    put_short_number(text, rule);
-}
-
-/// Writes the page of a print that is rejected.
-fn put_refused_page(text: &mut Text, page: u32)
-    requires { array_vec_len text.old ≤ 4 }
-    ensures { text.new.items ≡ text.old.items ++ answers.refused_page_text page }
-{
-    put(text, b"page ");
-    put_number(text, u64::from(page));
     put(text, b": refused");
 }
 
@@ -315,15 +272,14 @@ pub fn line(answer: &Answer) -> Line
             unread,
             ..
         } => put_checked(&mut text, sources, rejected, unread),
-        Answer::Denied { card, code } => put_denied(&mut text, card, code),
-        Answer::Accepted { bound } => {
-            put(&mut text, b"accepted, bound ");
-            put_number(&mut text, bound);
+        Answer::Denied { card, code } => {
+            put_card(&mut text, card);
+            put(&mut text, code.text().as_bytes());
         }
+        Answer::Accepted { bound } => put_after(&mut text, b"accepted, bound ", bound),
         Answer::Ended(report) => put_report(&mut text, report),
         Answer::Unsorted { record } => {
-            put(&mut text, b"record ");
-            put_number(&mut text, record);
+            put_after(&mut text, b"record ", record);
             put(&mut text, b": not sorted");
         }
         Answer::Source(fault) => put_source_fault(&mut text, fault),
@@ -332,17 +288,13 @@ pub fn line(answer: &Answer) -> Line
         Answer::DiskFileWanted => put(&mut text, b"disk file wanted"),
         Answer::SecondaryFileWanted => put(&mut text, b"secondary file wanted"),
         Answer::DateWanted => put(&mut text, b"date wanted"),
-        Answer::OverLimit { bound } => {
-            put(&mut text, b"refused: bound ");
-            put_number(&mut text, bound);
-        }
+        Answer::OverLimit { bound } => put_after(&mut text, b"refused: bound ", bound),
         Answer::Run(fault) => put_run_fault(&mut text, fault),
         Answer::File { fault, .. } => put_file_fault(&mut text, fault),
         Answer::Explained => {}
         Answer::Deck => put(&mut text, b"/*"),
         Answer::NoCard { line } => {
-            put(&mut text, b"line ");
-            put_number(&mut text, u64::from(line));
+            put_after(&mut text, b"line ", u64::from(line));
             put(&mut text, b": no card");
         }
         Answer::Records {
@@ -352,21 +304,20 @@ pub fn line(answer: &Answer) -> Line
         } => put_counts(&mut text, records, dropped, columns),
         Answer::DeckRefused { card } => put_refused_deck(&mut text, card),
         Answer::RecordRefused { number } => {
-            put(&mut text, b"record ");
-            put_number(&mut text, number);
+            put_after(&mut text, b"record ", number);
             put(&mut text, b": refused");
         }
         Answer::RowRefused(row) => put_refused_row(&mut text, row),
-        Answer::Fitted { changes } => {
-            put(&mut text, b"changes ");
-            put_number(&mut text, changes);
+        Answer::Fitted { changes } => put_after(&mut text, b"changes ", changes),
+        Answer::FitRefused { card, rule } => {
+            put_after(&mut text, b"card ", card);
+            put_after(&mut text, b": A", u64::from(rule));
         }
-        Answer::FitRefused { card, rule } => put_refused_card(&mut text, card, rule),
-        Answer::Paper { pages } => {
-            put(&mut text, b"pages ");
-            put_number(&mut text, u64::from(pages));
+        Answer::Paper { pages } => put_after(&mut text, b"pages ", u64::from(pages)),
+        Answer::PageRefused { page } => {
+            put_after(&mut text, b"page ", u64::from(page));
+            put(&mut text, b": refused");
         }
-        Answer::PageRefused { page } => put_refused_page(&mut text, page),
         Answer::NewDeck(fault) => {
             put(&mut text, b"new ");
             put_source_fault(&mut text, fault);
