@@ -1,11 +1,20 @@
 -- What is made of marks by values at places is what is made of them by the least values.
 use Rattle.std.proofs.Common.{◌≡◌, ℕ, suc, ◌+◌, ◌<◌, ◌≤◌, Bool, true, false, cond, ◌&&◌, ◌==◌, List, [], ◌∷◌, ◌++◌, length, drop, get_or, drop-cons, add-one, Option, None, Some, ap, arith, refl, sym, ◌∙◌}
+use Rattle.std.specs.Cmp.Lexicographic.{bytes_decides, pointwise}
 use Rattle.std.specs.List.{cons_option, filter_map, list_all}
+use Rattle.std.specs.Option.{is_some}
+use Rattle.std.specs.Prelude.{nat_eq, not}
 use Rattle.rpg_cards.specs.declared.spec_card.SpecCard.{SpecCard}
-use Rattle.rpg_warnings_lines.specs.Marks.{AreLeast, least_with, lowered, marks_of}
+use Rattle.rpg_sheet_specs.specs.declared.calculation.CalculationSpec.{CalculationSpec}
+use Rattle.rpg_sheet_specs.specs.declared.entry.Entry.{Entry}
+use Rattle.rpg_sheet_specs.specs.declared.entry.EntryIndex.{EntryIndex}
+use Rattle.rpg_sheet_specs.specs.declared.literal.Factor.{Factor}
+use Rattle.rpg_sheet_specs.specs.declared.literal.Factor.TheVariants as factor
+use Rattle.rpg_sheet_specs.specs.declared.spec.Spec.TheVariants as spec
+use Rattle.rpg_warnings_lines.specs.Marks.{AreLeast, Lowers, least_at, least_with, lowered, marks_of}
 use Rattle.rpg_warnings_lines.specs.Sums.{AreSums, unreset_by, unreset_with}
 use Rattle.rpg_warnings_lines.specs.Unused.{AreFirst, first_read, first_set, is_noted, printed_from, read_from, unused_at, unused_by, unused_with}
-use Rattle.rpg_warnings_lines.specs.Uses.{read_on}
+use Rattle.rpg_warnings_lines.specs.Uses.{counts_as_read, entry_place, factor_index, factor_read, has_index, index_named, index_place, is_field, is_result, is_sum, place, read_by, read_on, reads_nothing, result_read, two_of_six}
 use Rattle.rpg_warnings_lines.specs.declared.marks.Mark.{Mark}
 use Rattle.rpg_warnings_lines.specs.declared.sums.NameSums.{NameSums}
 use Rattle.rpg_warnings_lines.specs.declared.unused.FirstResults.{FirstResults}
@@ -28,6 +37,53 @@ pub read_more : (cards items : List SpecCard) (k : ℕ) (c : SpecCard) → k < l
 read_more cards items k c less is =
     ap (read_from cards) (drop-cons items k c less) ∙ ap (λ (d : SpecCard). read_from cards (d ∷ drop (suc k) items)) (sym is)
     ∙ ap (λ n. read_from cards (c ∷ drop n items)) (sym (add-one k))
+
+-- ---- what isn't looked up
+
+pub same_place : (cards : List SpecCard) (name other : List ℕ) → pointwise nat_eq name other ≡ true → place cards other ≡ place cards name
+same_place cards name other e = ap (place cards) (sym ((bytes_decides name other).0 e))
+
+none_of : (a b c d : Bool) → (not a && not b && not c && not d) ≡ true → (a ≡ false) × (b ≡ false) × (c ≡ false) × (d ≡ false)
+none_of true b c d e = absurd cc
+none_of false true c d e = absurd cc
+none_of false false true d e = absurd cc
+none_of false false false true e = absurd cc
+none_of false false false false e = (refl, refl, refl, refl)
+
+either : (b : Bool) (n : Option ℕ) → cond b n n ≡ n
+either true n = refl
+either false n = refl
+
+module _ (cards : List SpecCard) where
+  no_index : (f : Option Factor) → is_field f ≡ false → factor_index cards f ≡ None
+  no_index None e = refl
+  no_index (Some (factor.Entry x)) e = absurd cc
+  no_index (Some (factor.Literal l)) e = refl
+
+  no_factor : (k : CalculationSpec) (f : Option Factor) → is_field f ≡ false → factor_read cards k f ≡ None
+  no_factor k None e = either (is_sum k.operation && is_result None k.result_field) None
+  no_factor k (Some (factor.Entry x)) e = absurd cc
+  no_factor k (Some (factor.Literal l)) e = either (is_sum k.operation && is_result (Some (factor.Literal l)) k.result_field) None
+
+  no_name : (i : Option EntryIndex) → is_some i ≡ false → index_named cards i ≡ None
+  no_name None e = refl
+  no_name (Some i) e = absurd cc
+
+  unindexed : (r : Option Entry) → has_index r ≡ false → index_place cards r ≡ None
+  unindexed None e = refl
+  unindexed (Some r) e = no_name r.index e
+
+  pub nothing_lowered : (k : CalculationSpec) (n : ℕ) (read : List ℕ) → reads_nothing k ≡ true → Lowers (marks_of n (read_on cards (spec.Calculation k))) read read
+  nothing_lowered k n read e = λ i.
+      let is = none_of (is_field k.factor_1) (is_field k.factor_2) (has_index k.result_field) (counts_as_read k) e in
+      let one = no_index k.factor_1 is.0 in
+      let two = no_index k.factor_2 is.1 in
+      let three = unindexed k.result_field is.2 in
+      let four = no_factor k k.factor_1 is.0 in
+      let five = no_factor k k.factor_2 is.1 in
+      let six : result_read cards k ≡ None = ap (λ b. cond b (entry_place cards k.result_field) None) is.3 in
+      let none : read_by cards k ≡ two_of_six None None = cc in
+      ap (λ ps. least_with i (least_at i read) (marks_of n ps)) (sym none)
 
 -- ---- where output fields print all results, none is unused
 

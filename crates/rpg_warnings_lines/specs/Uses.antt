@@ -1,7 +1,7 @@
 -- Which names cards use, by their places among the different names of the source.
-use Rattle.std.specs.Prelude.{ℕ, List, [], ◌∷◌, Bool, true, false, ◌&&◌, ◌||◌, nat_eq, Option, None, Some, is_none, is_some, position, if◌then◌else◌}
+use Rattle.std.specs.Prelude.{ℕ, List, [], ◌∷◌, Bool, true, false, not, ◌&&◌, ◌||◌, nat_eq, Option, None, Some, is_none, is_some, position, if◌then◌else◌}
 use Rattle.std.specs.Cmp.Lexicographic.{pointwise}
-use Rattle.std.specs.Option.{option_and_then}
+use Rattle.std.specs.Option.{option_and_then, option_map_or}
 use Rattle.rpg_cards.specs.Names.{is_of, names}
 use Rattle.rpg_cards.specs.declared.spec_card.SpecCard.{SpecCard}
 use Rattle.rpg_sheet_specs.specs.declared.calculation.CalculationSpec.{CalculationSpec}
@@ -81,6 +81,20 @@ needs_result _ = false
 -- a result that nothing has to read: of XFOOT, LOKUP or MVR, or with indicators
 abbrev pub counts_as_read : CalculationSpec → Bool
 counts_as_read k = needs_result k.operation || (is_some k.resulting_indicators.first || is_some k.resulting_indicators.second || is_some k.resulting_indicators.third)
+
+-- a factor that is a field
+abbrev pub is_field : Option Factor → Bool
+is_field (Some (factor.Entry e)) = true
+is_field (Some (factor.Literal l)) = false
+is_field None = false
+
+-- an entry with an index
+abbrev pub has_index : Option Entry → Bool
+has_index e = option_map_or (λ (x : Entry). is_some x.index) e false
+
+-- neither a factor nor an index is a field, and the result doesn't count as read
+abbrev pub reads_nothing : CalculationSpec → Bool
+reads_nothing k = not (is_field k.factor_1) && not (is_field k.factor_2) && not (has_index k.result_field) && not (counts_as_read k)
 
 -- up to two names, among six
 abbrev pub two_of_six : Option ℕ → Option ℕ → List (Option ℕ)

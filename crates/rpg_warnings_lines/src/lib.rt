@@ -14,6 +14,6 @@ mod unused;
 mod uses;
 mod warning;
 
-pub use lines::{put_line_warnings, put_warning};
+pub use lines::put_line_warnings;
 pub use printer::is_printer;
-pub use warning::{Warning, WarningKind};
+pub use warning::{Warning, WarningKind, put_warning};

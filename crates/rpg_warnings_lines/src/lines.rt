@@ -1,7 +1,6 @@
 //! All warnings about lines and results.
 
 ghost use Rattle.std.specs.Prelude.{◌≡◌, ◌++◌, OnOk};
-ghost use Rattle.std.specs.Option.{option_to_list};
 ghost use Rattle.rpg_warnings_lines.specs.LineWarnings as warned;
 
 use crate::overlaps::put_overlaps;
@@ -10,7 +9,7 @@ use crate::printer::overflow_on;
 use crate::sums::put_unreset;
 use crate::unheld::unheld_on;
 use crate::unused::put_unused;
-use crate::warning::Warning;
+use crate::warning::{Warning, put_warning};
 use rpg_card_index::IndexedCards;
 use rpg_cards::SpecCard;
 use rpg_sheet_specs::Spec;
@@ -26,16 +25,6 @@ fn card_warning(cards: &[SpecCard], card: &SpecCard, after: &[SpecCard]) -> Opti
         Spec::Output(_) => page_on(card).or(unheld_on(card, after)),
         _ => None,
     }
-}
-
-/// Appends a warning, if there is one.
-pub fn put_warning(warnings: &mut Vec<Warning>, warning: Option<Warning>) -> Result<(), AllocError>
-    ensures { OnOk result (warnings.new.items ≡ warnings.old.items ++ option_to_list warning) }
-{
-    if let Some(warning) = warning {
-        warnings.push(warning)?;
-    }
-    Ok(())
 }
 
 /// Appends the warnings about page numbers, lines and printers, in the order of their cards.

@@ -28,10 +28,7 @@ pub enum LineTest {
 fn is_heading(time: LineTime) -> bool
     ensures { result ≡ printer.is_heading time }
 {
-    match time {
-        LineTime::Heading | LineTime::Detail => true,
-        LineTime::Total | LineTime::Exception => false,
-    }
+    matches!(time, LineTime::Heading | LineTime::Detail)
 }
 
 fn line_is(test: LineTest, line: &OutputRecord, after: &[SpecCard]) -> bool
@@ -78,10 +75,7 @@ fn any_line(test: LineTest, file: &Word<8>, cards: &[SpecCard]) -> bool
 pub fn is_printer(file: &FileSpec) -> bool
     ensures { result ≡ printer.is_printer file.now }
 {
-    match (file.role, file.device) {
-        (FileRole::Output, Device::Printer) => true,
-        _ => false,
-    }
+    matches!(file.role, FileRole::Output) && matches!(file.device, Device::Printer)
 }
 
 /// Whether a file is a printer whose later pages would have no heading.

@@ -10,7 +10,7 @@ ghost use Rattle.rpg_warnings_lines.specs.declared.totals.Noted.TheVariants as n
 use crate::marks::{Mark, NONE, least_at, least_of, lower_at, lower_each};
 use crate::totals::{Noted, put_totals};
 use crate::uses::{set_on, sum_on};
-use crate::warning::{Warning, WarningKind};
+use crate::warning::{Warning, WarningKind, put_warning};
 use rpg_card_index::IndexedCards;
 use rpg_cards::SpecCard;
 use rpg_sheet_specs::{ColumnFault, ControlLevel};
@@ -74,14 +74,6 @@ pub struct NameSums {
     printed: Vec<u16>,
 }
 
-fn least_levels(alloc: Global, source: &IndexedCards) -> Result<Vec<u16>, AllocError>
-    ensures { IfOk result (λ least. sums.AreLevels source.now least.items) }
-{
-    let mut marks = Vec::new(alloc);
-    put_totals(&mut marks, source, Noted::Level)?;
-    least_of(alloc, &marks)
-}
-
 fn name_sums(alloc: Global, source: &IndexedCards, printed: &[Mark]) -> Result<NameSums, AllocError>
     requires { printed.now ≡ totals.totals_of noted.Card source.now }
     ensures { IfOk result (λ known. sums.AreSums source.now known) }
@@ -90,10 +82,12 @@ fn name_sums(alloc: Global, source: &IndexedCards, printed: &[Mark]) -> Result<N
     lower_sums(&mut added, source)?;
     let mut set = Vec::new(alloc);
     lower_set(&mut set, source)?;
+    let mut levels = Vec::new(alloc);
+    put_totals(&mut levels, source, Noted::Level)?;
     Ok(NameSums {
         added,
         set,
-        levels: least_levels(alloc, source)?,
+        levels: least_of(alloc, &levels)?,
         printed: least_of(alloc, printed)?,
     })
 }
@@ -102,18 +96,14 @@ fn name_sums(alloc: Global, source: &IndexedCards, printed: &[Mark]) -> Result<N
 fn unreset_by(known: &NameSums, mark: Mark) -> Option<Warning>
     ensures { result ≡ sums.unreset_with known.now mark }
 {
-    if least_at(&known.printed, mark.place) == mark.value
+    let goes_on = least_at(&known.printed, mark.place) == mark.value
         && least_at(&known.set, mark.place) == NONE
-        && least_at(&known.added, mark.place) < least_at(&known.levels, mark.place)
-    {
-        Some(Warning {
-            card: mark.value,
-            columns: BLANK_AFTER,
-            kind: WarningKind::NotReset,
-        })
-    } else {
-        None
-    }
+        && least_at(&known.added, mark.place) < least_at(&known.levels, mark.place);
+    goes_on.then_some(Warning {
+        card: mark.value,
+        columns: BLANK_AFTER,
+        kind: WarningKind::NotReset,
+    })
 }
 
 /// Appends the warnings about names on total lines, given what is known of all names.
@@ -125,9 +115,7 @@ fn put_known(
     ensures { OnOk result (warnings.new.items ≡ warnings.old.items ++ filter_map (sums.unreset_with known.now) printed.now) }
 {
     for mark in printed {
-        if let Some(warning) = unreset_by(known, *mark) {
-            warnings.push(warning)?;
-        }
+        put_warning(warnings, unreset_by(known, *mark))?;
     }
     Ok(())
 }

@@ -55,10 +55,7 @@ fn level_in(conditions: Three<Option<ConditionSpec>>) -> u16
 fn is_total(time: LineTime) -> bool
     ensures { result ≡ totals.is_total time }
 {
-    match time {
-        LineTime::Total => true,
-        LineTime::Heading | LineTime::Detail | LineTime::Exception => false,
-    }
+    matches!(time, LineTime::Total)
 }
 
 fn begun(line: &OutputRecord) -> LineSoFar

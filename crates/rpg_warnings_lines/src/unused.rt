@@ -7,11 +7,12 @@ ghost use Rattle.rpg_warnings_lines.specs.Unused as unused;
 ghost use Rattle.rpg_warnings_lines.specs.Uses as uses;
 
 use crate::marks::{Mark, NONE, least_at, least_of, lower_each, put_mark};
-use crate::uses::{printed_on, read_on, result_on};
-use crate::warning::{Warning, WarningKind};
+use crate::uses::{next_place, printed_on, read_on, reads_nothing, result_field};
+use crate::warning::{Warning, WarningKind, put_warning};
 use rpg_card_index::IndexedCards;
 use rpg_cards::SpecCard;
 use rpg_sheet_specs::{ColumnFault, Spec};
+use rpg_symbols::Name;
 use std::alloc::{AllocError, Global};
 
 /// The columns of a result field.
@@ -46,11 +47,13 @@ fn lower_printed(read: &mut Vec<u16>, source: &IndexedCards) -> Result<(), Alloc
 }
 
 /// Notes the names that another card reads.
+#[tactic(auto, using(crate::proofs::Noting::nothing_lowered))]
 fn note_read(read: &mut Vec<u16>, source: &IndexedCards, card: &SpecCard) -> Result<(), AllocError>
     ensures { OnOk result (marks.Lowers (marks.marks_of card.now.number (uses.read_on source.now card.now.spec)) read.old.items read.new.items) }
 {
     match &card.spec {
         Spec::Output(_) => Ok(()),
+        Spec::Calculation(calculation) if reads_nothing(calculation) => Ok(()),
         _ => lower_each(read, &read_on(source, card), card.number),
     }
 }
@@ -78,12 +81,18 @@ fn are_noted(read: &[u16], results: &[Mark]) -> bool
     true
 }
 
-/// Notes the result fields of cards, with their cards.
+/// Notes the result fields of cards, with their cards. The place of a name isn't looked up again for the next result field.
 fn put_results(noted: &mut Vec<Mark>, source: &IndexedCards) -> Result<(), AllocError>
     ensures { OnOk result (noted.new.items ≡ noted.old.items ++ unused.results_from source.now source.now) }
 {
+    let mut last = [].as_slice();
+    let mut place = source.name_place(&Name::new(last));
     for card in source.as_slice() {
-        put_mark(noted, result_on(source, card), card.number)?;
+        if let Some(entry) = result_field(card) {
+            place = next_place(source, &entry.name, last, place);
+            last = entry.name.as_slice();
+            put_mark(noted, place, card.number)?;
+        }
     }
     Ok(())
 }
@@ -139,15 +148,12 @@ fn put_known(
     ensures { OnOk result (warnings.new.items ≡ warnings.old.items ++ filter_map (unused.unused_with firsts.now) results.now) }
 {
     for mark in results {
-        if let Some(warning) = unused_by(firsts, *mark) {
-            warnings.push(warning)?;
-        }
+        put_warning(warnings, unused_by(firsts, *mark))?;
     }
     Ok(())
 }
 
-/// Appends the warnings of results that nothing reads, in the order of their cards. If output fields print all of them, no other card is
-/// looked at.
+/// Appends the warnings of results that nothing reads, in the order of their cards. Other cards are read only if lines don't print all of them.
 #[tactic(auto, using(crate::proofs::Noting::known_firsts, crate::proofs::Noting::none_unused))]
 pub(crate) fn put_unused(
     alloc: Global,

@@ -1,23 +1,21 @@
 //! Which names cards use, by their places among the different names of the source.
 
-ghost use Rattle.std.specs.Prelude.{◌≡◌};
+ghost use Rattle.std.specs.Prelude.{◌≡◌, List, option_copied};
+ghost use Rattle.rpg_cards.specs.declared.spec_card.SpecCard.{SpecCard};
 ghost use Rattle.rpg_warnings_lines.specs.Uses as uses;
 
 use rpg_card_index::IndexedCards;
 use rpg_cards::SpecCard;
 use rpg_sheet_specs::{
-    CalculationSpec, Entry, EntryIndex, ExtensionSpec, Factor, InputSpec, Operation, OutputSpec,
-    Spec, TableSpec,
+    CalculationSpec, Entry, EntryIndex, Factor, InputSpec, Operation, OutputSpec, Spec, TableSpec,
 };
+use rpg_symbols::Name;
 
 /// Returns the place of a field, or of an entry's array.
 pub(crate) fn entry_place(source: &IndexedCards, entry: &Option<Entry>) -> Option<u64>
     ensures { result ≡ uses.entry_place source.now entry.now }
 {
-    match entry {
-        None => None,
-        Some(entry) => source.name_place(&entry.name),
-    }
+    source.name_place(&entry.as_ref()?.name)
 }
 
 /// Returns the place of the field that has an entry's index.
@@ -33,10 +31,7 @@ fn named_index(source: &IndexedCards, entry: &Entry) -> Option<u64>
 fn index_place(source: &IndexedCards, entry: &Option<Entry>) -> Option<u64>
     ensures { result ≡ uses.index_place source.now entry.now }
 {
-    match entry {
-        None => None,
-        Some(entry) => named_index(source, entry),
-    }
+    named_index(source, entry.as_ref()?)
 }
 
 fn factor_place(source: &IndexedCards, factor: &Option<Factor>) -> Option<u64>
@@ -60,10 +55,7 @@ fn factor_index(source: &IndexedCards, factor: &Option<Factor>) -> Option<u64>
 fn is_sum(operation: Option<Operation>) -> bool
     ensures { result ≡ uses.is_sum operation }
 {
-    match operation {
-        Some(Operation::Add | Operation::Subtract) => true,
-        _ => false,
-    }
+    matches!(operation, Some(Operation::Add | Operation::Subtract))
 }
 
 /// Whether a factor is a result field, or an entry of the same array.
@@ -128,19 +120,34 @@ fn read_by(source: &IndexedCards, calculation: &CalculationSpec) -> [Option<u64>
     ]
 }
 
+/// Whether a factor is a field.
+fn is_field(factor: &Option<Factor>) -> bool
+    ensures { result ≡ uses.is_field factor.now }
+{
+    matches!(factor, Some(Factor::Entry(_)))
+}
+
+/// Whether an entry has an index.
+fn has_index(entry: &Option<Entry>) -> bool
+    ensures { result ≡ uses.has_index entry.now }
+{
+    matches!(entry, Some(Entry { index: Some(_), .. }))
+}
+
+/// Whether a calculation names no field that it reads.
+pub(crate) fn reads_nothing(calculation: &CalculationSpec) -> bool
+    ensures { result ≡ uses.reads_nothing calculation.now }
+{
+    !is_field(&calculation.factor_1)
+        && !is_field(&calculation.factor_2)
+        && !has_index(&calculation.result_field)
+        && !counts_as_read(calculation)
+}
+
 fn table_place(source: &IndexedCards, table: &Option<TableSpec>) -> Option<u64>
     ensures { result ≡ uses.table_place source.now table.now }
 {
-    match table {
-        None => None,
-        Some(table) => source.name_place(&table.name),
-    }
-}
-
-fn own_table(source: &IndexedCards, extension: &ExtensionSpec) -> Option<u64>
-    ensures { result ≡ uses.own_table source.now extension.now }
-{
-    source.name_place(&extension.table.name)
+    source.name_place(&table.as_ref()?.name)
 }
 
 /// Returns the names that an output field prints.
@@ -169,7 +176,7 @@ pub(crate) fn read_on(source: &IndexedCards, card: &SpecCard) -> [Option<u64>; 6
     match &card.spec {
         Spec::Extension(extension) => {
             let alternating = table_place(source, &extension.alternating);
-            two_of_six(own_table(source, extension), alternating)
+            two_of_six(source.name_place(&extension.table.name), alternating)
         }
         Spec::Input(InputSpec::Field(field)) => two_of_six(source.name_place(&field.name), None),
         Spec::Calculation(calculation) => read_by(source, calculation),
@@ -177,13 +184,31 @@ pub(crate) fn read_on(source: &IndexedCards, card: &SpecCard) -> [Option<u64>; 6
     }
 }
 
-/// Returns the place of the result field of a card.
-pub(crate) fn result_on(source: &IndexedCards, card: &SpecCard) -> Option<u64>
-    ensures { result ≡ uses.result_on source.now card.now.spec }
+/// Returns the result field of a card.
+pub(crate) fn result_field(card: &SpecCard) -> Option<&Entry>
+    ensures { (cards : List SpecCard) → uses.result_on cards card.now.spec ≡ uses.entry_place cards (option_copied result) }
 {
     match &card.spec {
-        Spec::Calculation(calculation) => entry_place(source, &calculation.result_field),
+        Spec::Calculation(calculation) => calculation.result_field.as_ref(),
         _ => None,
+    }
+}
+
+/// Returns the place of a name, given that of another one.
+#[tactic(auto, using(crate::proofs::Noting::same_place))]
+pub(crate) fn next_place(
+    source: &IndexedCards,
+    name: &Name,
+    other: &[u8],
+    place: Option<u64>,
+) -> Option<u64>
+    requires { place ≡ uses.place source.now other.now }
+    ensures { result ≡ uses.place source.now name.now }
+{
+    if name.as_slice() == other {
+        place
+    } else {
+        source.name_place(name)
     }
 }
 
@@ -209,17 +234,6 @@ pub(crate) fn sum_on(source: &IndexedCards, card: &SpecCard) -> Option<u64>
     }
 }
 
-/// Returns the place of the result field that a card sets, other than by adding to it.
-fn set_by(source: &IndexedCards, calculation: &CalculationSpec) -> Option<u64>
-    ensures { result ≡ uses.set_by source.now calculation.now }
-{
-    if is_own_sum(calculation) {
-        None
-    } else {
-        entry_place(source, &calculation.result_field)
-    }
-}
-
 /// Returns the names that a card sets: by blank after, with a record, with data, or by a calculation that doesn't add to them.
 pub(crate) fn set_on(source: &IndexedCards, card: &SpecCard) -> [Option<u64>; 2]
     ensures { result ≡ uses.set_on source.now card.now.spec }
@@ -227,10 +241,12 @@ pub(crate) fn set_on(source: &IndexedCards, card: &SpecCard) -> [Option<u64>; 2]
     match &card.spec {
         Spec::Extension(extension) if extension.entries_per_card.is_some() => {
             let alternating = table_place(source, &extension.alternating);
-            [own_table(source, extension), alternating]
+            [source.name_place(&extension.table.name), alternating]
         }
         Spec::Input(InputSpec::Field(field)) => [source.name_place(&field.name), None],
-        Spec::Calculation(calculation) => [set_by(source, calculation), None],
+        Spec::Calculation(calculation) if !is_own_sum(calculation) => {
+            [entry_place(source, &calculation.result_field), None]
+        }
         Spec::Output(OutputSpec::Field(field)) if field.blank_after => {
             [entry_place(source, &field.operand), None]
         }

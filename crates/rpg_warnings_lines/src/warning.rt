@@ -1,10 +1,12 @@
 //! Warnings and their kinds.
 
-ghost use Rattle.std.specs.Prelude.{◌≡◌};
+ghost use Rattle.std.specs.Prelude.{◌≡◌, ◌++◌, OnOk};
+ghost use Rattle.std.specs.Option.{option_to_list};
 ghost use Rattle.rpg_warnings_lines.specs.Kinds as kinds;
 
 use rpg_cli_values::WarningCode;
 use rpg_sheet_specs::ColumnFault;
+use std::alloc::AllocError;
 
 /// Why a card has a warning.
 #[derive(Clone, Copy)]
@@ -17,15 +19,13 @@ pub enum WarningKind {
     NeverTested {
         indicator: u8,
     },
-    /// Its field has these places of the line, some of which another card's field has
-    /// too.
+    /// Its field has these places of the line, some of which another card's field has too.
     Overlap {
         first: usize,
         last: usize,
         card: u16,
     },
-    /// Its result has this many digits before the decimal point, and a factor has
-    /// more.
+    /// Its result has this many digits before the decimal point, and a factor has more.
     Shorter {
         result: u16,
         factor: u16,
@@ -52,8 +52,7 @@ pub enum WarningKind {
     NoOverflow,
     /// Its device looks like the printer, and is the disk file.
     NotPrinter,
-    /// Its file ends the job: records of the file on this card that have a greater match
-    /// value are left out.
+    /// Its file ends the job: records of the file on this card that have a greater match value are left out.
     LeftOut {
         card: u16,
     },
@@ -97,4 +96,14 @@ pub struct Warning {
     pub card: u16,
     pub columns: ColumnFault,
     pub kind: WarningKind,
+}
+
+/// Appends a warning, if there is one.
+pub fn put_warning(warnings: &mut Vec<Warning>, warning: Option<Warning>) -> Result<(), AllocError>
+    ensures { OnOk result (warnings.new.items ≡ warnings.old.items ++ option_to_list warning) }
+{
+    if let Some(warning) = warning {
+        warnings.push(warning)?;
+    }
+    Ok(())
 }
