@@ -24,7 +24,6 @@ pub enum Opened<F> {
     New(F),
     /// A file that no new one can replace.
     InPlace(F, InPlace),
-    /// Standard input, or standard output.
     Standard,
 }
 
@@ -86,7 +85,6 @@ enum Target<F, P> {
     StandardOutput(P),
 }
 
-/// Returns the records of an open file.
 pub fn records<R: Files + Input + AllocGlobal>(
     rt: &R,
     opened: Opened<R::File>,
@@ -104,7 +102,6 @@ pub fn records<R: Files + Input + AllocGlobal>(
     }
 }
 
-/// Returns the writer of an open file.
 pub fn lines<'r, R: Files + Print>(
     rt: &'r R,
     opened: Opened<R::File>,
@@ -124,7 +121,6 @@ pub fn lines<'r, R: Files + Print>(
     }
 }
 
-/// Returns why a call failed, if it did.
 fn fault_of<T>(answer: &io::Result<T>) -> Option<Reason> {
     match answer {
         Ok(_) => None,
@@ -141,14 +137,12 @@ impl<F, S> RecordSource<F, S> {
         self
     }
 
-    /// Returns why the last read failed, if it did.
     pub fn fault(&self) -> Option<Reason> {
         self.fault
     }
 }
 
 impl<F: Drop, S: Drop> RecordSource<F, S> {
-    /// Returns the bytes that were read last.
     pub fn into_last_bytes(self) -> Vec<u8> {
         let RecordSource { window, .. } = self;
         window.into_bytes()
@@ -203,7 +197,6 @@ fn allowed(left: Option<u64>, bytes: usize) -> usize
 }
 
 impl<F, P> LineTarget<'_, F, P> {
-    /// Returns why the last write failed, if it did.
     pub fn fault(&self) -> Option<Reason> {
         self.fault
     }
@@ -258,7 +251,6 @@ pub(crate) struct Window {
 }
 
 impl Window {
-    /// A window that keeps nothing.
     pub fn closed(alloc: Global) -> Window {
         Window {
             bytes: Vec::new(alloc),
@@ -291,7 +283,6 @@ impl Window {
         self.bytes[from..].contains(&b'\n')
     }
 
-    /// Returns the bytes.
     pub fn into_bytes(self) -> Vec<u8> {
         self.bytes
     }

@@ -30,7 +30,6 @@ use std::fs::OpenFile;
 use std::io::{Printer, Read, Write};
 use std::rt::{Clock, Env, Files};
 
-/// How a run ended.
 pub(crate) type Ended = Result<Report, CommandStop>;
 
 /// What is run: a program, and the source that it was compiled from, if that is known.
@@ -41,7 +40,6 @@ pub(crate) struct Runnable<'a> {
 }
 
 impl<'a> Runnable<'a> {
-    /// Returns what runs, without its names.
     pub fn running(self) -> Running<'a> {
         match self.source {
             None => Running::Program(self.program),
@@ -49,7 +47,6 @@ impl<'a> Runnable<'a> {
         }
     }
 
-    /// Returns the cards of the source's rows.
     pub fn rows(self) -> Option<&'a SourceRows> {
         Some(&self.source?.rows)
     }
@@ -184,7 +181,6 @@ impl<'s, 'a, R: Files + Input + Print + AllocGlobal, L: Listener> Runs<'s, 'a, R
         kept.finish(self.rt, ran, self.listener)
     }
 
-    /// Runs a compiled source over its files.
     pub fn run_own(&mut self, source: &OwnSource<'_>) -> Ended {
         let wanted = source_files(self.request, &source.compiled)?;
         let runnable = Runnable {
@@ -374,11 +370,9 @@ pub(crate) struct LastInput {
     pub bytes: Vec<u8>,
     /// How many of the bytes begin with the last line; none at the end of the input.
     pub left: usize,
-    /// How many records were read.
     pub number: u32,
 }
 
-/// What was read last from both inputs.
 #[derive(Drop)]
 pub(crate) struct LastInputs {
     pub primary: LastInput,
@@ -408,7 +402,6 @@ pub(crate) fn secondary_of<'a>(request: &Request<'a>) -> Option<FileName<'a>> {
     Some(file_at(FileArgument::Secondary, request.secondary?))
 }
 
-/// Returns the halt of a report, if its job halted.
 fn halt_of(report: Report) -> Option<HaltedCycle> {
     match report.ending {
         JobEnd::EndOfJob => None,
