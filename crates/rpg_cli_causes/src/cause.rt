@@ -1,13 +1,13 @@
 //! The cause of a fault in words, and the mistake that it shares with others.
 
-use crate::data::write_data;
-use crate::files::{write_file, write_movement};
-use crate::names::{write_nowhere, write_redefined, write_target, write_twice, write_undefined};
-use crate::operands::{write_editing, write_index, write_operand};
-use crate::order::{write_order, write_stray};
-use crate::places::{write_join, write_outside};
-use crate::sizes::{
-    write_bad_indicator, write_column, write_field, write_limit, write_rounding, write_size,
+use crate::fields::{
+    write_bad_indicator, write_column, write_editing, write_field, write_index, write_limit,
+    write_operand, write_rounding, write_size,
+};
+use crate::files::{write_data, write_file, write_join, write_movement, write_outside};
+use crate::names::{
+    write_nowhere, write_order, write_redefined, write_stray, write_target, write_twice,
+    write_undefined,
 };
 use crate::spot::{SourceCards, Spot};
 use rpg_cli_text::TextWriter;
@@ -72,7 +72,6 @@ pub enum Root {
     Later(u16),
 }
 
-/// Returns a name, padded with blanks.
 fn padded(name: &[u8]) -> [u8; 6] {
     let mut padded = [b' '; 6];
     for (place, character) in padded.iter_mut().zip(name) {

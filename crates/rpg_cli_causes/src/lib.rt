@@ -2,15 +2,10 @@
 #![tactic(auto)]
 
 mod cause;
-mod data;
+mod fields;
 mod files;
-mod forms;
 mod names;
 mod near;
-mod operands;
-mod order;
-mod places;
-mod sizes;
 mod spot;
 
 pub use cause::{Root, root_of, write_cause};

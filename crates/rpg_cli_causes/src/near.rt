@@ -12,7 +12,6 @@ use rpg_sheet::Word;
 use std::alloc::{AllocError, Global};
 use std::collections::{HashMap, HashSet};
 
-/// What a name stands for.
 #[derive(Clone, Copy, PartialEq, Eq, Hash)]
 pub(crate) enum NameKind {
     Field,
@@ -66,7 +65,6 @@ pub struct NearNames {
     places: HashMap<Stem, Vec<usize>>,
 }
 
-/// Whether a fault has a name that no card defines.
 const fn has_unknown_name(fault: &CardFault) -> bool {
     match &fault.cause {
         Some(Cause::UndefinedName(_) | Cause::File(FileCause::Unknown { .. })) => true,

@@ -112,7 +112,6 @@ impl<'a> Spot<'a> {
     }
 }
 
-/// Returns the first card that defines a name.
 pub fn definer<'a>(cards: &'a [SpecCard], name: &[u8]) -> Option<&'a SpecCard> {
     cards.iter().find(|card| defines(card, name))
 }

@@ -11,7 +11,6 @@ pub struct Draft<'a> {
     level: Level,
     place: Option<Place<'a>>,
     code: Option<Topic>,
-    /// What is wrong.
     pub message: TextWriter,
     children: Vec<Child<'a>>,
     ran_out: bool,
@@ -40,7 +39,6 @@ impl<'a> Draft<'a> {
         Draft::new(alloc, Level::Note, Some(place), None)
     }
 
-    /// Returns the path of the file that it is about.
     pub fn path(&self) -> Option<&'a str> {
         Some(self.place?.file.path)
     }
@@ -71,7 +69,6 @@ impl<'a> Draft<'a> {
         self.finish()
     }
 
-    /// Returns the diagnostic.
     pub fn finish(self) -> Made<Diagnostic<'a>> {
         let Draft {
             level,
@@ -129,7 +126,6 @@ impl<'a> Diagnostics<'a> {
         &self.list
     }
 
-    /// Whether memory ran out for one.
     pub fn has_lost(&self) -> bool {
         self.ran_out
     }

@@ -22,7 +22,6 @@ fn write_columns(out: &mut Writer, first: &str, last: &str, columns: Columns) ->
     write_number(out, last, (columns.last as u64).saturating_add(1))
 }
 
-/// Writes the text of a line, with its columns.
 fn write_marked(alloc: Global, out: &mut Writer, line: Line, columns: Columns) -> Made<()> {
     let mut shown = TextWriter::new(alloc);
     shown.write_shown(trimmed(line.bytes));
@@ -78,7 +77,6 @@ fn write_spans(alloc: Global, out: &mut Writer, place: Option<Place>) -> Made<()
     out.end_array()
 }
 
-/// Returns a paragraph as one line.
 fn joined(alloc: Global, paragraph: &str) -> Made<String> {
     let mut text = TextWriter::new(alloc);
     for character in paragraph.chars() {
@@ -87,7 +85,6 @@ fn joined(alloc: Global, paragraph: &str) -> Made<String> {
     text.finish()
 }
 
-/// Writes a code, and what to do.
 fn write_topic(alloc: Global, out: &mut Writer, topic: Topic) -> Made<()> {
     let mut code = TextWriter::new(alloc);
     topic.write_code(&mut code);
@@ -148,7 +145,6 @@ pub fn begin_object(alloc: Global, out: &mut Writer, told: &Diagnostic) -> Made<
     Ok(())
 }
 
-/// Returns what was written, as a line.
 pub fn line_of(out: Writer) -> Made<String> {
     let mut bytes = out.into_inner();
     bytes.push(b'\n')?;

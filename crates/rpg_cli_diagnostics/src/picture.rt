@@ -4,7 +4,6 @@ use crate::value::{Columns, Line};
 use rpg_cli_text::TextWriter;
 use rpg_text::trimmed;
 
-/// The columns of a card.
 const COLUMNS: usize = 80;
 
 const MARGIN: &str = "      | ";
@@ -18,7 +17,6 @@ const BOLD_RED: &str = "\x1b[1;31m";
 
 const PLAIN: &str = "\x1b[0m";
 
-/// Writes a character so many times.
 pub fn write_times(out: &mut TextWriter, character: char, count: usize) {
     for _ in 0..count {
         out.write_char(character);

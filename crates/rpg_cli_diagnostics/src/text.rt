@@ -26,7 +26,6 @@ fn write_head(out: &mut TextWriter, place: Option<Place<'_>>, level: Level) {
     out.fill(": {}: ", &[level.text().into()]);
 }
 
-/// Writes the line of a place, if it is shown.
 fn write_shown_line(out: &mut TextWriter, place: Option<Place<'_>>, has_colours: bool) {
     if let Some(
         Place {
@@ -41,7 +40,6 @@ fn write_shown_line(out: &mut TextWriter, place: Option<Place<'_>>, has_colours:
     }
 }
 
-/// Writes a remark as a line, with its picture.
 pub fn write_note_text(
     out: &mut TextWriter,
     place: Option<Place<'_>>,

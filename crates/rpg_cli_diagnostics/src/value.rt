@@ -6,7 +6,6 @@ use std::alloc::AllocError;
 /// What was made, unless memory ran out for it.
 pub type Made<T> = Result<T, AllocError>;
 
-/// How bad it is.
 #[derive(Clone, Copy, PartialEq, Eq)]
 pub enum Level {
     Error,
@@ -48,18 +47,15 @@ pub struct Line<'a> {
     pub bytes: &'a [u8],
     /// The line in its new form: only columns that differ are marked. Empty if all are.
     pub new: &'a [u8],
-    /// Whether the text has a picture of it.
     pub is_shown: bool,
 }
 
 impl<'a> Line<'a> {
-    /// Returns the line with its new form.
     pub fn changed_to(self, new: &'a [u8]) -> Line<'a> {
         Line { new, ..self }
     }
 }
 
-/// Where in a file.
 #[derive(Clone, Copy)]
 pub enum At<'a> {
     Whole,
@@ -72,7 +68,6 @@ pub enum At<'a> {
     Offset(u64),
 }
 
-/// A file, and where in it.
 #[derive(Clone, Copy)]
 pub struct Place<'a> {
     pub file: FileName<'a>,
@@ -80,7 +75,6 @@ pub struct Place<'a> {
 }
 
 impl<'a> FileName<'a> {
-    /// The file as a whole.
     pub fn whole(self) -> Place<'a> {
         Place {
             file: self,

@@ -63,7 +63,6 @@ impl HaltedCycle {
     }
 }
 
-/// The names of a job's input files.
 #[derive(Clone, Copy)]
 pub struct InputNames<'a> {
     pub primary: FileName<'a>,
@@ -76,7 +75,6 @@ fn has_two_files(program: &Verified) -> bool {
 }
 
 impl<'a> InputNames<'a> {
-    /// Returns the name of an input file.
     fn of(self, file: InputFile) -> FileName<'a> {
         match (file, self.secondary) {
             (InputFile::Secondary, Some(secondary)) => secondary,
@@ -96,7 +94,6 @@ struct HaltContext<'a> {
     found: RecordProblem<'a>,
 }
 
-/// What is wrong with the record of a halt, and its text.
 #[derive(Clone, Copy)]
 enum RecordProblem<'a> {
     Nothing,
@@ -106,9 +103,7 @@ enum RecordProblem<'a> {
     Byte(usize, &'a [u8]),
     /// It is longer than its file's records, which have this many columns.
     TooLong(usize, &'a [u8]),
-    /// Its match value.
     Lower(Lower<'a>),
-    /// It fits no type.
     NoType(&'a [u8]),
 }
 
@@ -251,7 +246,6 @@ impl<'a> HaltContext<'a> {
         }
     }
 
-    /// Writes what is kept of the cycles before.
     fn write_kept(self, out: &mut TextWriter) {
         let before = self.halted.cycles.saturating_sub(1);
         let end = match before {

@@ -10,7 +10,6 @@ use std::alloc::{AllocError, Global};
 #[derive(Clone, Copy)]
 pub struct LastRead<'a> {
     pub file: InputFile,
-    /// The bytes that were read last.
     pub bytes: &'a [u8],
     /// How many of them begin with the last line; none at the end of the file.
     pub left: usize,
@@ -42,7 +41,6 @@ pub struct HaltedRecord<'a> {
 pub(crate) struct Lower<'a> {
     /// The column in which its first match field begins, from 1.
     pub column: usize,
-    /// The text of the record.
     pub text: &'a [u8],
     pub value: &'a [u8],
     pub before: &'a [u8],
@@ -164,7 +162,6 @@ impl<'a> HaltedRecord<'a> {
         &self.kept.record
     }
 
-    /// Returns the match value, if it is too low.
     pub(crate) fn lower(&self, program: &Verified) -> Option<Lower<'_>> {
         let own = program.program().rows().types.get(self.row?)?;
         Some(Lower {

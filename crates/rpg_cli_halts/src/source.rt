@@ -80,7 +80,6 @@ impl<'a> HaltedSource<'a> {
         out.fill(sentence, &[target.into()]);
     }
 
-    /// Adds the card of the instruction that halted.
     fn add_instruction(self, draft: &mut Draft<'a>, program: &Program, place: usize) {
         let card = self.rows.place_card(place);
         if let (Some(placed), Some(card)) = (placed_at(program, place), card) {

@@ -10,7 +10,6 @@ use rpg_program::operation::Index;
 use rpg_program::rows::{Line, RecordType, Rows};
 use rpg_text::is_blank;
 
-/// How many types are shown.
 const MOST: usize = 3;
 
 const COMMAS: &str =

@@ -45,7 +45,6 @@ pub fn open_files<'a, R: Files + AllocGlobal, L: Listener>(
     })
 }
 
-/// Opens a file for reading, if there is one.
 fn read_file<R: Files>(
     rt: &R,
     argument: FileArgument,
@@ -149,7 +148,6 @@ pub fn empty_files<R: Files + AllocGlobal, L: Listener>(
     Ok(())
 }
 
-/// What a run reads and writes.
 #[derive(Drop)]
 pub struct Devices<'r, F: Drop, S: Drop, P: Drop> {
     pub input: RecordSource<F, S>,

@@ -87,7 +87,6 @@ pub(crate) fn write_cards(
     Ok(())
 }
 
-/// Returns the ending of a noun with this count.
 fn counted(count: usize) -> &'static str {
     if count == 1 { "" } else { "s" }
 }

@@ -10,7 +10,6 @@ use std::alloc::Global;
 /// The columns before the other cards that name a file.
 const NAMED: usize = 23;
 
-/// Returns what a record of a file consists of.
 pub(crate) fn length_words(file: &FileSpec) -> &'static str {
     match use_of(file) {
         FileUse::Primary | FileUse::Secondary | FileUse::Disk => "columns",
@@ -35,7 +34,6 @@ pub(crate) fn write_heading(
     out.write_char('\n');
 }
 
-/// Returns the file that a card names for a record type or a line.
 fn named_file(card: &SpecCard) -> Option<&Word<8>> {
     match card.record_type() {
         Some(record_type) => record_type.file.as_ref(),

@@ -43,7 +43,6 @@ fn spacing_of(movement: Movement) -> Spacing {
     spacing
 }
 
-/// Writes when a line is written.
 fn write_head(
     out: &mut TextWriter,
     card: u16,
@@ -223,7 +222,6 @@ impl Chart {
         }
     }
 
-    /// Draws a character in all places of a range.
     pub fn fill(&mut self, first: u16, last: u16, character: u8) {
         let before = usize::from(first).saturating_sub(1);
         let count = usize::from(last).saturating_sub(before);
@@ -232,7 +230,6 @@ impl Chart {
         }
     }
 
-    /// Draws a text over the places from `first` on.
     pub fn draw(&mut self, first: usize, text: &[u8]) {
         let before = first.saturating_sub(1);
         for (place, character) in self.places.iter_mut().skip(before).zip(text) {

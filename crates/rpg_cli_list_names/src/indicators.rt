@@ -23,7 +23,6 @@ const TURNED: usize = 40;
 /// How many cards that test an indicator go on a line.
 const ON_A_LINE: usize = 8;
 
-/// How an input field turns on its indicators.
 const SHOWN: [&str; 3] = [
     "input field plus",
     "input field minus",
@@ -49,7 +48,6 @@ struct IndicatorUses {
     tested: Vec<Testing>,
 }
 
-/// All indicators, by number.
 #[derive(Drop)]
 pub struct Indicators {
     uses: Vec<IndicatorUses>,

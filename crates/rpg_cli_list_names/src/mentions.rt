@@ -11,7 +11,6 @@ const ON_A_LINE: usize = 12;
 
 const COLUMN: usize = 10;
 
-/// How a card uses what it names.
 #[derive(Clone, Copy, PartialEq, Eq)]
 pub enum By {
     Giving,

@@ -57,7 +57,6 @@ fn looks_like_ebcdic(line: &[u8]) -> bool {
     begin.iter().filter(|byte| is_ebcdic(**byte)).count() > begin.len() / 2
 }
 
-/// Whether all bytes of a line are characters or carriage returns.
 fn is_text(line: &[u8]) -> bool {
     line.iter()
         .all(|byte| is_character(*byte) || *byte == b'\r')

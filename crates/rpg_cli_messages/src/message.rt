@@ -94,7 +94,10 @@ impl<'a> Told<'a> {
     /// Adds a slip that stands for the faults of all cards, and how many cards have it.
     fn add_slip(&mut self, slip: DeckSlip, topic: Topic) {
         let line = CardLines::of(self.source).line_of(slip.first);
-        let place = self.file.card(slip.first, Some(slip.columns()), line);
+        let first = slip.slip.column();
+        let place = self
+            .file
+            .card(slip.first, Some(Columns { first, last: first }), line);
         let mut draft = Draft::new(self.alloc, Level::Error, Some(place), Some(topic));
         slip.write(&mut draft);
         self.out.push(draft.finish());
@@ -105,7 +108,6 @@ impl<'a> Told<'a> {
         }
     }
 
-    /// Adds all faults that are known, and how many there are.
     fn add_known(&mut self, judged: &SourceFaults, most: u16) -> Made<()> {
         let known = KnownFaults::of(self.alloc, self.source, judged)?;
         let faults = known.faults(self.alloc)?;
@@ -143,7 +145,11 @@ impl<'a> Told<'a> {
             };
             let first = mistakes.get(&mistake).copied();
             let draft = match first {
-                Some(first) => self.follower(line, at, mistake, first),
+                Some(first) => {
+                    let mut draft = self.begin(line, fault, false);
+                    write_follower(&mut draft.message, mistake, first);
+                    draft
+                }
                 None => self.mistaken(line, at, mistake),
             };
             self.out.push(draft.finish());
@@ -165,17 +171,9 @@ impl<'a> Told<'a> {
         Draft::new(self.alloc, Level::Error, Some(place), Some(topic))
     }
 
-    /// Returns a fault, with what is wrong.
     fn fault(&self, line: &'a [u8], at: FaultAt<'_>) -> Draft<'a> {
         let mut draft = self.begin(line, at.fault, true);
         write_sentence(&mut draft, at);
-        draft
-    }
-
-    /// Returns a fault whose cause is already reported, at the fault of this card.
-    fn follower(&self, line: &'a [u8], at: FaultAt<'_>, mistake: Mistake, first: u16) -> Draft<'a> {
-        let mut draft = self.begin(line, at.fault, false);
-        write_follower(&mut draft.message, mistake, first);
         draft
     }
 
@@ -189,14 +187,13 @@ impl<'a> Told<'a> {
         if character_at(line, 6) == b'I' {
             let mut remark = draft.text();
             remark.write_str("a field without decimals is a text");
-            let place = self.file.card(card, marked(Some(DECIMALS)), line);
+            let place = self.file.card(card, marked(Some(column(52))), line);
             draft.add(Some(place), remark);
         }
         draft
     }
 }
 
-/// Returns the topic of a code.
 pub fn topic_of(code: SourceCode) -> Topic {
     match code {
         SourceCode::Sheet(code) => Topic::Sheet(usize::from(code.number())),
@@ -204,7 +201,6 @@ pub fn topic_of(code: SourceCode) -> Topic {
     }
 }
 
-/// Returns the columns of a card as those of a diagnostic.
 pub fn marked(columns: Option<ColumnFault>) -> Option<Columns> {
     let ColumnFault { column, last } = columns?;
     Some(Columns {
@@ -223,17 +219,12 @@ enum Mistake {
 }
 
 fn mistake_of(at: FaultAt<'_>) -> Option<Mistake> {
-    let FaultAt {
-        line,
-        source,
-        fault,
-    } = at;
-    match fault.code {
+    match at.fault.code {
         SourceCode::Sheet(SheetCode::S4) => {
-            Some(Mistake::Later(later_card(source.text, fault.card, line)?))
+            Some(Mistake::Later(later_card(at.source.text, at.fault.card, at.line)?))
         }
         SourceCode::Sheet(_) => None,
-        SourceCode::Fault(_) => Some(Mistake::Root(root_of(source, line, fault)?)),
+        SourceCode::Fault(_) => Some(Mistake::Root(root_of(at.source, at.line, at.fault)?)),
     }
 }
 
@@ -257,13 +248,6 @@ fn write_follower(out: &mut TextWriter, mistake: Mistake, first: u16) {
     out.fill_one(sentence, card);
 }
 
-/// The columns of an input field's decimals.
-const DECIMALS: ColumnFault = ColumnFault {
-    column: 52,
-    last: 52,
-};
-
-/// Returns the columns that a fault points at, if its code says which.
 pub(crate) fn columns_of(line: &[u8], fault: &CardFault) -> Option<ColumnFault> {
     match fault.code {
         SourceCode::Sheet(SheetCode::S1) => Some(column(81)),
@@ -300,31 +284,23 @@ pub fn object_diagnostic(alloc: Global, file: FileName<'_>) -> Made<Diagnostic<'
 /// Writes what is wrong: the rule that is broken, and the numbers on the cards that break it. The first card of an object program is
 /// always at fault, and stands for all of it.
 pub(crate) fn write_sentence(draft: &mut Draft<'_>, at: FaultAt<'_>) {
-    let FaultAt {
-        line,
-        source,
-        fault,
-    } = at;
-    if fault.card == 1 && is_object(source.text) {
-        draft.message.write_str(OBJECT);
-        return;
-    }
-    let code = match fault.code {
+    let (source, fault) = (at.source, at.fault);
+    match fault.code {
+        _ if fault.card == 1 && is_object(source.text) => draft.message.write_str(OBJECT),
+        SourceCode::Sheet(code) => {
+            write_unread(draft, at, code);
+            if matches!(code, SheetCode::S3 | SheetCode::S4 | SheetCode::S5) {
+                write_unmarked(&mut draft.message, source.text, fault.card);
+            }
+        }
         SourceCode::Fault(_) => {
-            if !write_cause(&mut draft.message, source, line, fault) {
+            if !write_cause(&mut draft.message, source, at.line, fault) {
                 draft.message.write_str(topic_of(fault.code).sentence());
             }
-            return;
         }
-        SourceCode::Sheet(code) => code,
-    };
-    write_unread(draft, at, code);
-    if matches!(code, SheetCode::S3 | SheetCode::S4 | SheetCode::S5) {
-        write_unmarked(&mut draft.message, source.text, fault.card);
     }
 }
 
-/// Writes why a card can't be read.
 fn write_unread(draft: &mut Draft<'_>, at: FaultAt<'_>, code: SheetCode) {
     let (line, text, card) = (at.line, at.source.text, at.fault.card);
     match (code, at.fault.columns) {
@@ -344,7 +320,6 @@ fn write_unread(draft: &mut Draft<'_>, at: FaultAt<'_>, code: SheetCode) {
     }
 }
 
-/// Returns a card, if it can be read.
 fn card_of(line: &[u8; 80], number: u16) -> Option<SpecCard> {
     if !has_only_characters(line) {
         return None;
@@ -410,15 +385,6 @@ pub fn write_reported(out: &mut TextWriter, most: u16) {
     out.fill(sentence, &[most.into()]);
 }
 
-/// Writes a mark under these columns of a card, which begins after `margin` blanks.
-fn write_mark(out: &mut TextWriter, margin: usize, columns: ColumnFault) {
-    let first = usize::from(columns.column);
-    let last = usize::from(columns.last);
-    write_times(out, ' ', margin.saturating_add(first.saturating_sub(1)));
-    write_times(out, '^', last.saturating_add(1).saturating_sub(first));
-    out.write_char('\n');
-}
-
 /// Writes what is wrong, and what belongs to it, on one line.
 fn write_fault(alloc: Global, out: &mut TextWriter, at: FaultAt<'_>) -> Made<()> {
     let mut draft = Draft::new(alloc, Level::Error, None, None);
@@ -442,8 +408,11 @@ pub fn write_note(
     source: SourceCards<'_>,
     fault: &CardFault,
 ) -> Made<()> {
-    if let Some(columns) = columns_of(line, fault) {
-        write_mark(out, margin, columns);
+    if let Some(ColumnFault { column, last }) = columns_of(line, fault) {
+        let before = usize::from(column).saturating_sub(1);
+        write_times(out, ' ', margin.saturating_add(before));
+        write_times(out, '^', usize::from(last).saturating_sub(before));
+        out.write_char('\n');
     }
     let code = fault.code.text();
     let blanks = margin.saturating_sub(code.len().saturating_add(1));

@@ -13,7 +13,6 @@ use rpg_faults::{
 use rpg_sheet::MOST_CARDS;
 use std::alloc::{AllocError, Global};
 
-/// The form types of sheets.
 const SHEETS: &[u8; 7] = b"HFELICO";
 
 const DEPENDENT: &str = "; faults that depend on {} cards are looked for once {} be read";
@@ -24,9 +23,7 @@ pub struct Unread {
     is_any: bool,
     /// For each sheet whether one of them may be of it.
     sheets: [bool; 7],
-    /// Whether one of them begins data.
     begins_data: bool,
-    /// Whether one of them is data.
     is_data: bool,
 }
 
@@ -92,9 +89,7 @@ impl Unread {
         let they_can = if is_one { "it can" } else { "they can" };
         match (count, self.begins_data || self.is_data) {
             (0, false) => {}
-            (1, false) => {
-                out.fill_two(DEPENDENT, last, they_can);
-            }
+            (1, false) => out.fill_two(DEPENDENT, last, they_can),
             _ => out.fill_one("; other checks run once {}", they_can),
         }
     }
@@ -189,7 +184,6 @@ impl<'a> KnownFaults<'a> {
         })
     }
 
-    /// Returns the cards that can be read.
     pub fn cards(&self) -> &[SpecCard] {
         match &self.others {
             Some(others) => &others.cards,
@@ -249,12 +243,10 @@ fn next_of<'a>(first: &mut &'a [CardFault], second: &mut &'a [CardFault]) -> Opt
     }
 }
 
-/// Whether a fault means that its card can't be read.
 fn is_unread(fault: &CardFault) -> bool {
     matches!(fault.code, SourceCode::Sheet(_))
 }
 
-/// Returns how many cards can't be read.
 pub fn count_unread(faults: &[&CardFault]) -> usize {
     faults.iter().filter(|fault| is_unread(fault)).count()
 }

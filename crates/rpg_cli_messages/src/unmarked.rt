@@ -3,7 +3,7 @@
 
 use rpg_cli_causes::CardLines;
 use rpg_cli_columns::{character_at, has_card_number};
-use rpg_cli_diagnostics::{Columns, Draft};
+use rpg_cli_diagnostics::Draft;
 use rpg_cli_shorthand::{begins_data, ends_source, is_shorthand};
 use rpg_cli_text::TextWriter;
 use rpg_faults::{CardFault, SourceCode};
@@ -14,9 +14,8 @@ use rpg_text::{has_only_characters, is_blank};
 /// The tables and lines of a source.
 #[derive(Clone, Copy)]
 struct Tally {
-    /// How many E cards want data.
+    /// How many E cards have entries per card: their data come after a `**` card.
     wanted: usize,
-    /// How many cards begin data.
     begun: usize,
     /// The last O card; 0 if there is none.
     last_line: u16,
@@ -27,18 +26,14 @@ fn is_card(line: &[u8], form: u8) -> bool {
     character_at(line, 6) == form && character_at(line, 7) != b'*' && has_card_number(line)
 }
 
-/// Whether a line is an E card with entries per card, whose data come after a `**` card.
-fn expects_data(line: &[u8]) -> bool {
-    is_card(line, b'E') && !is_blank(line.get(32..line.len().min(35)).unwrap_or(&[]))
-}
-
 impl Tally {
     /// Counts a card. After the first `**` card there are no sheets.
     fn note(&mut self, card: u16, line: &[u8]) {
         if begins_data(line) {
             self.begun = self.begun.saturating_add(1);
         } else if self.begun == 0 {
-            if expects_data(line) {
+            let entries = line.get(32..line.len().min(35)).unwrap_or(&[]);
+            if is_card(line, b'E') && !is_blank(entries) {
                 self.wanted = self.wanted.saturating_add(1);
             }
             if is_card(line, b'O') {
@@ -102,7 +97,6 @@ pub(crate) fn write_shorthand(out: &mut TextWriter, text: &[u8], number: u16, li
     }
 }
 
-/// An earlier card, and its form type.
 #[derive(Clone, Copy, PartialEq, Eq, Hash)]
 pub(crate) struct LaterCard {
     pub card: u16,
@@ -156,7 +150,6 @@ pub(crate) enum Slip {
     /// The form type stands in this column.
     Moved { column: usize },
     SmallLetters,
-    /// The source is free-form RPG IV.
     Free,
 }
 
@@ -168,17 +161,7 @@ pub(crate) struct DeckSlip {
     pub cards: usize,
 }
 
-/// Whether a source begins with the word of free-form RPG IV.
-fn is_free(source: &[u8]) -> bool {
-    matches!(source.get(..6), Some(word) if word.eq_ignore_ascii_case(b"**FREE"))
-}
-
-/// Returns the column of the first character that is neither a blank nor a digit, where a form type may stand.
-fn form_column(line: &[u8]) -> Option<usize> {
-    (1..=LAST).find(|column| !matches!(character_at(line, *column), b' ' | b'0'..=b'9'))
-}
-
-/// Returns the slip of a card by itself.
+/// Returns the slip of a card by itself. A form type may stand where the first character is that is neither a blank nor a digit.
 fn slip_of(line: &[u8]) -> Option<Slip> {
     if matches!(
         character_at(line, FORM_TYPE),
@@ -189,7 +172,8 @@ fn slip_of(line: &[u8]) -> Option<Slip> {
     if is_shorthand(line) {
         return None;
     }
-    let column = form_column(line)?;
+    let mut columns = 1..=LAST;
+    let column = columns.find(|at| !matches!(character_at(line, *at), b' ' | b'0'..=b'9'))?;
     match character_at(line, column) {
         b'H' | b'F' | b'E' | b'L' | b'I' | b'C' | b'O' => Some(Slip::Moved { column }),
         _ => None,
@@ -197,18 +181,12 @@ fn slip_of(line: &[u8]) -> Option<Slip> {
 }
 
 impl Slip {
-    /// Returns the column that it is about.
-    fn column(self) -> usize {
+    pub fn column(self) -> usize {
         match self {
             Slip::Moved { column } => column,
             Slip::SmallLetters => FORM_TYPE,
             Slip::Free => 1,
         }
-    }
-
-    /// Whether a line is a comment once its card is where it belongs.
-    fn is_comment(self, line: &[u8]) -> bool {
-        character_at(line, self.column().saturating_add(1)) == b'*'
     }
 }
 
@@ -226,7 +204,9 @@ fn common_slip(source: &[u8]) -> Option<DeckSlip> {
         }
         let slip = slip_of(line);
         found = match (found, slip) {
-            (Some(deck), _) if deck.slip.is_comment(line) => Some(deck),
+            // A comment, once its card is where it belongs.
+            (Some(deck), _) if character_at(line, deck.slip.column().saturating_add(1)) == b'*' =>
+                Some(deck),
             (None, Some(slip)) => Some(DeckSlip::at(slip, first)),
             (Some(deck), Some(slip)) if deck.slip == slip => Some(DeckSlip {
                 cards: deck.cards.saturating_add(1),
@@ -239,7 +219,6 @@ fn common_slip(source: &[u8]) -> Option<DeckSlip> {
 }
 
 impl DeckSlip {
-    /// The slip of one card.
     fn at(slip: Slip, first: u16) -> Self {
         let cards = 1;
         DeckSlip { slip, first, cards }
@@ -247,7 +226,7 @@ impl DeckSlip {
 
     /// Returns the slip of a source with these faults, if all its cards have one.
     pub fn of(source: &[u8], faults: &[CardFault]) -> Option<DeckSlip> {
-        if is_free(source) {
+        if matches!(source.get(..6), Some(word) if word.eq_ignore_ascii_case(b"**FREE")) {
             return Some(DeckSlip::at(Slip::Free, 1));
         }
         let is_of_form = |fault: &&CardFault| matches!(
@@ -262,11 +241,6 @@ impl DeckSlip {
         (LEAST <= found.cards && found.cards <= count).then_some(found)
     }
 
-    pub fn columns(self) -> Columns {
-        let first = self.slip.column();
-        Columns { first, last: first }
-    }
-
     /// Writes what it is, and adds the command that mends a file.
     pub fn write(self, draft: &mut Draft<'_>) {
         let sentence = match self.slip {
@@ -279,17 +253,10 @@ impl DeckSlip {
         draft
             .message
             .fill_two(sentence, self.cards, self.slip.column());
-        match draft.path() {
-            Some(path) if path != "-" => self.add_command(draft, path),
-            _ => {}
-        }
-    }
-
-    /// Adds the command that mends the file at a path.
-    fn add_command(self, draft: &mut Draft<'_>, path: &str) {
+        let path = draft.path().unwrap_or("-").as_bytes();
         let mut remark = draft.text();
-        let path = path.as_bytes();
         match self.slip {
+            _ if path == b"-".as_slice() => return,
             Slip::Moved { column } if column < FORM_TYPE => {
                 remark.write_str("sed 's/^/");
                 for _ in column..FORM_TYPE {

@@ -108,7 +108,6 @@ struct Tally {
     sources: u64,
     rejected: u64,
     unread: u64,
-    /// The greatest exit status.
     status: u8,
 }
 
@@ -196,7 +195,6 @@ impl<R: Files + Input + AllocGlobal, L: Listener> Session<'_, '_, R, L> {
         Ok(tally.answer())
     }
 
-    /// Checks one source, or several.
     pub fn check(&mut self) -> Ended {
         let request = self.request;
         if let Some(same) = shared_input(&request.sources) {

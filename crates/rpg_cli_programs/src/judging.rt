@@ -27,7 +27,6 @@ pub fn compiled(alloc: Global, source: &[u8], allowance: u16) -> Result<Compiled
     Ok(compile_to_object(alloc, source, allowance)?)
 }
 
-/// Returns the bound of the program in these bytes.
 pub fn verified(alloc: Global, object: &[u8]) -> Result<u64, Answer>
     ensures accepted { IfOk result (λ bound. IsAcceptedWith bound object.now) }
     ensures refused { IfErr result (λ answer. ReportsObject answer object.now) }

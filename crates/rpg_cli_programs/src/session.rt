@@ -11,7 +11,6 @@ use rpg_engine::{ObjectFault, decode_object};
 use std::alloc::Global;
 use std::rt::Files;
 
-/// How a command ends.
 pub(crate) type Ended = Result<Answer, CommandStop>;
 
 /// A command: the machine, the arguments, and who takes the diagnostics.
@@ -39,7 +38,6 @@ impl<'s, 'a, R: Files + Input + AllocGlobal, L: Listener> Session<'s, 'a, R, L> 
         file_of(self.request, FileArgument::Source)
     }
 
-    /// Reads SRC.
     pub(crate) fn source(&self) -> Result<Vec<u8>, Answer> {
         named(
             FileArgument::Source,
@@ -47,18 +45,15 @@ impl<'s, 'a, R: Files + Input + AllocGlobal, L: Listener> Session<'s, 'a, R, L> 
         )
     }
 
-    /// Reads OBJ.
     pub(crate) fn object(&self) -> Result<Vec<u8>, Answer> {
         let path = self.request.file(FileArgument::Object);
         named(FileArgument::Object, file_bytes(self.rt, path))
     }
 
-    /// Reports the faults of SRC.
     pub(crate) fn report_faults(&mut self, source: &[u8], most: u16) {
         report_faults(self.alloc(), self.file(), source, most, self.listener);
     }
 
-    /// Reports what is wrong with the bytes of OBJ.
     pub(crate) fn report_object(&mut self, object: &[u8], fault: ObjectFault) {
         let file = file_of(self.request, FileArgument::Object);
         report_object(self.alloc(), file, object, fault, self.listener);

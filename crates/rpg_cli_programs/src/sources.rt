@@ -15,7 +15,6 @@ use rpg_meaning::CompiledSource;
 use std::alloc::{AllocError, Global};
 use std::rt::Files;
 
-/// The most faults of the source that are listed.
 const MAX_LISTED: u16 = 20;
 
 /// The source of the program: its name, what it compiles to, and the cards of its rows.
@@ -27,7 +26,6 @@ pub struct OwnSource<'a> {
 }
 
 impl<'a> OwnSource<'a> {
-    /// Returns the source's cards by row.
     pub fn of(
         alloc: Global,
         file: FileName<'a>,
@@ -107,7 +105,6 @@ fn object_diagnostic<'a>(
     }
 }
 
-/// Reports what is wrong with the bytes of an object file.
 pub fn report_object<L: Listener>(
     alloc: Global,
     file: FileName<'_>,

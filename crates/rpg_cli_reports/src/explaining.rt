@@ -6,7 +6,6 @@ use rpg_cli_text::{HALTS, Topic, all_pages, list_text, pages_text, topic_of};
 use rpg_cli_words::Request;
 use std::alloc::{AllocError, Global};
 
-/// Returns the halt with this number.
 fn halt_of(alloc: Global, number: &str) -> Result<Option<Topic>, AllocError> {
     let name = format!(in alloc; "halt{number}")?;
     Ok(topic_of(name.as_str()))
@@ -69,7 +68,6 @@ fn text_of(alloc: Global, request: &Request) -> Result<Option<String>, AllocErro
 const CODES: &str =
     "codes are S1 to S6, F1 to F18, W1 to W15, V1 to V26, B1 to B7, A1 to A30, and halt 1 to halt 8";
 
-/// Prints the pages of codes.
 pub fn explain<L: Listener>(
     alloc: Global,
     request: &Request,

@@ -120,7 +120,6 @@ fn failed_file(answer: &Answer, reasons: Reasons) -> Option<(FileArgument, Optio
     })
 }
 
-/// Writes why a file failed.
 fn write_failed(out: &mut TextWriter, answer: &Answer, role: &str, reason: Option<Reason>) {
     match *answer {
         Answer::File { fault, .. } => write_file_fault(out, role, fault),
@@ -189,7 +188,6 @@ pub fn report_source_fault<L: Listener>(
     tell_any(listener, draft.finish());
 }
 
-/// Reports which file failed and why.
 pub fn report_answer<L: Listener>(
     alloc: Global,
     request: &Request,

@@ -46,15 +46,12 @@ impl Remark {
 pub struct StandardStreams<'a, R> {
     rt: &'a R,
     format: Format,
-    /// Whether marks on standard error are coloured.
     has_colours: bool,
-    /// Whether a diagnostic was lost.
     has_lost: bool,
     /// Lines that aren't printed yet.
     lines: TextWriter,
     /// Whether the last diagnostic is an error, to which remarks belong.
     takes_remarks: bool,
-    /// The object of that error.
     object: Option<Writer>,
     remarks: Vec<Remark>,
 }
@@ -89,7 +86,6 @@ impl<R: Print + Eprint + AllocGlobal> StandardStreams<'_, R> {
         }
     }
 
-    /// Prints the lines that wait.
     fn pass_lines(&mut self) {
         let lines = mem::replace(&mut self.lines, TextWriter::new(self.rt.alloc()));
         self.print_made(lines.finish());
@@ -110,7 +106,6 @@ impl<R: Print + Eprint + AllocGlobal> StandardStreams<'_, R> {
         }
     }
 
-    /// Prints the object that waits.
     fn pass_object(&mut self) {
         if let Some(out) = self.object.take() {
             self.print_made(object_line(out));
@@ -126,7 +121,6 @@ impl<R: Print + Eprint + AllocGlobal> StandardStreams<'_, R> {
         self.print_made(note);
     }
 
-    /// Adds a remark to the last diagnostic.
     fn add(&mut self, file: FileName<'_>, message: &str) {
         let place = Some(file.whole());
         let alloc = self.rt.alloc();
@@ -157,7 +151,6 @@ fn object_line(mut out: Writer) -> Made<String> {
     line_of(out)
 }
 
-/// Returns a note as text.
 fn note_text(
     alloc: Global,
     place: Option<Place<'_>>,
@@ -252,7 +245,6 @@ impl<R: Print + Eprint + AllocGlobal> Listener for StandardStreams<'_, R> {
     }
 }
 
-/// Standard error as a writer of text.
 #[derive(Drop)]
 pub struct StandardError<'a, R> {
     rt: &'a R,

@@ -22,7 +22,6 @@ fn are_listed(values: &[Value]) -> bool {
     values.len() > 1 && values.iter().any(|value| !is_empty(value))
 }
 
-/// Writes the value of a field at the start of a job.
 fn write_first(out: &mut TextWriter, form: FieldForm, values: &[Value]) {
     if form.class == Class::Date {
         out.write_str("the date of the job");
@@ -56,7 +55,6 @@ fn write_row(out: &mut TextWriter, shown: Shown, number: u16, form: FieldForm, v
     out.pad_to(first_end);
 }
 
-/// Writes a row for each field.
 pub(crate) fn write_fields(out: &mut TextWriter, at: &mut usize, shown: Shown<'_>, uses: &Uses) {
     out.write_str("\n    at  FIELD ");
     if shown.is_named {
@@ -73,7 +71,6 @@ pub(crate) fn write_fields(out: &mut TextWriter, at: &mut usize, shown: Shown<'_
     }
 }
 
-/// Writes the entries of a field, one a line.
 fn write_entries(out: &mut TextWriter, begin: usize, form: FieldForm, values: &[Value]) {
     let mut at = begin;
     for (i, value) in values.iter().enumerate() {
@@ -112,7 +109,6 @@ enum By {
     Line,
 }
 
-/// A row that uses a field.
 #[derive(Clone, Copy)]
 struct RowUse {
     by: By,
@@ -123,7 +119,6 @@ struct RowUse {
 #[derive(Drop)]
 pub(crate) struct Uses {
     fields: Vec<Vec<RowUse>>,
-    /// Whether memory ran out for a list.
     ran_out: bool,
 }
 
@@ -212,7 +207,6 @@ impl Uses {
         }
     }
 
-    /// Returns what uses each field of a program.
     pub fn of(alloc: Global, program: &Program) -> Result<Self, AllocError> {
         let mut uses = Uses {
             fields: Vec::new(alloc),

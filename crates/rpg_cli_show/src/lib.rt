@@ -2,10 +2,8 @@
 #![tactic(auto)]
 
 mod fields;
-mod header;
-mod instructions;
-mod lines;
 mod program;
+mod rows;
 mod shown;
 
 pub use program::{program_overview, program_text};

@@ -1,31 +1,22 @@
-//! A program as text, and what it reads, writes and needs, in words.
+//! A program as text, and what it reads, writes and needs, in words: its files, the sizes of its tables, and the bound of an accepted program,
+//! with its parts.
 
 use crate::fields::{Uses, write_fields, write_first_values};
-use crate::header::{write_bound, write_form, write_header, write_length, write_version};
-use crate::instructions::write_sections;
-use crate::lines::{write_lines, write_types};
-use crate::shown::{Judged, Shown, write_refusal};
-use rpg_cli_show_fields::{SourceRows, uses_date};
+use crate::rows::{write_lines, write_sections, write_types};
+use crate::shown::{Judged, Shown, Table, write_refusal};
+use rpg_cli_show_fields::{SourceRows, uses_date, write_named};
 use rpg_cli_text::TextWriter;
 use rpg_object::encode;
+use rpg_paper::Page;
 use rpg_program::Program;
-use rpg_program::input::ControlField;
-use rpg_program::rows::Rows;
+use rpg_program::input::InputFile;
+use rpg_program::line::Time;
+use rpg_program::operation::Instruction;
+use rpg_program::rows::{Overflow, Rows};
 use rpg_verify::Verified;
 use std::alloc::{AllocError, Global};
 
-/// A text, unless memory ran out.
 type Text = Result<String, AllocError>;
-
-fn write_tables(out: &mut TextWriter, shown: Shown<'_>, uses: &Uses) {
-    let has_page = shown.rows.version.has_page();
-    let mut at = if has_page { 38 } else { 32 };
-    write_fields(out, &mut at, shown, uses);
-    write_first_values(out, &mut at, shown);
-    write_types(out, &mut at, shown);
-    write_lines(out, &mut at, shown);
-    write_sections(out, &mut at, shown);
-}
 
 /// Returns the text of a program, with its bound if it is accepted.
 fn shown_text(alloc: Global, program: &Program, shown: Shown, bound: Option<u64>) -> Text {
@@ -40,7 +31,13 @@ fn shown_text(alloc: Global, program: &Program, shown: Shown, bound: Option<u64>
     if let Some(broken) = shown.broken {
         write_refusal(&mut out, broken);
     }
-    write_tables(&mut out, shown, &uses);
+    let has_page = shown.rows.version.has_page();
+    let mut at = if has_page { 38 } else { 32 };
+    write_fields(&mut out, &mut at, shown, &uses);
+    write_first_values(&mut out, &mut at, shown);
+    write_types(&mut out, &mut at, shown);
+    write_lines(&mut out, &mut at, shown);
+    write_sections(&mut out, &mut at, shown);
     out.finish()
 }
 
@@ -83,14 +80,9 @@ const BYTES_OF_STEP: u64 = 10_000;
 const STEPS: &str =
     "  steps    a cycle takes at most {}\n  output   a cycle writes at most {} bytes, print and disk together\n";
 
-fn has_field(fields: &[ControlField], level: u8) -> bool {
-    fields.iter().any(|field| field.level == level)
-}
-
-/// Whether a record type has a control field of a level.
 fn has_level(rows: &Rows, level: u8) -> bool {
     let mut types = rows.types.iter();
-    types.any(|record_type| has_field(&record_type.levels, level))
+    types.any(|record_type| record_type.levels.iter().any(|field| field.level == level))
 }
 
 fn write_levels(out: &mut TextWriter, rows: &Rows) {
@@ -156,4 +148,143 @@ pub fn program_overview(alloc: Global, program: Program) -> Result<String, Alloc
         Judged::Refused(_, broken) => write_refusal(&mut out, *broken),
     }
     out.finish()
+}
+
+const TABLES: &str = "  tables   fields {}, record types {}, lines {}, ";
+
+const CODE: &str = "subroutines {},\n           instructions {} at detail time, {} at total time\n";
+
+const ALLOWANCE: &str = "  limit    {} backward branches and calls a cycle\n";
+
+/// Writes a sentence with the record or line length of a file, or that there is no such file.
+fn write_length(out: &mut TextWriter, sentence: &str, length: u16, none: &str) {
+    if length > 0 {
+        out.fill_one(sentence, length);
+    } else {
+        out.write_str(none);
+    }
+}
+
+fn write_version(out: &mut TextWriter, rows: &Rows, bytes: usize) {
+    let version = rows.version.number();
+    out.fill_two("object program, version {}, {} bytes\n", version, bytes);
+}
+
+/// Writes the page with the overflow indicator, and the file that ends the job alone. The standard page has a sentence of its own.
+pub(crate) fn write_form(out: &mut TextWriter, rows: &Rows, standard: &str) {
+    let Overflow { indicator, page } = rows.overflow;
+    let usual = Page::standard();
+    if page.lines == usual.lines && page.overflow_line == usual.overflow_line {
+        write_named(out, standard, indicator);
+    } else {
+        out.fill_one("  page     {} lines", page.lines);
+        write_named(out, ", {}", indicator);
+        if indicator.is_some() {
+            out.fill_one(" from line {}", page.overflow_line);
+        }
+        out.write_char('\n');
+    }
+    out.write_str(match rows.ends {
+        None => "",
+        Some(InputFile::Primary) => "  ends     with PRIMARY\n",
+        Some(InputFile::Secondary) => "  ends     with SECONDARY\n",
+    });
+}
+
+fn write_header(out: &mut TextWriter, shown: Shown<'_>) {
+    let rows = shown.rows;
+    let input = "  input    records of {} columns";
+    let printer = "  printer  lines of {} places";
+    let disk = "  disk     records of {} columns\n";
+    let (fields, types, lines) = (rows.fields.len(), rows.types.len(), rows.lines.len());
+    let subroutines = rows.subroutines.len();
+    write_length(out, input, rows.record_length, "");
+    write_length(out, ", of the secondary file {}", rows.secondary_length, "");
+    out.write_char('\n');
+    write_length(out, printer, rows.printer_length, "  printer  none");
+    write_named(out, ", overflow indicator {}", rows.overflow.indicator);
+    out.write_char('\n');
+    write_form(out, rows, "");
+    shown.write_broken(out, Table::Header, 0);
+    write_length(out, disk, rows.disk_length, "  disk     none\n");
+    out.fill_three(TABLES, fields, types, lines);
+    out.fill_three(CODE, subroutines, rows.detail.len(), rows.total.len());
+    out.fill_one(ALLOWANCE, rows.allowance);
+}
+
+/// Returns the weight of all record types: their codes, control fields, input fields and match fields.
+fn types_weight(rows: &Rows) -> u64 {
+    let mut sum: u64 = 0;
+    for record_type in &rows.types {
+        sum = sum
+            .saturating_add(record_type.codes.len() as u64)
+            .saturating_add(record_type.levels.len() as u64)
+            .saturating_add(record_type.inputs.len() as u64)
+            .saturating_add(record_type.matches.len() as u64);
+    }
+    sum
+}
+
+fn lines_weight(rows: &Rows) -> u64 {
+    let mut sum: u64 = 0;
+    for line in &rows.lines {
+        let is_meant = !matches!(&line.time, Time::Exception);
+        sum = sum.saturating_add(line.weight_where(is_meant));
+    }
+    sum
+}
+
+/// Returns the path cost of the first place of a section, 0 if it is empty.
+fn first_cost(costs: &[u64], place: usize, code: &[Instruction<u16>]) -> u64 {
+    match costs.get(place) {
+        Some(cost) if !code.is_empty() => *cost,
+        _ => 0,
+    }
+}
+
+const BOUND: &str = "  accepted, bound {}: a cycle takes at most so many steps, of these\n";
+
+const TYPES: &str = "for codes, control fields and input fields of all record types";
+
+const TYPES_WITH_MATCHES: &str =
+    "for codes, control fields, input fields and match fields of all record types";
+
+const LINES: &str = "for heading, detail and total lines and their fields";
+
+const DETAIL: &str = "for detail calculations, not counting loops and calls";
+
+const TOTAL: &str = "for total calculations, not counting loops and calls";
+
+/// Writes the steps of a part, if it has some, but no more than are left of the bound.
+fn write_part(out: &mut TextWriter, left: &mut u64, steps: u64, words: &str) {
+    let steps = steps.min(*left);
+    if steps > 0 {
+        out.fill_two("    {:>14} {}\n", steps, words);
+    }
+    *left = left.saturating_sub(steps);
+}
+
+fn write_bound(out: &mut TextWriter, rows: &Rows, bound: u64, costs: &[u64]) {
+    let (mut left, lines) = (bound, lines_weight(rows));
+    let types = if rows.version.has_secondary() {
+        TYPES_WITH_MATCHES
+    } else {
+        TYPES
+    };
+    out.fill_one(BOUND, bound);
+    write_part(out, &mut left, types_weight(rows), types);
+    write_part(out, &mut left, lines, LINES);
+    if rows.overflow.indicator.is_some() {
+        write_part(out, &mut left, lines, "for the same at an overflow");
+    }
+    write_part(out, &mut left, first_cost(costs, 0, &rows.detail), DETAIL);
+    let total = first_cost(costs, rows.detail.len(), &rows.total);
+    write_part(out, &mut left, total, TOTAL);
+    let rest = left;
+    write_part(
+        out,
+        &mut left,
+        rest,
+        "for all that branches back and calls lead to",
+    );
 }

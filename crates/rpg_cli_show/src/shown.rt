@@ -17,7 +17,6 @@ pub(crate) struct Shown<'a> {
     pub is_named: bool,
     /// The path costs of the places; empty for a rejected program.
     pub costs: &'a [u64],
-    /// The rule that a rejected program breaks.
     pub broken: Option<BrokenRule>,
 }
 
@@ -41,7 +40,6 @@ fn table_of(rule: Rule) -> Table {
     }
 }
 
-/// Returns how a row breaks a rule, in words.
 fn sentence_of_rule(rule: Rule) -> &'static str {
     Topic::Rule(usize::from(rule.number())).sentence()
 }
@@ -54,7 +52,6 @@ pub(crate) fn write_refusal(out: &mut TextWriter, broken: BrokenRule) {
     out.fill_three(REFUSED, broken.row, number, sentence);
 }
 
-/// A program that was verified, or that a rule rejects.
 #[derive(Drop)]
 pub(crate) enum Judged {
     Accepted(Verified),

@@ -79,7 +79,6 @@ fn is_date(class: Class) -> bool
     }
 }
 
-/// Whether a field is the date.
 fn is_date_at(rows: &Rows, field: u16) -> bool
     ensures { result ≡ words.is_date_at rows.now.fields.items field }
 {
@@ -114,7 +113,6 @@ fn column_uses(rows: &Rows, column: Option<Use<Operand<u16>>>) -> bool
     }
 }
 
-/// Whether an operand of an instruction uses the date.
 pub(crate) fn instruction_uses(rows: &Rows, instruction: Instruction<u16>) -> bool
     ensures { result ≡ words.instruction_uses rows.now.fields.items instruction }
 {
@@ -124,7 +122,6 @@ pub(crate) fn instruction_uses(rows: &Rows, instruction: Instruction<u16>) -> bo
         || column_uses(rows, row.result)
 }
 
-/// Whether a field of a line uses the date.
 pub(crate) fn field_uses(rows: &Rows, field: &LineField<u16>) -> bool
     ensures { result ≡ words.field_uses rows.now.fields.items field.now }
 {

@@ -9,7 +9,6 @@ use rpg_program::operation::{Index, Operand};
 use rpg_program::rows::Rows;
 use rpg_program::value::Value;
 
-/// Returns the value of a constant, and its decimals.
 pub fn constant_of(rows: &Rows, field: u16) -> Option<(&Value, u8)> {
     let form = form_at(rows, field)?;
     if !is_constant(form.class) {

@@ -28,7 +28,6 @@ pub struct SourceRows {
     types: Vec<RowCard>,
     lines: Vec<RowCard>,
     places: Vec<u16>,
-    /// Whether memory ran out for a list.
     ran_out: bool,
 }
 
@@ -165,22 +164,18 @@ impl SourceRows {
         self.field(number)?.card
     }
 
-    /// Returns the first card of a record type.
     pub fn type_card(&self, row: usize) -> Option<u16> {
         card_at(&self.types, row, 0)
     }
 
-    /// Returns the card of an input field of a record type.
     pub fn input_card(&self, row: usize, input: usize) -> Option<u16> {
         card_at(&self.types, row, input.saturating_add(1))
     }
 
-    /// Returns the first card of a line.
     pub fn line_card(&self, row: usize) -> Option<u16> {
         card_at(&self.lines, row, 0)
     }
 
-    /// Returns the card of a field of a line.
     pub fn line_field_card(&self, row: usize, field: usize) -> Option<u16> {
         card_at(&self.lines, row, field.saturating_add(1))
     }

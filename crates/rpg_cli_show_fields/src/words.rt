@@ -21,7 +21,6 @@ pub fn name_text(name: &[u8]) -> &str {
 pub struct Indicator(pub u8);
 
 impl Indicator {
-    /// Returns its name on cards.
     pub fn name(self) -> &'static str {
         indicator_name(self.0).unwrap_or("MR")
     }
@@ -128,7 +127,6 @@ fn write_number(out: &mut TextWriter, number: i64, decimals: u8) {
     }
 }
 
-/// Whether a value is zero or blank.
 pub fn is_empty(value: &Value) -> bool {
     match value {
         Value::Number(number) => *number == 0,

@@ -24,7 +24,6 @@ pub(crate) struct Values {
     fields: Vec<FieldValues>,
 }
 
-/// An entry of a field.
 #[derive(Clone, Copy)]
 pub(crate) struct EntryAt {
     pub field: u16,
@@ -32,7 +31,6 @@ pub(crate) struct EntryAt {
     pub position: u16,
 }
 
-/// Returns the number in an entry of a field, if it is one.
 fn number_at<S: Store + Drop>(memory: &Memory<'_, S>, field: u16, position: u16) -> Option<i64> {
     let form = form_at(memory.rows(), field)?;
     if position == 0 || position > form.entries {
@@ -44,7 +42,6 @@ fn number_at<S: Store + Drop>(memory: &Memory<'_, S>, field: u16, position: u16)
     }
 }
 
-/// Returns the text in an entry of a field, if it is one.
 fn text_at<'m, S: Store + Drop>(
     memory: &'m Memory<'_, S>,
     field: u16,
@@ -77,7 +74,6 @@ fn values_of<S: Store + Drop>(
     Ok(values)
 }
 
-/// Keeps the value of an entry.
 fn keep<S: Store + Drop>(memory: &Memory<'_, S>, field: u16, position: u16, value: &mut Value) {
     match value {
         Value::Number(old) => *old = number_at(memory, field, position).unwrap_or(*old),
@@ -90,49 +86,37 @@ fn keep<S: Store + Drop>(memory: &Memory<'_, S>, field: u16, position: u16, valu
 }
 
 impl<L: Listener> Told<'_, '_, L> {
-    /// Begins the line of an entry, up to its old value.
-    fn begin_entry(&mut self, at: EntryAt) {
+    /// Begins the line of an entry, up to its new value.
+    fn begin_entry(&mut self, at: EntryAt, old: &Value) {
         let names = self.names;
         self.out.fill("cycle {}: ", &[self.cycle.into()]);
         names.write_entry(&mut self.out, at);
         self.out.write_str(" was ");
-    }
-
-    fn report_number(&mut self, at: EntryAt, old: i64, new: i64) {
-        self.begin_entry(at);
-        write_value(&mut self.out, &Value::Number(old), at.form.decimals);
+        write_value(&mut self.out, old, at.form.decimals);
         self.out.write_str(", is ");
-        write_value(&mut self.out, &Value::Number(new), at.form.decimals);
-        self.end_line();
     }
 
-    fn report_text(&mut self, at: EntryAt, old: &[u8], new: &[u8]) {
-        self.begin_entry(at);
-        write_quoted(&mut self.out, old);
-        self.out.write_str(", is ");
-        write_quoted(&mut self.out, new);
-        self.end_line();
-    }
-
-    /// Reports an entry if its value changed.
     fn report_change<S: Store + Drop>(&mut self, memory: &Memory<S>, at: EntryAt, value: &Value) {
         match value {
             Value::Number(old) => {
                 let new = number_at(memory, at.field, at.position).unwrap_or(*old);
                 if new != *old {
-                    self.report_number(at, *old, new);
+                    self.begin_entry(at, value);
+                    write_value(&mut self.out, &Value::Number(new), at.form.decimals);
+                    self.end_line();
                 }
             }
             Value::Text(old) => {
                 let new = text_at(memory, at.field, at.position).unwrap_or(&[]);
                 if new != old.as_slice() {
-                    self.report_text(at, old, new);
+                    self.begin_entry(at, value);
+                    write_quoted(&mut self.out, new);
+                    self.end_line();
                 }
             }
         }
     }
 
-    /// Reports each entry of a field that changed.
     fn report_field<S: Store + Drop>(&mut self, memory: &Memory<S>, values: &FieldValues) {
         let mut at = EntryAt {
             field: values.field,
@@ -145,7 +129,6 @@ impl<L: Listener> Told<'_, '_, L> {
         }
     }
 
-    /// Reports each entry of all fields that changed.
     pub fn report_fields<S: Store + Drop>(&mut self, memory: &Memory<S>, values: &Values) {
         for field in &values.fields {
             self.report_field(memory, field);
@@ -154,7 +137,6 @@ impl<L: Listener> Told<'_, '_, L> {
 }
 
 impl FieldValues {
-    /// Keeps the values of all entries.
     fn keep<S: Store + Drop>(&mut self, memory: &Memory<'_, S>) {
         let mut position = 0u16;
         for value in self.entries.iter_mut() {
@@ -180,7 +162,6 @@ impl Values {
         Ok(Values { fields })
     }
 
-    /// Keeps the values of all fields.
     pub fn keep<S: Store + Drop>(&mut self, memory: &Memory<'_, S>) {
         for values in self.fields.iter_mut() {
             values.keep(memory);

@@ -1,9 +1,8 @@
 //! Counts over all cycles of a job; the lines that are due at detail output, by the indicators that are on before it; and control fields that
 //! descend.
 
-use crate::records::Selected;
 use crate::told::{JobNames, Told, lines_in, records_in};
-use crate::tracing::Cycle;
+use crate::tracing::{Cycle, Selected};
 use rpg_cli_diagnostics::{Diagnostic, Diagnostics, Draft, Level as Severity};
 use rpg_cli_files::Listener;
 use rpg_cycle_records::LastBytes;
@@ -32,28 +31,21 @@ pub(crate) struct Counts {
     due: Due,
 }
 
-/// Reports how many of something there were.
 fn report_count<L: Listener>(told: &mut Told<'_, '_, L>, what: &str, count: u64) {
     told.out.fill_two("watch: {}: {}", what, count);
     told.end_line();
 }
 
-/// Returns a zero for each record type.
-fn no_records(alloc: Global, rows: &Rows) -> Result<Vec<u64>, AllocError> {
-    let mut types = Vec::new(alloc);
-    for _ in 0..rows.types.len() {
-        types.push(0u64)?;
-    }
-    Ok(types)
-}
-
 impl Counts {
-    /// Returns the counts of a job before its first cycle.
     pub fn begin<S: Store + Drop>(alloc: Global, job: &Job<'_, S>) -> Result<Counts, AllocError> {
         let memory = job.memory();
+        let mut types = Vec::new(alloc);
+        for _ in 0..memory.rows().types.len() {
+            types.push(0u64)?;
+        }
         Ok(Counts {
             levels: Levels::new(alloc)?,
-            types: no_records(alloc, memory.rows())?,
+            types,
             printed: 0,
             stored: 0,
             details: Due::NOTHING,
@@ -95,7 +87,6 @@ impl Counts {
         }
     }
 
-    /// Reports the counts.
     pub fn report<L: Listener>(&self, told: &mut Told<'_, '_, L>) {
         let rows = told.names.program.program().rows();
         self.report_types(told);
@@ -122,7 +113,6 @@ impl Due {
         detail: 0,
     };
 
-    /// Returns the lines of a program that are due.
     pub fn of(rows: &Rows, on: &Indicators) -> Due {
         let mut due = Due::NOTHING;
         for line in &rows.lines {
@@ -157,7 +147,6 @@ fn tests_overflow(overflow: Option<u8>, conditions: &[Condition]) -> bool {
     false
 }
 
-/// Whether one of a line's alternatives holds at detail output.
 fn is_due(overflow: Option<u8>, line: &Line, on: &Indicators) -> bool {
     for conditions in &line.alternatives {
         if !tests_overflow(overflow, conditions) && all_hold(on, conditions) {
@@ -209,10 +198,6 @@ impl Level {
         })
     }
 
-    fn differs(&self, now: &LastBytes) -> bool {
-        self.last.is_known != now.is_known || self.last.bytes.as_slice() != now.bytes.as_slice()
-    }
-
     /// Counts a record at which the level goes down. Returns whether it does.
     fn compare(&mut self, now: &LastBytes, record: Selected) -> bool {
         if !self.last.is_known || self.last.bytes.as_slice() <= now.bytes.as_slice() {
@@ -247,7 +232,6 @@ impl Level {
 #[derive(Drop)]
 pub(crate) struct Levels {
     levels: Vec<Level>,
-    /// The first record at which a level went down.
     fallen: Option<Selected>,
 }
 
@@ -263,7 +247,6 @@ impl Levels {
         })
     }
 
-    /// Returns the first record at which a level went down.
     pub fn fallen(&self) -> Option<Selected> {
         self.fallen
     }
@@ -271,8 +254,9 @@ impl Levels {
     /// Returns the place of the highest level that a cycle changed.
     fn highest_changed(&self, now: &[LastBytes]) -> Option<usize> {
         let mut highest = None;
-        for (place, (level, last)) in self.levels.iter().zip(now).enumerate() {
-            if level.differs(last) {
+        for (place, (level, new)) in self.levels.iter().zip(now).enumerate() {
+            let last = &level.last;
+            if last.is_known != new.is_known || last.bytes.as_slice() != new.bytes.as_slice() {
                 highest = Some(place);
             }
         }

@@ -4,7 +4,6 @@
 mod changes;
 mod counts;
 mod looking;
-mod records;
 mod told;
 mod tracing;
 

@@ -1,9 +1,8 @@
 //! Looks at a job between its cycles, and reports what it did.
 
 use crate::counts::Counts;
-use crate::records::Records;
 use crate::told::{JobNames, Told};
-use crate::tracing::{Cycle, Reported};
+use crate::tracing::{Cycle, Records, Reported};
 use rpg_cli_diagnostics::Level;
 use rpg_cli_files::{Listener, tell_all};
 use rpg_cli_words::LookArguments;
@@ -29,7 +28,6 @@ pub struct Looking<'a, 'l, L> {
     halted: Option<HaltedFile>,
 }
 
-/// The file whose record a job had when it halted.
 #[derive(Drop)]
 pub struct HaltedFile {
     pub file: InputFile,
@@ -74,7 +72,6 @@ impl<'a, 'l, L: Listener> Looking<'a, 'l, L> {
         }
     }
 
-    /// Whether the arguments ask for the cycle with this number.
     fn asks_for(&self, number: u64) -> bool {
         match self.words.traced {
             Some(cycles) => cycles.first <= number && number <= cycles.last,

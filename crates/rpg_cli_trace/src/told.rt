@@ -2,12 +2,12 @@
 //! fields in it; and lines of the printer and records of the disk file in the bytes of the output.
 
 use crate::changes::EntryAt;
-use crate::records::Selected;
+use crate::tracing::Selected;
 use rpg_cli_diagnostics::{FileName, Place};
 use rpg_cli_files::Listener;
 use rpg_cli_show_fields::{SourceRows, name_text, write_card};
 use rpg_cli_text::TextWriter;
-use rpg_program::form::{Class, FieldForm};
+use rpg_program::form::Class;
 use rpg_program::input::InputFile;
 use rpg_text::shown;
 use rpg_verify::Verified;
@@ -33,7 +33,6 @@ impl<'a, 'l, L: Listener> Told<'a, 'l, L> {
         }
     }
 
-    /// Ends a line about a record, if there is one.
     pub fn end_line_of(&mut self, record: Option<Place<'_>>) {
         match self.out.so_far() {
             Ok(line) => self.listener.line(record, line),
@@ -42,18 +41,15 @@ impl<'a, 'l, L: Listener> Told<'a, 'l, L> {
         self.out.clear();
     }
 
-    /// Ends a line.
     pub fn end_line(&mut self) {
         self.end_line_of(None);
     }
 
-    /// Ends a line that ends in quotes.
     pub fn end_quoted(&mut self) {
         self.out.write_char('"');
         self.end_line();
     }
 
-    /// Passes on the lines so far.
     pub fn pass_on(&mut self) {
         self.listener.pass_on();
     }
@@ -68,11 +64,6 @@ pub struct JobNames<'a> {
     pub source: Option<&'a SourceRows>,
 }
 
-/// Whether a field has entries that are shown separately.
-fn has_entries(form: FieldForm) -> bool {
-    matches!(form.class, Class::Array | Class::Table)
-}
-
 impl<'a> JobNames<'a> {
     fn file(&self, file: InputFile) -> FileName<'a> {
         match (file, self.secondary) {
@@ -81,7 +72,6 @@ impl<'a> JobNames<'a> {
         }
     }
 
-    /// Returns where a record is: its file and its number.
     pub(crate) fn place(&self, record: Selected) -> Place<'a> {
         self.file(record.file).line(record.number)
     }
@@ -100,7 +90,7 @@ impl<'a> JobNames<'a> {
             Some(name) => out.write_str(name_text(name)),
             None => out.fill("#{}", &[at.field.into()]),
         }
-        if has_entries(at.form) {
+        if matches!(at.form.class, Class::Array | Class::Table) {
             out.fill(",{}", &[at.position.into()]);
         }
     }
@@ -133,13 +123,7 @@ pub(crate) fn lines_in(bytes: &[u8]) -> u64 {
 
 /// Counts the records that were written to the disk file.
 pub(crate) fn records_in(bytes: &[u8]) -> u64 {
-    let mut count = 0u64;
-    for byte in bytes {
-        if *byte == b'\n' {
-            count = count.saturating_add(1);
-        }
-    }
-    count
+    bytes.iter().filter(|byte| **byte == b'\n').count() as u64
 }
 
 impl<L: Listener> Told<'_, '_, L> {

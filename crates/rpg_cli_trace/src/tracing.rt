@@ -1,14 +1,107 @@
-//! A text about what a cycle did, and which indicators it turned on or off.
+//! A text about what a cycle did: the record that it selected, found from its files before and after, and which indicators it turned on or
+//! off.
 
 use crate::changes::Values;
-use crate::records::Selected;
 use crate::told::Told;
 use rpg_cli_files::Listener;
 use rpg_cli_text::{TextWriter, indicator_name};
+use rpg_cycle_records::{Kept, KeptFile, identify, input_length};
 use rpg_engine::{Job, JobEnd};
 use rpg_memory::indicators::Indicators;
+use rpg_program::input::InputFile;
 use rpg_store::Store;
+use rpg_verify::Verified;
 use std::alloc::{AllocError, Global};
+
+const LAST_RECORD: u8 = 110;
+
+/// A record that a cycle selected: its number in its file, from 1, and the row of its type.
+#[derive(Clone, Copy)]
+pub(crate) struct Selected {
+    pub file: InputFile,
+    pub number: u64,
+    pub row: Option<usize>,
+}
+
+/// A file between two cycles.
+#[derive(Clone, Copy)]
+struct FileState {
+    waits: bool,
+    taken: u64,
+}
+
+impl FileState {
+    const UNREAD: FileState = FileState {
+        waits: false,
+        taken: 0,
+    };
+
+    /// Takes the file after a cycle. Returns whether the cycle selected the file's record: one waited or was read, and none waits now.
+    fn go_on(&mut self, is_there: bool, file: &KeptFile) -> bool {
+        let takes_in = is_there && !self.waits && !file.is_over;
+        if takes_in {
+            self.taken = self.taken.saturating_add(1);
+        }
+        let had = self.waits || takes_in;
+        self.waits = file.waiting.is_some();
+        had && !self.waits
+    }
+}
+
+#[derive(Clone, Copy)]
+pub(crate) struct Records {
+    primary: FileState,
+    secondary: FileState,
+    /// Whether LR is on: then the next cycle reads no record.
+    is_last: bool,
+}
+
+/// Returns the row of a record's type, counted from 0.
+fn row_of(program: &Verified, file: InputFile, text: &[u8]) -> Option<usize> {
+    if text.len() != input_length(program, file) {
+        return None;
+    }
+    identify(program, file, text).row
+}
+
+impl Records {
+    pub const UNREAD: Records = Records {
+        primary: FileState::UNREAD,
+        secondary: FileState::UNREAD,
+        is_last: false,
+    };
+
+    /// Takes the files after a cycle. Returns the record that it selected, which isn't known if the cycle halted.
+    pub fn go_on(
+        &mut self,
+        program: &Verified,
+        kept: &Kept,
+        on: &Indicators,
+        ended: Option<JobEnd>,
+    ) -> Option<Selected> {
+        let took_none = self.is_last || matches!(ended, Some(JobEnd::Halt(_)));
+        self.is_last = on.is_on(LAST_RECORD);
+        if took_none {
+            return None;
+        }
+        let has_two = input_length(program, InputFile::Secondary) != 0;
+        let from_primary = self.primary.go_on(true, &kept.primary);
+        let from_secondary = self.secondary.go_on(has_two, &kept.secondary);
+        let (file, number, record) = if from_primary {
+            (InputFile::Primary, self.primary.taken, &kept.primary.record)
+        } else if from_secondary {
+            (
+                InputFile::Secondary,
+                self.secondary.taken,
+                &kept.secondary.record,
+            )
+        } else {
+            return None;
+        };
+        let row = row_of(program, file, record);
+        Some(Selected { file, number, row })
+    }
+}
 
 /// A cycle: its number, from 1, the record that it selected, and how it ended the job, if it did.
 #[derive(Clone, Copy)]
@@ -48,7 +141,6 @@ pub(crate) struct Reported {
 }
 
 impl Reported {
-    /// Returns the job before its first cycle.
     pub fn begin<S: Store + Drop>(alloc: Global, job: &Job<'_, S>) -> Result<Reported, AllocError> {
         let memory = job.memory();
         Ok(Reported {
@@ -66,7 +158,6 @@ impl Reported {
         }
     }
 
-    /// Reports what the last cycle of the job did.
     pub fn report<S: Store + Drop, L: Listener>(
         &self,
         told: &mut Told<'_, '_, L>,
@@ -86,7 +177,6 @@ impl Reported {
         told.pass_on();
     }
 
-    /// Keeps the job as it is after a cycle.
     pub fn keep<S: Store + Drop>(&mut self, job: &Job<'_, S>) {
         let memory = job.memory();
         self.lights.keep(memory.on());
@@ -112,15 +202,12 @@ impl Lights {
         Ok(Lights { on: lights })
     }
 
-    fn was_on(&self, number: u8) -> bool {
-        self.on.get(usize::from(number)).copied().unwrap_or(false)
-    }
-
     /// Writes a blank and the name of each indicator that turned on, or off. Returns whether one did.
     pub fn write_turned(&self, out: &mut TextWriter, now: &Indicators, to_on: bool) -> bool {
         let mut is_any = false;
         for number in 1..NUMBERS_END {
-            if now.is_on(number) == to_on && self.was_on(number) != to_on {
+            let was_on = self.on.get(usize::from(number)) == Some(&true);
+            if now.is_on(number) == to_on && was_on != to_on {
                 out.write_char(' ');
                 out.write_str(indicator_name(number).unwrap_or(""));
                 is_any = true;
@@ -129,7 +216,6 @@ impl Lights {
         is_any
     }
 
-    /// Keeps which indicators are on now.
     pub fn keep(&mut self, now: &Indicators) {
         let mut number = 0u8;
         for light in self.on.iter_mut() {
