@@ -1,3 +1,4 @@
+pub mod Codes
 pub mod FirstForms
 pub mod Marking
 pub mod Unnamed

@@ -13,9 +13,9 @@ use Rattle.rpg_program.specs.declared.form.Kind.TheVariants as of_field
 use Rattle.rpg_sheet_specs.specs.declared.calculation.CalculationSpec.{CalculationSpec}
 use Rattle.rpg_sheet_specs.specs.declared.calculation.Operation.{Operation}
 use Rattle.rpg_sheet_specs.specs.declared.calculation.Operation.TheVariants as operation
-use Rattle.rpg_sheet_specs.specs.declared.column.ColumnFault.{ColumnFault}
 use Rattle.rpg_sheet_specs.specs.declared.entry.Entry.{Entry}
 use Rattle.rpg_sheet_specs.specs.declared.literal.Factor.{Factor}
+use Rattle.rpg_warnings_lines.specs.Unused.{result_columns}
 use Rattle.rpg_warnings_lines.specs.declared.warning.Warning.{Warning}
 use Rattle.rpg_warnings_lines.specs.declared.warning.WarningKind.{WarningKind}
 use Rattle.rpg_warnings_lines.specs.declared.warning.WarningKind.TheVariants as kind
@@ -75,10 +75,6 @@ abbrev pub shorter : Option ℕ → Option ℕ → Option WarningKind
 shorter (Some f) (Some r) = if nat_lt r f then Some (kind.Shorter r f) else None
 shorter (Some f) None = None
 shorter None r = None
-
--- the columns of the result field
-abbrev pub result_columns : ColumnFault
-result_columns = record { column = 43; last = 48 }
 
 -- a warning on the result field of a card
 abbrev pub warned_of : SpecCard → WarningKind → Warning

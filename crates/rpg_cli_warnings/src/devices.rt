@@ -8,7 +8,7 @@ ghost use Rattle.rpg_cli_warnings.specs.Devices as devices;
 use rpg_cards::SpecCard;
 use rpg_sheet_specs::{ColumnFault, Device, FileRole, FileSpec};
 use rpg_text::first_line;
-use rpg_warnings_lines::{Warning, WarningKind};
+use rpg_warnings_lines::{Warning, WarningKind, put_warning};
 use std::alloc::AllocError;
 
 /// The columns of a device.
@@ -47,10 +47,7 @@ fn begins_with_print(line: &[u8]) -> bool
 fn is_disk(file: &FileSpec) -> bool
     ensures { result ≡ devices.is_disk file.now }
 {
-    match (file.role, file.device) {
-        (FileRole::Output, Device::Disk) => true,
-        _ => false,
-    }
+    matches!(file.role, FileRole::Output) && matches!(file.device, Device::Disk)
 }
 
 /// Returns the warning of a device that looks like the printer, on a card of `text`.
@@ -79,9 +76,7 @@ pub(crate) fn put_devices(
     ensures { OnOk result (warnings.new.items ≡ warnings.old.items ++ filter_map (devices.device_on (lines text.now)) cards.now) }
 {
     for card in cards {
-        if let Some(warning) = device_on(text, card) {
-            warnings.push(warning)?;
-        }
+        put_warning(warnings, device_on(text, card))?;
     }
     Ok(())
 }

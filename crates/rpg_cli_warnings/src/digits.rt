@@ -11,7 +11,7 @@ use rpg_card_index::IndexedCards;
 use rpg_cards::{Defined, SpecCard, sized_form};
 use rpg_program::form::{FieldForm, Kind};
 use rpg_sheet_specs::{CalculationSpec, ColumnFault, Factor, Literal, Operation};
-use rpg_warnings_lines::{Warning, WarningKind};
+use rpg_warnings_lines::{Warning, WarningKind, put_warning};
 use std::alloc::AllocError;
 
 /// The columns of a result field.
@@ -139,6 +139,7 @@ fn shorter(wanted: Option<u16>, result_field: Option<u16>) -> Option<WarningKind
     }
 }
 
+/// Returns the warning of a card whose result is too short. The card's definitions are at `place`.
 #[tactic(auto, unfolding(crate::specs::Digits::shorter_on))]
 fn shorter_on(source: &IndexedCards, place: usize, card: &SpecCard) -> Option<Warning>
     requires { StandAt place (definitions_on card.now.spec) (definitions source.now) }
@@ -154,22 +155,6 @@ fn shorter_on(source: &IndexedCards, place: usize, card: &SpecCard) -> Option<Wa
     })
 }
 
-/// Appends the warning of a card if its result is too short. The card's definitions are at `place`.
-fn put_shorter_on(
-    warnings: &mut Vec<Warning>,
-    source: &IndexedCards,
-    place: usize,
-    card: &SpecCard,
-) -> Result<(), AllocError>
-    requires { StandAt place (definitions_on card.now.spec) (definitions source.now) }
-    ensures { OnOk result (warnings.new.items ≡ warnings.old.items ++ option_to_list (digits.shorter_on source.now card.now)) }
-{
-    if let Some(warning) = shorter_on(source, place, card) {
-        warnings.push(warning)?;
-    }
-    Ok(())
-}
-
 /// Appends the warnings of results that are too short, in the order of their cards.
 pub(crate) fn put_shorter(
     warnings: &mut Vec<Warning>,
@@ -180,7 +165,7 @@ pub(crate) fn put_shorter(
     source.keeps_limit();
     let mut place = 0;
     for card in source.as_slice() {
-        put_shorter_on(warnings, source, place, card)?;
+        put_warning(warnings, shorter_on(source, place, card))?;
         place += card.definition_count();
     }
     Ok(())

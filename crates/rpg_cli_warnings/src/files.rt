@@ -6,7 +6,7 @@ ghost use Rattle.rpg_cli_warnings.specs.Files as files;
 
 use rpg_cards::{SpecCard, has_match_field};
 use rpg_sheet_specs::{ColumnFault, FileRole, FileSpec};
-use rpg_warnings_lines::{Warning, WarningKind, is_printer};
+use rpg_warnings_lines::{Warning, WarningKind, is_printer, put_warning};
 use std::alloc::AllocError;
 
 /// The column of the end of file.
@@ -123,9 +123,7 @@ pub(crate) fn put_files(warnings: &mut Vec<Warning>, cards: &[SpecCard]) -> Resu
     ensures { OnOk result (warnings.new.items ≡ warnings.old.items ++ filter_map (files.file_warning cards.now) cards.now) }
 {
     for card in cards {
-        if let Some(warning) = file_warning(cards, card) {
-            warnings.push(warning)?;
-        }
+        put_warning(warnings, file_warning(cards, card))?;
     }
     Ok(())
 }

@@ -6,7 +6,7 @@ ghost use Rattle.rpg_cli_warnings.specs.Halts as halts;
 
 use rpg_cards::SpecCard;
 use rpg_sheet_specs::{ColumnFault, Indicator, Operation};
-use rpg_warnings_lines::{Warning, WarningKind};
+use rpg_warnings_lines::{Warning, WarningKind, put_warning};
 use std::alloc::AllocError;
 
 /// The columns of the three resulting indicators.
@@ -28,10 +28,7 @@ const ZERO: ColumnFault = ColumnFault {
 fn is_set_on(operation: Option<Operation>) -> bool
     ensures { result ≡ halts.is_set_on operation }
 {
-    match operation {
-        Some(Operation::SetOn) => true,
-        _ => false,
-    }
+    matches!(operation, Some(Operation::SetOn))
 }
 
 /// Whether an indicator is one of H1 to H9.
@@ -88,9 +85,7 @@ pub(crate) fn put_halts(warnings: &mut Vec<Warning>, cards: &[SpecCard]) -> Resu
     ensures { OnOk result (warnings.new.items ≡ warnings.old.items ++ filter_map halts.halt_on cards.now) }
 {
     for card in cards {
-        if let Some(warning) = halt_on(card) {
-            warnings.push(warning)?;
-        }
+        put_warning(warnings, halt_on(card))?;
     }
     Ok(())
 }

@@ -5,7 +5,7 @@ ghost use Rattle.std.specs.List.{list_any};
 ghost use Rattle.rpg_cli_warnings.specs.Indicators as indicators;
 
 use crate::levels::any_has_level;
-use crate::marks::{shown_by, tested_by};
+use crate::marks::{IndicatorMarks, marks_by};
 use crate::testing::{first_testing, tested_columns};
 use crate::turning::{any_turns_on, first_showing, shown_columns};
 use rpg_cards::SpecCard;
@@ -102,8 +102,7 @@ pub(crate) fn put_indicators(
 ) -> Result<(), AllocError>
     ensures { OnOk result (warnings.new.items ≡ warnings.old.items ++ indicators.warnings_up_to last cards.now) }
 {
-    let tested = tested_by(cards);
-    let shown = shown_by(cards);
+    let IndicatorMarks { tested, shown } = marks_by(cards);
     let mut indicator = 0;
     while indicator < last {
         indicator += 1;

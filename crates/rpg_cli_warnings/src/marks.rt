@@ -50,17 +50,6 @@ fn note_tested(marks: &mut [bool; 256], card: &SpecCard)
     note_conditions(marks, card);
 }
 
-/// Marks each indicator that one of the cards tests.
-pub(crate) fn tested_by(cards: &[SpecCard]) -> [bool; 256]
-    ensures { (n : ℕ) → is_marked n result ≡ list_any (indicators.tests_indicator n) cards.now }
-{
-    let mut marks = [false; 256];
-    for card in cards {
-        note_tested(&mut marks, card);
-    }
-    marks
-}
-
 /// Marks the number of an indicator.
 #[tactic(auto, using(crate::proofs::Marking::mark_one, crate::proofs::Marking::or_false))]
 fn mark_shown(marks: &mut [bool; 256], shown: Option<Indicator>)
@@ -83,13 +72,23 @@ fn note_shown(marks: &mut [bool; 256], card: &SpecCard)
     }
 }
 
-/// Marks each indicator that one of the cards turns on to be tested.
-pub(crate) fn shown_by(cards: &[SpecCard]) -> [bool; 256]
-    ensures { (n : ℕ) → is_marked n result ≡ list_any (indicators.shows n) cards.now }
+/// Which indicators cards test, and which they turn on to be tested, by their numbers.
+#[derive(Drop)]
+pub(crate) struct IndicatorMarks {
+    pub(crate) tested: [bool; 256],
+    pub(crate) shown: [bool; 256],
+}
+
+/// Marks the indicators of all cards.
+pub(crate) fn marks_by(cards: &[SpecCard]) -> IndicatorMarks
+    ensures tested { (n : ℕ) → is_marked n result.tested ≡ list_any (indicators.tests_indicator n) cards.now }
+    ensures shown { (n : ℕ) → is_marked n result.shown ≡ list_any (indicators.shows n) cards.now }
 {
-    let mut marks = [false; 256];
+    let mut tested = [false; 256];
+    let mut shown = [false; 256];
     for card in cards {
-        note_shown(&mut marks, card);
+        note_tested(&mut tested, card);
+        note_shown(&mut shown, card);
     }
-    marks
+    IndicatorMarks { tested, shown }
 }

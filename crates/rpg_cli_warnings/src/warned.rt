@@ -4,7 +4,7 @@ ghost use Rattle.std.specs.Prelude.{◌≡◌, IfErr, OnOk, find};
 ghost use Rattle.rpg_cli_warnings.specs.Warned.{IsDenied, PassesWarnings, is_denied};
 
 use crate::messages::warning_diagnostics;
-use crate::warnings::wanted_warnings;
+use crate::warnings::{has_none, wanted_warnings};
 use rpg_cli_answers::{Answer, Listener, tell_all};
 use rpg_cli_diagnostics::FileName;
 use rpg_cli_values::WarningCodes;
@@ -33,11 +33,14 @@ fn first_denied(denied: WarningCodes, warnings: &[Warning]) -> Option<Warning>
     None
 }
 
-/// Rejects a source for the first of these warnings that the arguments deny.
+/// Rejects a source for the first of these warnings that the arguments deny. Mostly they deny no code.
 fn judged(arguments: WarningArguments, warnings: &[Warning]) -> Result<(), Answer>
     ensures ok { OnOk result (PassesWarnings arguments.denied warnings.now) }
     ensures err { IfErr result (λ answer. IsDenied answer arguments.denied warnings.now) }
 {
+    if has_none(arguments.denied) {
+        return Ok(());
+    }
     match first_denied(arguments.denied, warnings) {
         None => Ok(()),
         Some(warning) => Err(Answer::Denied {

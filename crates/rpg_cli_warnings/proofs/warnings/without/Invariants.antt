@@ -4,5 +4,5 @@ use Rattle.rpg_cli_warnings.proofs.warnings.without.Given as goal
 
 abbrev pub invariant-loop-warning : goal.invariant-loop-warning
 invariant-loop-warning l =
-    l.wanted.items ++ filter (is_wanted l.allowed) (drop l.warning-index l.warnings)
-    ≡ filter (is_wanted l.allowed) l.warnings
+    l.wanted.items ++ filter (is_wanted l.allowed) (drop l.warning-index l.warning-items)
+    ≡ filter (is_wanted l.allowed) l.warning-items

@@ -1,8 +1,0 @@
-use Rattle.std.proofs.Common.{◌≡◌, ℕ, take}
-use Rattle.std.specs.List.{list_any}
-use Rattle.rpg_cli_warnings.specs.Indicators.{shows}
-use Rattle.rpg_cli_warnings.specs.Marks.{is_marked}
-use Rattle.rpg_cli_warnings.proofs.marks.shown_by.Given as goal
-
-abbrev pub invariant-loop-card : goal.invariant-loop-card
-invariant-loop-card l = (n : ℕ) → is_marked n l.marks ≡ list_any (shows n) (take l.card-index l.cards)
