@@ -79,8 +79,12 @@ fn first_card(view: &View, parts: &[DatePart]) -> usize {
 fn check_lines(view: &View, parts: &[DatePart]) -> Done {
     let printer = Printer::of(view);
     let lines = lines(view)?;
-    let is_late = printer.is_total_skipped_late(view, lines.as_slice())?;
-    for line in lines.iter() {
+    check_each(view, &printer, lines.as_slice(), parts)
+}
+
+fn check_each(view: &View, printer: &Printer, lines: &[Line], parts: &[DatePart]) -> Done {
+    let is_late = printer.is_total_skipped_late(view, lines)?;
+    for line in lines {
         check_line(line, parts, is_late && printer.has_overflow(line))?;
     }
     Ok(())

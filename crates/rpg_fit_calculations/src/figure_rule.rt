@@ -45,6 +45,18 @@ impl Figure {
             .and(characters.get(..length).unwrap_or(&[]))
             .and(b"'")
     }
+
+    /// Inserts a field of its characters that nothing writes, and returns its name.
+    fn new_field(self, editor: &mut Editor, number: usize) -> Outcome<Word> {
+        let (stem, template): (&[u8], &[u8]) = match self {
+            Figure::Blanks => (b"BL$", BLANKS),
+            Figure::Zeros => (b"ZE$", ZEROS),
+        };
+        let name = fresh_name(&editor.view()?, stem, number)?;
+        let never = calculation(template, &[name], number);
+        insert_at(editor, Place::DetailFront, &[never], number)?;
+        Ok(name)
+    }
 }
 
 /// The other operand of a figurative constant.
@@ -145,16 +157,14 @@ impl Fields<'_> {
 
     /// Returns the field that replaces a figurative constant, created for the first card that needs it.
     fn field(&mut self, editor: &mut Editor, figure: Figure, number: usize) -> Outcome<Word> {
-        let (known, stem, template): (Option<Word>, &[u8], &[u8]) = match figure {
-            Figure::Blanks => (self.blanks, b"BL$", BLANKS),
-            Figure::Zeros => (self.zeros, b"ZE$", ZEROS),
+        let known = match figure {
+            Figure::Blanks => self.blanks,
+            Figure::Zeros => self.zeros,
         };
         if let Some(name) = known {
             return Ok(name);
         }
-        let name = fresh_name(&editor.view()?, stem, number)?;
-        let never = calculation(template, &[name], number);
-        insert_at(editor, Place::DetailFront, &[never], number)?;
+        let name = figure.new_field(editor, number)?;
         match figure {
             Figure::Blanks => self.blanks = Some(name),
             Figure::Zeros => self.zeros = Some(name),

@@ -2,21 +2,25 @@
 
 use crate::figure_rule::is_literal;
 use crate::movea::{Entries, Moves, Side, moves_of};
-use crate::now::{Flagged, Now};
+use crate::now::{Now, Under};
 use rpg_fit_deck::{Card, Editor, Seen, Sentence, View, Word};
 use rpg_fit_words::{
-    Array, Cards, Columns, Constant, Done, NewCard, Operand, Outcome, RuleStop, array_of, entry,
-    form_of, groups, unused_prefix,
+    Array, Cards, Columns, Constant, Done, Group, NewCard, Operand, Outcome, RuleStop, array_of,
+    entry, form_of, groups, unused_prefix,
 };
 
 /// Rewrites MOVEA as moves of single entries.
 pub fn moves(editor: &mut Editor) -> Done {
     let found = groups(&editor.view()?)?;
+    rewrite_groups(editor, found.as_slice())
+}
+
+fn rewrite_groups(editor: &mut Editor, found: &[Group]) -> Done {
     let Some(first) = found.first() else {
         return Ok(());
     };
     let mut now = Now::of(editor, first)?;
-    for group in found.iter() {
+    for group in found {
         if group.operation() == b"MOVEA".as_slice() {
             now.turn(group);
             rewrite_group(editor, &mut now)?;
@@ -102,11 +106,11 @@ fn move_entries(editor: &mut Editor, now: &mut Now, moves: Moves) -> Done {
     };
     let under = now.under()?;
     let plan = Plan::of(&now.seen, &under, work);
-    let mut cards = under.before;
+    let mut cards = now.cards_before(&under);
     plan.push_moves(&mut cards, moves);
     let count = cards.as_slice().len();
     let remark = Sentence::counted("MOVEA is % calculation", "MOVEA is % calculations", count);
-    now.replace(editor, &cards, remark)?;
+    now.replace(editor, cards, remark)?;
     if work.len() > 0 {
         now.look(editor)
     } else {
@@ -162,7 +166,7 @@ struct Plan {
 }
 
 impl Plan {
-    fn of(seen: &Seen, under: &Flagged, work: Word) -> Plan {
+    fn of(seen: &Seen, under: &Under, work: Word) -> Plan {
         Plan {
             base: NewCard::copy(seen)
                 .with(7, 8, under.level.word().text())

@@ -18,10 +18,8 @@ pub(crate) struct Now<'a> {
 }
 
 /// The conditions of calculations that replace another one.
-#[derive(Drop)]
-pub(crate) struct Flagged {
-    /// Calculations that turn the flag on if the conditions hold; they come first.
-    pub before: Cards,
+#[derive(Clone, Copy)]
+pub(crate) struct Under {
     /// Columns 7 to 8 of each calculation.
     pub level: Indicator,
     /// Columns 9 to 17 of each calculation.
@@ -70,13 +68,12 @@ impl<'a> Now<'a> {
     }
 
     /// Returns the conditions of the calculations that replace this one: its own if one card has them, else a free indicator.
-    pub fn under(&mut self) -> Outcome<Flagged> {
+    pub fn under(&mut self) -> Outcome<Under> {
         if !self.group.leading.is_empty() {
             return self.under_flag();
         }
         let card = &self.group.last.card;
-        Ok(Flagged {
-            before: List::new(self.view.alloc),
+        Ok(Under {
             level: Indicator::at(card, 7),
             conditions: Word::of(card.columns(9, 17)),
             flag: Indicator::BLANK,
@@ -84,34 +81,36 @@ impl<'a> Now<'a> {
     }
 
     /// Returns a free indicator as the condition of the calculations that replace this one.
-    pub fn under_flag(&mut self) -> Outcome<Flagged> {
+    pub fn under_flag(&mut self) -> Outcome<Under> {
         let flag = self.free.take(&self.view, self.seen.number)?;
         let level = match self.group.section() {
             Section::Total => Indicator::ALWAYS,
             _ => Indicator::at(&self.group.first().card, 7),
         };
-        Ok(Flagged {
-            before: self.flag_cards(level, flag.word()),
+        Ok(Under {
             level,
             conditions: Conjunction::on(flag).columns(0),
             flag,
         })
     }
 
-    /// Returns the cards that turn a flag on if the calculation is done.
-    fn flag_cards(&self, level: Indicator, flag: Word) -> Cards {
+    /// Returns the cards that come first: they turn the flag on if the calculation is done.
+    pub fn cards_before(&self, under: &Under) -> Cards {
         let Group { leading, last } = self.group;
-        let off = calculation(b"||SETOF||||%", &[flag], last.number);
-        let on = calculation(b"||SETON||||%", &[flag], last.number);
+        let flag = under.flag.word();
         let mut cards = List::new(self.view.alloc);
-        cards.push(off.with(7, 8, level.word().text()));
-        push_copies(&mut cards, leading.as_slice());
-        cards.push(on.with_columns(7, 17, &last.card));
+        if !under.flag.is_blank() {
+            let off = calculation(b"||SETOF||||%", &[flag], last.number);
+            let on = calculation(b"||SETON||||%", &[flag], last.number);
+            cards.push(off.with(7, 8, under.level.word().text()));
+            push_copies(&mut cards, leading.as_slice());
+            cards.push(on.with_columns(7, 17, &last.card));
+        }
         cards
     }
 
     /// Replaces the calculation by cards, and reports it.
-    pub fn replace(&self, editor: &mut Editor, cards: &Cards, remark: Sentence) -> Done {
+    pub fn replace(&self, editor: &mut Editor, cards: Cards, remark: Sentence) -> Done {
         let (group, number) = (self.group, self.seen.number);
         put_cards(editor, group.first().at, cards.checked()?, number)?;
         remove_cards(editor, group.leading.as_slice(), number);

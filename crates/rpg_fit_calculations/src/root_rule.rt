@@ -1,6 +1,6 @@
 //! SQRT: replaced by a loop that takes Newton's steps on whole numbers.
 
-use crate::now::{Flagged, Now};
+use crate::now::{Now, Under};
 use rpg_fit_deck::{Card, Editor, Sentence, View, Word};
 use rpg_fit_words::{
     Cards, Columns, Done, FreshNames, Group, Indicator, NewCard, Operand, Outcome, RuleStop,
@@ -16,40 +16,52 @@ const MOST_DECIMALS: usize = 4;
 /// Replaces each SQRT by a loop. Its result is rounded.
 pub fn square_roots(editor: &mut Editor) -> Done {
     let found = groups(&editor.view()?)?;
+    rewrite_groups(editor, found.as_slice())
+}
+
+fn rewrite_groups(editor: &mut Editor, found: &[Group]) -> Done {
     let Some(first) = found.first() else {
         return Ok(());
     };
     let mut now = Now::of(editor, first)?;
     let mut unused = Unused::new();
-    for group in found.iter() {
+    for group in found {
         if group.operation() == b"SQRT".as_slice() {
             now.turn(group);
-            check(&now, found.as_slice())?;
-            rewrite_root(editor, &mut unused, &mut now)?;
+            rewrite_root(editor, &mut unused, &mut now, found)?;
         }
     }
     Ok(())
 }
 
-/// The names that no card has and no loop has got yet.
+/// The names that no card has and no loop has got yet: for its square, root and next root, and the labels at its start and after it.
 #[derive(Clone, Copy)]
 struct Unused {
-    squares: FreshNames,
-    roots: FreshNames,
-    nexts: FreshNames,
-    starts: FreshNames,
-    ends: FreshNames,
+    stems: [FreshNames; 5],
 }
 
 impl Unused {
     fn new() -> Unused {
         Unused {
-            squares: FreshNames::of(b"SQ#", 6),
-            roots: FreshNames::of(b"SG#", 6),
-            nexts: FreshNames::of(b"SH#", 6),
-            starts: FreshNames::of(b"STEP#", 6),
-            ends: FreshNames::of(b"ROOT#", 6),
+            stems: [
+                FreshNames::of(b"SQ#", 6),
+                FreshNames::of(b"SG#", 6),
+                FreshNames::of(b"SH#", 6),
+                FreshNames::of(b"STEP#", 6),
+                FreshNames::of(b"ROOT#", 6),
+            ],
         }
+    }
+
+    /// Returns the names of a loop.
+    fn take(&mut self, view: &View, card: usize) -> Outcome<[Word; 5]> {
+        let mut names = [Word::empty(); 5];
+        for (place, stem) in self.stems.iter_mut().enumerate() {
+            if let Some(name) = names.get_mut(place) {
+                *name = stem.take(view, card)?;
+            }
+        }
+        Ok(names)
     }
 }
 
@@ -137,7 +149,8 @@ fn decimals_of(view: &View, card: &Card) -> Option<usize> {
 }
 
 /// Replaces a SQRT. One whose operands nothing defines stays, for the compiler to report.
-fn rewrite_root(editor: &mut Editor, unused: &mut Unused, now: &mut Now) -> Done {
+fn rewrite_root(editor: &mut Editor, unused: &mut Unused, now: &mut Now, found: &[Group]) -> Done {
+    check(now, found)?;
     let card = &now.seen.card;
     let (Some(digits), Some(decimals)) = (
         operand_digits(&now.view, Columns::Factor2.value(card)),
@@ -156,7 +169,7 @@ fn rewrite_root(editor: &mut Editor, unused: &mut Unused, now: &mut Now) -> Done
     }
     let under = now.under_flag()?;
     let root = Root::of(now, unused, &under, length.max(2))?;
-    root.put(editor, now, under.before, decimals)
+    root.put(editor, now, now.cards_before(&under), decimals)
 }
 
 /// Returns a number with zeros after it.
@@ -192,16 +205,17 @@ struct Root {
 }
 
 impl Root {
-    fn of(now: &mut Now, unused: &mut Unused, under: &Flagged, length: usize) -> Outcome<Root> {
+    fn of(now: &mut Now, unused: &mut Unused, under: &Under, length: usize) -> Outcome<Root> {
         let number = now.seen.number;
+        let [square, root, next, again, done] = unused.take(&now.view, number)?;
         Ok(Root {
             level: under.level,
             flag: under.flag,
-            square: unused.squares.take(&now.view, number)?,
-            root: unused.roots.take(&now.view, number)?,
-            next: unused.nexts.take(&now.view, number)?,
-            again: unused.starts.take(&now.view, number)?,
-            done: unused.ends.take(&now.view, number)?,
+            square,
+            root,
+            next,
+            again,
+            done,
             goes_on: now.free.take(&now.view, number)?,
             length,
             number,
@@ -218,7 +232,7 @@ impl Root {
         let most = self.length.saturating_mul(167) / 100;
         let text = "SQRT: a loop, rounded; at most % of the allowance";
         let remark = Sentence::about(text, Word::of_number(most.saturating_add(6)));
-        now.replace(editor, &cards, remark)
+        now.replace(editor, cards, remark)
     }
 
     fn card(&self, template: &[u8], words: &[Word]) -> NewCard {

@@ -1,9 +1,9 @@
 //! Calculations with whole arrays.
 
-use crate::now::{Flagged, Now};
+use crate::now::{Now, Under};
 use rpg_fit_deck::{Card, Editor, Sentence, View, Word};
 use rpg_fit_words::{
-    Array, Columns, Done, FreshNames, Group, Indicator, NewCard, Operand, Outcome, RuleStop,
+    Array, Cards, Columns, Done, FreshNames, Group, Indicator, NewCard, Operand, Outcome, RuleStop,
     array_of, calculation, entry, fresh_name, groups,
 };
 
@@ -13,6 +13,10 @@ const LOOP_FROM: usize = 31;
 /// Rewrites calculations with whole arrays as calculations with their entries.
 pub fn whole_calculations(editor: &mut Editor) -> Done {
     let found = groups(&editor.view()?)?;
+    rewrite_groups(editor, found.as_slice())
+}
+
+fn rewrite_groups(editor: &mut Editor, found: &[Group]) -> Done {
     let Some(first) = found.first() else {
         return Ok(());
     };
@@ -154,7 +158,7 @@ fn by_entry(editor: &mut Editor, now: &mut Now, whole: &Wholes, count: usize) ->
     make_rooms(editor, now, whole, Word::of_number(count))?;
     let under = now.under()?;
     let base = base_of(now, under.level).with(9, 17, under.conditions.text());
-    let mut cards = under.before;
+    let mut cards = now.cards_before(&under);
     for place in 0..count {
         let index = Word::of_number(place.saturating_add(1));
         cards.push(entry_card(whole, base, index));
@@ -164,7 +168,7 @@ fn by_entry(editor: &mut Editor, now: &mut Now, whole: &Wholes, count: usize) ->
         "whole arrays: % calculations",
     );
     let remark = Sentence::counted(one, several, cards.as_slice().len());
-    now.replace(editor, &cards, remark)
+    now.replace(editor, cards, remark)
 }
 
 /// Returns what the calculations of all entries share, without conditions.
@@ -181,14 +185,14 @@ fn by_loop(editor: &mut Editor, now: &mut Now, whole: &Wholes, count: usize) -> 
     make_rooms(editor, now, whole, index)?;
     let under = now.under_flag()?;
     let frame = Loop::of(now, &under, index)?;
-    let mut cards = under.before;
-    cards.push_all(&frame.begin());
-    cards.push(entry_card(whole, frame.base, index));
-    cards.push_all(&frame.end(count));
     let remark =
         "whole arrays: a loop of %; give --allowance more than 1000 where it is done often";
     let remark = Sentence::about(remark, Word::of_number(count));
-    now.replace(editor, &cards, remark)?;
+    now.replace(
+        editor,
+        frame.cards(now.cards_before(&under), whole, count),
+        remark,
+    )?;
     now.look(editor)
 }
 
@@ -210,7 +214,7 @@ struct Loop {
 }
 
 impl Loop {
-    fn of(now: &Now, under: &Flagged, index: Word) -> Outcome<Loop> {
+    fn of(now: &Now, under: &Under, index: Word) -> Outcome<Loop> {
         let number = now.seen.number;
         Ok(Loop {
             level: under.level,
@@ -226,6 +230,15 @@ impl Loop {
     fn card(&self, template: &[u8], words: &[Word]) -> NewCard {
         let card = calculation(template, words, self.number);
         card.with(7, 8, self.level.word().text())
+    }
+
+    /// Returns the cards of the loop, after those that come first.
+    fn cards(&self, before: Cards, whole: &Wholes, count: usize) -> Cards {
+        let mut cards = before;
+        cards.push_all(&self.begin());
+        cards.push(entry_card(whole, self.base, self.index));
+        cards.push_all(&self.end(count));
+        cards
     }
 
     /// Returns the cards before the calculation, which set the index to 1.
