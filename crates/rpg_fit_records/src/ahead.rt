@@ -3,7 +3,7 @@
 use rpg_fit_deck::{Card, Editor, Seen, Sentence, View, Word};
 use rpg_fit_terms::address_after;
 use rpg_fit_words::{
-    Columns, Conjunction, DeckTypes, Done, FileTypes, Line, List, NewCard, Operand, Outcome,
+    Columns, Conjunction, DeckTypes, Done, FileTypes, Group, Line, List, NewCard, Operand, Outcome,
     RecordType, RuleStop, array_of, file_card, files_read, groups, indicator_uses, lines,
     operand_on, put_cards, record_length, record_types, remove_cards, with_record_length,
 };
@@ -19,13 +19,21 @@ const ANY_RECORD: &str = "a look ahead field is used where no record of % need b
 pub fn look_ahead(editor: &mut Editor) -> Done {
     let count = record_types(&editor.view()?)?.len();
     for _ in 0..count {
-        let deck = DeckTypes::of(editor)?;
-        match deck.types.iter().position(|kind| kind.is_looked_ahead()) {
-            Some(place) => rewrite(editor, &deck, place)?,
-            None => return Ok(()),
+        if !rewrite_first(editor)? {
+            return Ok(());
         }
     }
     Ok(())
+}
+
+/// Rewrites the first type that looks ahead, and returns whether there was one.
+fn rewrite_first(editor: &mut Editor) -> Outcome<bool> {
+    let deck = DeckTypes::of(editor)?;
+    match deck.types.iter().position(|kind| kind.is_looked_ahead()) {
+        Some(place) => rewrite(editor, &deck, place)?,
+        None => return Ok(false),
+    }
+    Ok(true)
 }
 
 /// The columns that are looked ahead, of records of a length.
@@ -149,16 +157,24 @@ fn check_uses(view: &View, kind: &RecordType) -> Done {
         return Ok(());
     }
     let types = own_types(view, kind)?;
-    for group in groups(view)?.iter() {
-        let mut cards = List::new(view.alloc);
-        cards.push_all(group.leading.as_slice());
-        cards.push(group.last);
-        if is_done_alone(cards.checked()?, kind, &types) {
+    check_groups(view, kind, &types)?;
+    check_lines(view, kind, &types)
+}
+
+fn check_groups(view: &View, kind: &RecordType, types: &FileTypes) -> Done {
+    let groups = groups(view)?;
+    for group in groups.iter() {
+        if is_done_alone(group, kind, types) {
             return Err(RuleStop::about(group.last.number, ANY_RECORD, kind.file));
         }
     }
-    for line in lines(view)?.iter() {
-        check_line(line, kind, &types)?;
+    Ok(())
+}
+
+fn check_lines(view: &View, kind: &RecordType, types: &FileTypes) -> Done {
+    let lines = lines(view)?;
+    for line in lines.iter() {
+        check_line(line, kind, types)?;
     }
     Ok(())
 }
@@ -187,15 +203,25 @@ fn is_operand(card: &Card, kind: &RecordType) -> bool {
     })
 }
 
+fn needs_record(seen: &Seen, types: &FileTypes) -> bool {
+    types.type_in(&Conjunction::at(&seen.card, 9)).is_some()
+}
+
+fn is_either(seen: &Seen) -> bool {
+    matches!(seen.card.columns(7, 8), b"OR")
+}
+
 /// Whether a calculation has one of the fields, and is done without a record of the file.
-fn is_done_alone(cards: &[Seen], kind: &RecordType, types: &FileTypes) -> bool {
-    let (mut uses, mut needs, mut is_either) = (false, false, false);
-    for seen in cards {
+fn is_done_alone(group: &Group, kind: &RecordType, types: &FileTypes) -> bool {
+    let last = &group.last;
+    let mut uses = is_operand(&last.card, kind);
+    let (mut needs, mut is_any) = (needs_record(last, types), is_either(last));
+    for seen in group.leading.iter() {
         uses = uses || is_operand(&seen.card, kind);
-        needs = needs || types.type_in(&Conjunction::at(&seen.card, 9)).is_some();
-        is_either = is_either || matches!(seen.card.columns(7, 8), b"OR");
+        needs = needs || needs_record(seen, types);
+        is_any = is_any || is_either(seen);
     }
-    uses && (is_either || !needs)
+    uses && (is_any || !needs)
 }
 
 /// Whether a line is put out only for a record of the file.

@@ -3,7 +3,7 @@
 use crate::structure::{Structure, Subfield};
 use rpg_fit_deck::{Editor, Seen, Sentence, Word};
 use rpg_fit_terms::address_after;
-use rpg_fit_words::{Cards, Done, List, NewCard, RuleStop, array_of, put_cards};
+use rpg_fit_words::{Cards, Done, List, NewCard, Outcome, RuleStop, array_of, put_cards};
 
 /// Replaces a structure: inserts its subfields after each card that reads the field with its columns, the parent.
 pub(crate) fn take_apart(editor: &mut Editor, structure: &Structure, parent: Subfield) -> Done {
@@ -13,14 +13,7 @@ pub(crate) fn take_apart(editor: &mut Editor, structure: &Structure, parent: Sub
     let number = structure.number();
     structure.check_unchanged(number, parent.name)?;
     structure.check_inputs(parent.name, parent.span, parent.decimals())?;
-    let inputs = structure.inputs(parent.name.text());
-    let mut count = 0;
-    for input in inputs.checked()? {
-        let fields = fields_at(structure, &parent, input);
-        let following = address_after(&structure.view, input.at);
-        put_cards(editor, following, fields.checked()?, number)?;
-        count = fields.as_slice().len();
-    }
+    let count = put_fields(editor, structure, &parent)?;
     let text = if count == 1 {
         "a data structure: % field is read from the columns of %"
     } else {
@@ -30,6 +23,19 @@ pub(crate) fn take_apart(editor: &mut Editor, structure: &Structure, parent: Sub
     editor.report(number, Sentence::with(text, &words));
     structure.remove(editor);
     Ok(())
+}
+
+/// Inserts the subfields, and returns how many there are.
+fn put_fields(editor: &mut Editor, structure: &Structure, parent: &Subfield) -> Outcome<usize> {
+    let inputs = structure.inputs(parent.name.text());
+    let mut count = 0;
+    for input in inputs.checked()? {
+        let fields = fields_at(structure, parent, input);
+        let following = address_after(&structure.view, input.at);
+        put_cards(editor, following, fields.checked()?, structure.number())?;
+        count = fields.as_slice().len();
+    }
+    Ok(count)
 }
 
 fn is_parent(parent: &Subfield, subfield: &Subfield) -> bool {
