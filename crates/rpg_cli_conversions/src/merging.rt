@@ -4,16 +4,17 @@ ghost use Rattle.std.specs.Prelude.{◌^◌, ◌-◌, ◌<◌};
 ghost use Rattle.rpg_files.specs.Counting.{faults_of};
 
 use crate::changes::refusal_diagnostic;
+use crate::records::{NewFiles, opened_input};
 use rpg_cli_answers::{
     Answer, CommandStop, Listener, NamedFile, file_of, named, refuse_replacing, refuse_same_file,
     report_in_place, tell_made,
 };
 use rpg_cli_diagnostics::Draft;
 use rpg_cli_files::{
-    FileFault, KeptFile, LineTarget, Opened, Pending, Reason, RecordSource, file_bytes, input_file,
-    kept_file, lines, records,
+    FileFault, KeptFile, LineTarget, Opened, Reason, RecordSource, file_bytes, kept_file, lines,
+    records,
 };
-use rpg_cli_words::{FileArgument, LinesWay, Request, is_standard};
+use rpg_cli_words::{FileArgument, LinesWay, Request};
 use rpg_files::Counted;
 use rpg_record_merging::{
     AheadColumns, DeckStop, LineInput, MergeStop, Secondaries, merge, put_ahead, secondaries_of,
@@ -191,19 +192,6 @@ fn argument_of(request: &Request, work: &Work, file: usize) -> FileArgument {
     }
 }
 
-/// Opens a file that is read.
-fn opened<R: Files>(
-    rt: &R,
-    request: &Request,
-    argument: FileArgument,
-) -> Result<Opened<R::File>, Answer> {
-    let path = request.file(argument);
-    if is_standard(path) {
-        return Ok(Opened::Standard);
-    }
-    Ok(Opened::File(named(argument, input_file(rt, path))?))
-}
-
 /// Opens the files that are read, none of which may be OUT.
 fn opened_inputs<R: Files + Input + AllocGlobal>(
     rt: &R,
@@ -214,7 +202,7 @@ fn opened_inputs<R: Files + Input + AllocGlobal>(
     let mut sources = Vec::new(rt.alloc());
     for file in 0..work.files() {
         let argument = argument_of(request, work, file);
-        let input = opened(rt, request, argument)?;
+        let input = opened_input(rt, request, argument)?;
         refuse_same_file(
             output,
             &[NamedFile::opened(rt, argument, &input, "/dev/stdin")?],
@@ -358,29 +346,6 @@ fn convert_opened<R: Files + Input + Print + AllocGlobal, L: Listener>(
     Ok(convert(rt.alloc(), request, work, sources, target, listener)?)
 }
 
-/// Moves OUT to its place once it is whole, or removes it.
-fn conclude<R: Files + AllocGlobal, L: Listener>(
-    rt: &R,
-    pending: &Option<Pending<'_>>,
-    converted: Result<u64, CommandStop>,
-    listener: &mut L,
-) -> Result<u64, CommandStop> {
-    let Some(pending) = pending else {
-        return converted;
-    };
-    pending.report_taken(rt.alloc(), listener);
-    match converted {
-        Ok(records) => {
-            named(FileArgument::Out, pending.put_in_place(rt))?;
-            Ok(records)
-        }
-        Err(stop) => {
-            pending.discard(rt, listener);
-            Err(stop)
-        }
-    }
-}
-
 /// Merges the secondary files of a deck, or puts columns of the next line after each line.
 ///
 /// OUT is moved to its place once it is whole: otherwise it stays unchanged.
@@ -394,7 +359,12 @@ pub(crate) fn lines_file<R: Files + Input + Print + AllocGlobal, L: Listener>(
     let place = request.file(FileArgument::Out);
     let KeptFile { opened, pending } = named(FileArgument::Out, kept_file(rt, place, listener))?;
     let converted = convert_opened(rt, request, &work, opened, listener);
-    let records = conclude(rt, &pending, converted, listener)?;
+    let new = NewFiles {
+        lines: pending,
+        deck: None,
+    };
+    new.report_taken(rt.alloc(), listener);
+    let records = new.conclude(rt, converted, listener)?;
     Ok(Answer::Records {
         records,
         dropped: 0,

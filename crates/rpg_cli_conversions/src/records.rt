@@ -123,21 +123,25 @@ fn format_of(request: &Request) -> RecordFormat {
     }
 }
 
-/// Opens the input.
-fn opened_input<R: Files>(rt: &R, request: &Request) -> Result<Opened<R::File>, Answer> {
-    let path = request.file(FileArgument::In);
+/// Opens a file that is read.
+pub(crate) fn opened_input<R: Files>(
+    rt: &R,
+    request: &Request,
+    argument: FileArgument,
+) -> Result<Opened<R::File>, Answer> {
+    let path = request.file(argument);
     if is_standard(path) {
         return Ok(Opened::Standard);
     }
-    let file = named(FileArgument::In, input_file(rt, path))?;
+    let file = named(argument, input_file(rt, path))?;
     Ok(Opened::File(file))
 }
 
 /// The files that are written beside their places.
 #[derive(Drop)]
-struct NewFiles<'a> {
-    lines: Option<Pending<'a>>,
-    deck: Option<Pending<'a>>,
+pub(crate) struct NewFiles<'a> {
+    pub lines: Option<Pending<'a>>,
+    pub deck: Option<Pending<'a>>,
 }
 
 impl<'a> NewFiles<'a> {
@@ -173,7 +177,7 @@ impl<'a> NewFiles<'a> {
     }
 
     /// Reports what other runs left beside the files.
-    fn report_taken<L: Listener>(&self, alloc: Global, listener: &mut L) {
+    pub fn report_taken<L: Listener>(&self, alloc: Global, listener: &mut L) {
         if let Some(lines) = &self.lines {
             lines.report_taken(alloc, listener);
         }
@@ -202,12 +206,12 @@ impl<'a> NewFiles<'a> {
     }
 
     /// Moves the files to their places once both are whole, or removes them.
-    fn conclude<R: Files + AllocGlobal, L: Listener>(
+    pub fn conclude<C: Drop, R: Files + AllocGlobal, L: Listener>(
         &self,
         rt: &R,
-        converted: Result<Counts, CommandStop>,
+        converted: Result<C, CommandStop>,
         listener: &mut L,
-    ) -> Result<Counts, CommandStop> {
+    ) -> Result<C, CommandStop> {
         let concluded = match converted {
             Ok(counts) => match self.put_in_place(rt, listener) {
                 Ok(()) => Ok(counts),
@@ -419,7 +423,7 @@ fn convert_file<R: Files + Input + Print + AllocGlobal, L: Listener>(
     deck: RecordDeck<'_>,
     listener: &mut L,
 ) -> Result<Counts, CommandStop> {
-    let input = opened_input(rt, request)?;
+    let input = opened_input(rt, request, FileArgument::In)?;
     let place = request.file(FileArgument::Out);
     let KeptFile { opened, pending } = named(FileArgument::Out, kept_file(rt, place, listener))?;
     let mut new = NewFiles {
