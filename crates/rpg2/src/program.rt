@@ -3,7 +3,8 @@
 ghost use Rattle.rpg_cli_reports.specs.Saying.{PrintsALine};
 
 use rpg_cli_answers::{Answer, CommandStop, Listener, Reasons};
-use rpg_cli_conversions::{fit_file, records_file};
+use rpg_cli_conversions::records_file;
+use rpg_cli_fitting::fit_file;
 use rpg_cli_paper::paper_file;
 use rpg_cli_programs::Session;
 use rpg_cli_reports::{

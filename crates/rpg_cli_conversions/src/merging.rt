@@ -3,7 +3,6 @@
 ghost use Rattle.std.specs.Prelude.{◌^◌, ◌-◌, ◌<◌};
 ghost use Rattle.rpg_files.specs.Counting.{faults_of};
 
-use crate::changes::refusal_diagnostic;
 use crate::records::{NewFiles, opened_input};
 use rpg_cli_answers::{
     Answer, CommandStop, Listener, NamedFile, file_of, named, refuse_replacing, refuse_same_file,
@@ -14,6 +13,7 @@ use rpg_cli_files::{
     FileFault, KeptFile, LineTarget, Opened, Reason, RecordSource, file_bytes, kept_file, lines,
     records,
 };
+use rpg_cli_fitting::refusal_diagnostic;
 use rpg_cli_words::{FileArgument, LinesWay, Request};
 use rpg_files::Counted;
 use rpg_record_merging::{

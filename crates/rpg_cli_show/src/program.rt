@@ -99,10 +99,10 @@ fn write_levels(out: &mut TextWriter, rows: &Rows) {
 
 /// Writes the files, the date, control levels, the form and the file that ends the job alone.
 fn write_rows(out: &mut TextWriter, rows: &Rows, uses_date: bool) {
-    let secondary = "           records of {} columns from --secondary FILE\n";
-    let disk = "  writes   records of {} columns to --disk FILE\n";
-    let printer = "  prints   lines of {} places to PRINT\n";
-    let input = "  reads    records of {} columns from INPUT\n";
+    let secondary = "           records of {} column{} from --secondary FILE\n";
+    let disk = "  writes   records of {} column{} to --disk FILE\n";
+    let printer = "  prints   lines of {} place{} to PRINT\n";
+    let input = "  reads    records of {} column{} from INPUT\n";
     write_length(out, input, rows.record_length, "");
     write_length(out, secondary, rows.secondary_length, "");
     write_length(out, printer, rows.printer_length, "  prints   nothing\n");
@@ -159,7 +159,8 @@ const ALLOWANCE: &str = "  limit    {} backward branches and calls a cycle\n";
 /// Writes a sentence with the record or line length of a file, or that there is no such file.
 fn write_length(out: &mut TextWriter, sentence: &str, length: u16, none: &str) {
     if length > 0 {
-        out.fill_one(sentence, length);
+        let plural = if length == 1 { "" } else { "s" };
+        out.fill_two(sentence, length, plural);
     } else {
         out.write_str(none);
     }
@@ -193,9 +194,9 @@ pub(crate) fn write_form(out: &mut TextWriter, rows: &Rows, standard: &str) {
 
 fn write_header(out: &mut TextWriter, shown: Shown<'_>) {
     let rows = shown.rows;
-    let input = "  input    records of {} columns";
-    let printer = "  printer  lines of {} places";
-    let disk = "  disk     records of {} columns\n";
+    let input = "  input    records of {} column{}";
+    let printer = "  printer  lines of {} place{}";
+    let disk = "  disk     records of {} column{}\n";
     let (fields, types, lines) = (rows.fields.len(), rows.types.len(), rows.lines.len());
     let subroutines = rows.subroutines.len();
     write_length(out, input, rows.record_length, "");

@@ -151,7 +151,7 @@ pub(crate) fn forms_note(alloc: Global, file: FileName<'_>) -> Result<Diagnostic
 }
 
 /// Returns the diagnostic for a deck that can't be rewritten.
-pub(crate) fn refusal_diagnostic<'a>(
+pub fn refusal_diagnostic<'a>(
     alloc: Global,
     file: FileName<'a>,
     source: &'a [u8],
