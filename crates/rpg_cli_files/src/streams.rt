@@ -1,10 +1,11 @@
-//! The sources of records and targets of printed lines: files, or the standard streams.
+//! The sources of records and targets of printed lines: files, or the standard streams; and the bytes that were read last, for the
+//! diagnostic of a halt.
 
 ghost use Rattle.std.specs.Prelude.{◌≡◌, ◌≤◌, min, IfSome, None};
 
 use crate::files::{FileFault, Patience, Reason, empty_file};
 use crate::replacing::InPlace;
-use rpg_files::LastLine;
+use std::alloc::Global;
 use std::cell::Cell;
 use std::fs::OpenFile;
 use std::io::{self, Error, ErrorKind, Printer, Read, Write};
@@ -53,6 +54,7 @@ pub struct RecordSource<F, S> {
     from: Source<F, S>,
     fault: Option<Reason>,
     patience: Patience,
+    window: Window,
 }
 
 /// What records are read from. Without a file there are no records.
@@ -85,7 +87,7 @@ enum Target<F, P> {
 }
 
 /// Returns the records of an open file.
-pub fn records<R: Files + Input>(
+pub fn records<R: Files + Input + AllocGlobal>(
     rt: &R,
     opened: Opened<R::File>,
 ) -> RecordSource<R::File, R::Reader> {
@@ -98,6 +100,7 @@ pub fn records<R: Files + Input>(
         from,
         fault: None,
         patience: Patience::NEW,
+        window: Window::closed(rt.alloc()),
     }
 }
 
@@ -130,32 +133,44 @@ fn fault_of<T>(answer: &io::Result<T>) -> Option<Reason> {
 }
 
 impl<F, S> RecordSource<F, S> {
+    /// Returns the same source, which keeps the bytes that it reads last: at least all of the last line. Without memory it keeps none.
+    pub fn keeping(mut self, alloc: Global) -> RecordSource<F, S> {
+        if !matches!(self.from, Source::Nothing) {
+            self.window = Window::open(alloc);
+        }
+        self
+    }
+
     /// Returns why the last read failed, if it did.
     pub fn fault(&self) -> Option<Reason> {
         self.fault
     }
 }
 
-/// Whether the last bytes, so many of them, have a line feed.
-fn has_line_feed(bytes: &[u8], left: usize) -> bool {
-    let from = bytes.len().saturating_sub(left);
-    bytes[from..].contains(&b'\n')
+impl<F: Drop, S: Drop> RecordSource<F, S> {
+    /// Returns the bytes that were read last.
+    pub fn into_last_bytes(self) -> Vec<u8> {
+        let RecordSource { window, .. } = self;
+        window.into_bytes()
+    }
 }
 
 impl<F: Read, S: Read> RecordSource<F, S> {
-    /// Reads on to the end of the last line, with which these bytes end, or to more bytes than a record has. Without memory it reads no more.
-    pub fn read_line_end(&mut self, last: &mut LastLine) {
+    /// Reads on to the end of the last line, of which this many bytes were read, or to more bytes than a record has. Returns how many
+    /// were read.
+    pub fn read_line_end(&mut self, left: usize) -> usize {
         let mut piece = [0u8; 256];
+        let mut left = left;
         for _ in 0..MOST_COLUMNS {
-            if last.left == 0 || last.left > MOST_COLUMNS || has_line_feed(&last.bytes, last.left) {
+            if left == 0 || left > MOST_COLUMNS || self.window.has_line_feed(left) {
                 break;
             }
-            let count = self.read(&mut piece).unwrap_or(0);
-            if count == 0 || last.bytes.extend_from_slice(&piece[..count]).is_err() {
-                break;
+            match self.read(&mut piece) {
+                Ok(count) if count > 0 => left = left.saturating_add(count),
+                _ => break,
             }
-            last.left = last.left.saturating_add(count);
         }
+        left
     }
 }
 
@@ -168,6 +183,9 @@ impl<F: Read, S: Read> Read for RecordSource<F, S> {
         };
         let answer = self.patience.of(answer);
         self.fault = fault_of(&answer);
+        if let Ok(count) = answer {
+            self.window.add(&buf[..count]);
+        }
         answer
     }
 }
@@ -224,5 +242,57 @@ impl<F: Write + OpenFile, P: Write> Write for LineTarget<'_, F, P> {
             Target::New(file) => file.sync_all(),
             Target::StandardOutput(printer) => printer.flush(),
         }
+    }
+}
+
+/// How many earlier bytes are kept at least: more than the longest line that can be a record.
+const EARLIER: usize = 16_384;
+
+/// Room for the most bytes that a job reads at once, with as many earlier ones before and after what is dropped.
+const ROOM: usize = 65_536 + 3 * EARLIER;
+
+/// The bytes that were read last. Its memory is allocated once; without it, it stays empty.
+#[derive(Drop)]
+pub(crate) struct Window {
+    bytes: Vec<u8>,
+}
+
+impl Window {
+    /// A window that keeps nothing.
+    pub fn closed(alloc: Global) -> Window {
+        Window {
+            bytes: Vec::new(alloc),
+        }
+    }
+
+    pub fn open(alloc: Global) -> Window {
+        match Vec::with_capacity(alloc, ROOM) {
+            Ok(bytes) => Window { bytes },
+            Err(_) => Window::closed(alloc),
+        }
+    }
+
+    /// Keeps bytes that were read, in place of earlier ones if there is no room for all.
+    pub fn add(&mut self, bytes: &[u8]) {
+        if self.bytes.capacity() < ROOM {
+            return;
+        }
+        if self.bytes.len().saturating_add(bytes.len()) > ROOM && self.bytes.len() > EARLIER {
+            let from = self.bytes.len() - EARLIER;
+            self.bytes.copy_within(from.., 0);
+            self.bytes.truncate(EARLIER);
+        }
+        let _ = self.bytes.extend_from_slice(bytes);
+    }
+
+    /// Whether the last bytes, so many of them, have a line feed.
+    pub fn has_line_feed(&self, left: usize) -> bool {
+        let from = self.bytes.len().saturating_sub(left);
+        self.bytes[from..].contains(&b'\n')
+    }
+
+    /// Returns the bytes.
+    pub fn into_bytes(self) -> Vec<u8> {
+        self.bytes
     }
 }

@@ -45,6 +45,7 @@ pub fn open_files<'a, R: Files + AllocGlobal, L: Listener>(
     })
 }
 
+/// Opens a file for reading, if there is one.
 fn read_file<R: Files>(
     rt: &R,
     argument: FileArgument,
@@ -148,6 +149,7 @@ pub fn empty_files<R: Files + AllocGlobal, L: Listener>(
     Ok(())
 }
 
+/// What a run reads and writes.
 #[derive(Drop)]
 pub struct Devices<'r, F: Drop, S: Drop, P: Drop> {
     pub input: RecordSource<F, S>,
@@ -157,14 +159,15 @@ pub struct Devices<'r, F: Drop, S: Drop, P: Drop> {
 }
 
 /// Returns the readers and writers of a run's files. All that is written may have as many bytes as there is room for.
-pub fn devices_of<'r, R: Files + Input + Print>(
+pub fn devices_of<'r, R: Files + Input + Print + AllocGlobal>(
     rt: &'r R,
     files: RunFiles<R::File>,
     room: Option<&'r Cell<u64>>,
 ) -> Devices<'r, R::File, R::Reader, Printer<'r, R>> {
+    let alloc = rt.alloc();
     Devices {
-        input: records(rt, files.input),
-        secondary: records(rt, files.secondary),
+        input: records(rt, files.input).keeping(alloc),
+        secondary: records(rt, files.secondary).keeping(alloc),
         print: lines(rt, files.print, room),
         disk: lines(rt, files.disk, room),
     }
