@@ -1,10 +1,10 @@
 //! A run's output on its way to the writers. It is buffered in the job, so that a writer is called once for many cycles.
 
-ghost use Rattle.std.specs.Prelude.{◌≡◌, ◌-◌, ◌^◌, ◌<◌, ◌≤◌, ◌⊎◌, length, true, is_some, OnOk};
+ghost use Rattle.std.specs.Prelude.{◌≡◌, ◌-◌, ◌^◌, ◌<◌, ◌≤◌, ◌⊎◌, length, true, is_some};
 ghost use Rattle.rpg_machine.specs.Running.{no_bytes};
 ghost use Rattle.rpg_files.specs.Counting.{faults_of};
 ghost use Rattle.rpg_engine.specs.Outputs.{bytes_with};
-ghost use Rattle.rpg_engine.specs.Sending.{CanSend, SendsTo, SendsToFile, SendsWaitingTo, StopsWithTo, state_of, waiting_bytes};
+ghost use Rattle.rpg_engine.specs.Sending.{CanSend, SendsTo, SendsToFile, SendsWaitingTo, StopsWithTo, state_of, unless_fault, waiting_bytes};
 ghost use Rattle.rpg_engine.specs.Streaming.{CannotFailIfNeeded};
 
 use crate::fault::{CycleFault, RunFault};
@@ -84,21 +84,26 @@ fn send_both<W1: Write, W2: Write>(
     send_to(OutputFile::Disk, disk, records, &mut sent.disk)
 }
 
-/// Sends all of a job's buffered output.
+/// Sends all of a job's buffered output, and returns whether no writer failed. A fault is left to the run, whose loop has no room for it in
+/// each cycle.
 #[inline(never)]
 fn send_waiting<S: Store + Drop, W1: Write, W2: Write>(
     job: &mut Job<'_, S>,
     writers: &mut Writers<W1, W2>,
     sent: &mut Sent,
-) -> Result<(), RunFault>
+    fault: &mut RunFault,
+) -> bool
     requires ready { CanSend writers.old sent.old }
-    ensures sends { SendsWaitingTo W1.contents W2.contents result job.old job.new writers sent }
-    ensures all { OnOk result (job.new.output ≡ no_bytes) }
+    ensures sends { SendsWaitingTo W1.contents W2.contents (unless_fault result fault.new) job.old job.new writers sent }
+    ensures all { result ≡ true → job.new.output ≡ no_bytes }
 {
     let output = job.output();
-    send_both(writers, &output.print, &output.disk, sent)?;
+    if let Err(found) = send_both(writers, &output.print, &output.disk, sent) {
+        *fault = found;
+        return false;
+    }
     job.clear_output();
-    Ok(())
+    true
 }
 
 /// Whether reading a file can't fail in the next cycle: no record of it is needed, or its reader's buffer suffices.
@@ -119,15 +124,16 @@ pub(crate) fn send_before_reading<S: Store + Drop, R1: Read, R2: Read, W1: Write
     secondary: &RecordReader<'_, R2>,
     writers: &mut Writers<W1, W2>,
     sent: &mut Sent,
-) -> Result<(), RunFault>
+    fault: &mut RunFault,
+) -> bool
     requires ready { CanSend writers.old sent.old }
-    ensures sends { SendsWaitingTo W1.contents W2.contents result job.old job.new writers sent }
-    ensures ready { OnOk result ((job.new.output ≡ no_bytes) ⊎ (CannotFailIfNeeded need.primary primary.now × CannotFailIfNeeded need.secondary secondary.now)) }
+    ensures sends { SendsWaitingTo W1.contents W2.contents (unless_fault result fault.new) job.old job.new writers sent }
+    ensures ready { result ≡ true → (job.new.output ≡ no_bytes) ⊎ (CannotFailIfNeeded need.primary primary.now × CannotFailIfNeeded need.secondary secondary.now) }
 {
     if cannot_fail(primary, need.primary) && cannot_fail(secondary, need.secondary) {
-        return Ok(());
+        return true;
     }
-    send_waiting(job, writers, sent)
+    send_waiting(job, writers, sent, fault)
 }
 
 /// Shows the job to the watcher after a cycle, then sends all buffered output.
@@ -138,15 +144,16 @@ fn look_and_send<S: Store + Drop, W1: Write, W2: Write, W: Watcher>(
     watcher: &mut W,
     writers: &mut Writers<W1, W2>,
     sent: &mut Sent,
-) -> Result<(), RunFault>
+    fault: &mut RunFault,
+) -> bool
     requires ready { CanSend writers.old sent.old }
     requires watching { W.has_begun watcher.old }
     ensures watching { W.has_begun watcher.new }
-    ensures sends { SendsWaitingTo W1.contents W2.contents result job.old job.new writers sent }
-    ensures all { OnOk result (job.new.output ≡ no_bytes) }
+    ensures sends { SendsWaitingTo W1.contents W2.contents (unless_fault result fault.new) job.old job.new writers sent }
+    ensures all { result ≡ true → job.new.output ≡ no_bytes }
 {
     watcher.look(job, ended);
-    send_waiting(job, writers, sent)
+    send_waiting(job, writers, sent, fault)
 }
 
 /// Shows the job to the watcher and sends the buffered output, if there is enough of it or the cycle was the last.
@@ -158,18 +165,19 @@ pub(crate) fn send_where_enough<S: Store + Drop, W1: Write, W2: Write, W: Watche
     watcher: &mut W,
     writers: &mut Writers<W1, W2>,
     sent: &mut Sent,
-) -> Result<(), RunFault>
+    fault: &mut RunFault,
+) -> bool
     requires ready { CanSend writers.old sent.old }
     requires watching { W.has_begun watcher.old }
     ensures watching { W.has_begun watcher.new }
-    ensures sends { SendsWaitingTo W1.contents W2.contents result job.old job.new writers sent }
-    ensures all { is_some ended ≡ true → OnOk result (job.new.output ≡ no_bytes) }
+    ensures sends { SendsWaitingTo W1.contents W2.contents (unless_fault result fault.new) job.old job.new writers sent }
+    ensures all { is_some ended ≡ true → result ≡ true → job.new.output ≡ no_bytes }
 {
     let waiting = waiting_in(job.output());
     if ended.is_none() && waiting.print < enough && waiting.disk < enough {
-        return Ok(());
+        return true;
     }
-    look_and_send(job, ended, watcher, writers, sent)
+    look_and_send(job, ended, watcher, writers, sent, fault)
 }
 
 /// Returns the fault to report after `cycles` complete cycles. If memory ran out, what was buffered before that cycle is still sent, and a

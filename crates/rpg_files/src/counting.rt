@@ -1,6 +1,6 @@
 //! Readers and writers that count their failed calls.
 
-ghost use Rattle.std.specs.Prelude.{◌≡◌, ◌+◌, ◌-◌, ◌^◌, ◌<◌, ◌≤◌, length, IfOk};
+ghost use Rattle.std.specs.Prelude.{◌≡◌, ◌+◌, ◌-◌, ◌^◌, ◌<◌, ◌≤◌, length, IfOk, Some};
 ghost use Rattle.std.specs.Io.KnownBytes.{Keeps, ReadConsumes, WriteAppends};
 ghost use Rattle.rpg_files.specs.Counting.{faults_after, device_of, faults_of, last_of, max_tries};
 
@@ -18,22 +18,24 @@ pub fn most_tries() -> u32
 #[derive(Clone, Copy)]
 pub struct DeviceFault;
 
-/// Where the last line that was read from a device is, for diagnostics.
-#[derive(Clone, Copy)]
+/// The last line that was read from a device, for diagnostics.
+#[derive(Drop)]
 pub struct LastLine {
     /// How many records were read.
     pub number: u32,
+    /// The bytes that were read last: earlier ones, and those from the beginning of the last line on.
+    pub bytes: Vec<u8>,
     /// How many bytes were read from the beginning of the last line on, a record or one that no program accepts; none at the end of the
     /// input.
     pub left: usize,
 }
 
-/// A reader or a writer, with the number of its failed calls. A reader of records notes where the last line is.
+/// A reader or a writer, with the number of its failed calls. A reader of records leaves the last line.
 #[derive(Drop)]
 pub struct Counted<T> {
     device: T,
     faults: u64,
-    last: LastLine,
+    last: Option<LastLine>,
 }
 
 impl<T> Counted<T> {
@@ -44,22 +46,15 @@ impl<T> Counted<T> {
         Counted {
             device,
             faults: 0,
-            last: LastLine { number: 0, left: 0 },
+            last: None,
         }
     }
 
-    /// Returns where the last line is.
-    pub fn last(&self) -> LastLine
-        ensures { result ≡ last_of self.now }
-    {
-        self.last
-    }
-
-    /// Notes where the last line is.
+    /// Keeps the last line.
     pub(crate) fn note(&mut self, last: LastLine)
-        ensures { self.new ≡ record self.old { last = last } }
+        ensures { self.new ≡ record self.old { last = Some last } }
     {
-        self.last = last;
+        self.last = Some(last);
     }
 
     /// Returns how many calls failed.
@@ -81,6 +76,14 @@ impl<T> Counted<T> {
         ensures { result ≡ device_of self }
     {
         self.device
+    }
+
+    /// Returns the reader itself, and the last line that was read from it, if records were.
+    pub fn into_parts(self) -> (T, Option<LastLine>)
+        ensures device { result.0 ≡ device_of self }
+        ensures last { result.1 ≡ last_of self }
+    {
+        (self.device, self.last)
     }
 }
 

@@ -30,11 +30,6 @@ impl<'a> Operand<'a> {
         }
     }
 
-    /// Whether it has an index.
-    pub fn has_index(&self) -> bool {
-        !self.index.is_empty()
-    }
-
     /// Whether its index is a field's name.
     pub fn has_index_field(&self) -> bool {
         !self

@@ -1,7 +1,7 @@
 -- Names in the order of their first definitions.
 use denote.Enum.Bare.{sameb}
 use mathlib.Core.Bool.{beq}
-use Rattle.std.specs.Prelude.{◌≡◌, ◌≢◌, ℕ, ◌+◌, ◌≤◌, ◌<◌, ◌&&◌, ◌==◌, Bool, List, [], ◌∷◌, ◌++◌, length, false, Option, None, Some, sum_by, position, nat_eq, codes}
+use Rattle.std.specs.Prelude.{ℕ, ◌+◌, ◌&&◌, ◌==◌, Bool, List, [], ◌∷◌, false, Option, sum_by, position, nat_eq, codes}
 use Rattle.std.specs.Option.{option_map}
 use Rattle.std.specs.Map.{lookup, keys_of}
 use Rattle.std.specs.Cmp.Lexicographic.{pointwise}
@@ -12,8 +12,6 @@ use Rattle.rpg_program.specs.declared.form.FieldForm.{FieldForm}
 use Rattle.rpg_program.specs.declared.form.Kind.TheVariants as kind
 use Rattle.rpg_program.specs.declared.form.Class.{Class}
 use Rattle.rpg_program.specs.declared.form.Class.TheVariants as class
-use Rattle.rpg_symbols.specs.declared.symbols.DefineFault.{DefineFault}
-use Rattle.rpg_symbols.specs.declared.symbols.DefineFault.TheVariants.{Other, Full, NoMemory}
 
 -- the names that are defined, in order, each with its form
 abbrev pub NamedForms : Type 0
@@ -44,33 +42,3 @@ same_form f g =
 -- the characters that fields take in storage, all together
 abbrev pub storage : NamedForms → ℕ
 storage fields = sum_by (λ (f : List ℕ × FieldForm). size_of f.1) fields
-
--- one more field of this form keeps the limits
-pub record HasFieldRoom (fields : NamedForms) (form : FieldForm) : Type 0 where
-  pub rows : length fields < 4000
-  pub bytes : storage fields + size_of form ≤ 65535
-
--- a name that was defined so before
-pub record IsKnown (old : NamedForms) (name : List ℕ) (form : FieldForm) (new : NamedForms) (n : ℕ) : Type 0 where
-  pub number : number_of_name old name ≡ Some n
-  pub same_form : defined_form old name ≡ Some form
-  pub unchanged : new ≡ old
-
--- a name that is defined for the first time
-pub record IsAdded (old : NamedForms) (name : List ℕ) (form : FieldForm) (new : NamedForms) (n : ℕ) : Type 0 where
-  pub absent : defined_form old name ≡ None
-  pub room : HasFieldRoom old form
-  pub added : new ≡ old ++ (name, form) ∷ []
-  pub number : n ≡ length old + 1
-
--- a name that was defined in another form before
-pub record HasOtherForm (old : NamedForms) (name : List ℕ) (form : FieldForm) : Type 0 where
-  pub before : FieldForm
-  pub first_form : defined_form old name ≡ Some before
-  pub differs : before ≢ form
-
--- when each refusal comes
-abbrev pub Refuses : DefineFault → NamedForms → List ℕ → FieldForm → Type 0
-Refuses Other old name form = HasOtherForm old name form
-Refuses Full old name form = (defined_form old name ≡ None) × ¬ HasFieldRoom old form
-Refuses NoMemory old name form = (defined_form old name ≡ None) × HasFieldRoom old form
