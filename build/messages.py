@@ -5,57 +5,109 @@ usage: build/messages.py [PROGRAM]
 
 PROGRAM is a build of rpg2, by default crates/rpg2/out/rpg2. The session telling compares the page with what each build gives, so run this
 after a change to a page of a code.
+
+A code is a list there: each item begins with its label, such as Breaks it, and has its cards right below, indented.
 """
 
 import re
 import subprocess
 import sys
+import textwrap
+from collections import Counter
 from pathlib import Path
 
 TOP = Path(__file__).resolve().parent.parent
 PAGE = TOP / "docs/MESSAGES.md"
 SECOND_PART = "# The rules of a source"
+WIDTH = 100
+KEPT = "\0"
 
 CODE = re.compile(r"## ([^:\n]+):")
-GIVEN = re.compile(r"\A(## .*\n)\n(In .*?)\n\n", re.S)
-THEN = re.compile(r"\n\nThen: (.*?)\n*\Z", re.S)
+# a text, the cards of an item, or the items of a list, with blank lines around it
+BLOCK = re.compile(r"^```text\n.*?^```$|^\S.*?(?=\n\n|\n*\Z)", re.MULTILINE | re.DOTALL)
+LABEL = re.compile(r"(Breaks it|Keeps it|Before|After):")
+# blanks at which no line may end: those in code, and those before what would begin a list or a heading
+IN_CODE = re.compile(r"`[^`]+`")
+BEFORE_MARK = re.compile(r"\s(?=(?:\d+[.)]|[-+*#>]+)\s)")
 
 
-def link_to(page: str) -> str:
-    """The code of a page as a link to it."""
-    heading = page.splitlines()[0].removeprefix("## ")
-    slug = re.sub(r"[^\w -]", "", heading.lower()).replace(" ", "-")
-    return f"[{CODE.match(page)[1]}](#{slug})"
+class Code:
+    """The page of a code: its heading, what is given, its items, what to do, and what follows."""
+
+    def __init__(self, explained: str) -> None:
+        heading, *blocks = BLOCK.findall(explained)
+        self.heading = heading.removeprefix("## ")
+        self.name = CODE.match(heading)[1]
+        self.given = flat(blocks.pop(0)) if blocks[0].startswith("In ") else ""
+        self.then = flat(blocks.pop().removeprefix("Then: "))
+        self.to_do = flat(blocks.pop().removeprefix("What to do: "))
+        self.items = items_of(blocks)
+
+    def family(self) -> str:
+        return re.match(r"[A-Za-z]+", self.name)[0]
+
+    def link(self) -> str:
+        slug = re.sub(r"[^\w -]", "", self.heading.lower()).replace(" ", "-")
+        return f"[{self.name}](#{slug})"
 
 
-def family_of(page: str) -> str:
-    return re.match(r"[A-Za-z]+", CODE.match(page)[1])[0]
+class Family:
+    """The codes of a family, and what they share. What to do is shared if several codes have the same."""
+
+    def __init__(self, codes: list[Code]) -> None:
+        self.codes = codes
+        givens, thens = {it.given for it in codes} - {""}, {it.then for it in codes}
+        if len(givens) > 1 or len(thens) > 1:
+            sys.exit(f"the pages of {codes[0].family()} share neither what is given nor what follows")
+        self.given, self.then = "".join(givens), thens.pop()
+        to_do, times = Counter(it.to_do for it in codes).most_common(1)[0]
+        self.to_do = to_do if times > 1 else ""
+
+    def row(self) -> str:
+        return f"| {', '.join(it.link() for it in self.codes)} | {self.given} | {self.to_do} | {self.then} |\n"
+
+    def section(self, code: Code) -> str:
+        own = [] if code.to_do == self.to_do else [item_of("What to do", code.to_do)]
+        return f"## {code.heading}\n\n" + "\n".join(code.items + own) + "\n"
 
 
-def parted(page: str) -> tuple[str, str, str]:
-    """A page without what is given and what follows, and these two on one line each."""
-    given, then = GIVEN.search(page), THEN.search(page)
-    rest = GIVEN.sub(r"\1\n", THEN.sub("\n", page))
-    return rest, " ".join(given[2].split()) if given else "", " ".join(then[1].split())
+def flat(text: str) -> str:
+    return " ".join(text.split())
 
 
-def row_of(pages: list[str]) -> str:
-    """The row of a family's pages in the table."""
-    shared = {parted(it)[1] for it in pages} - {""}, {parted(it)[2] for it in pages}
-    givens, thens = (sorted(it) for it in shared)
-    if len(givens) > 1 or len(thens) > 1:
-        sys.exit(f"the pages of {family_of(pages[0])} share neither what is given nor what follows")
-    return f"| {', '.join(map(link_to, pages))} | {' '.join(givens)} | {thens[0]} |\n"
+def items_of(blocks: list[str]) -> list[str]:
+    """The items of a page, each with its label and its cards."""
+    items: list[str] = []
+    label, is_first = "", True
+    for block in blocks:
+        if found := LABEL.fullmatch(block):
+            label, is_first = found[1], True
+            continue
+        if block.startswith("- "):
+            items += [item_of(label, flat(it)) for it in re.split(r"^- ", block, flags=re.MULTILINE)[1:]]
+        else:
+            items += [item_of(label, "")] if is_first else []
+            items[-1] += "\n" + textwrap.indent(block, "  ")
+        is_first = False
+    return items
+
+
+def item_of(label: str, text: str) -> str:
+    kept = IN_CODE.sub(lambda it: it[0].replace(" ", KEPT), BEFORE_MARK.sub(KEPT, f"**{label}:** {text}"))
+    lines = textwrap.wrap(kept, WIDTH, initial_indent="- ", subsequent_indent="  ", break_long_words=False, break_on_hyphens=False)
+    return "\n".join(lines).replace(KEPT, " ")
 
 
 def page_of(explained: str) -> str:
     """The first part of the page, from what `rpg2 explain` prints."""
     title, *pages = re.split(r"(?m)^(?=## )", explained)
-    families: dict[str, list[str]] = {}
-    for page in pages:
-        families.setdefault(family_of(page), []).append(page)
-    table = "| Code | Given | Then |\n|---|---|---|\n" + "".join(map(row_of, families.values()))
-    return title + table + "\n" + "\n".join(parted(it)[0] for it in pages)
+    families: dict[str, list[Code]] = {}
+    for code in map(Code, pages):
+        families.setdefault(code.family(), []).append(code)
+    shared = [Family(it) for it in families.values()]
+    table = "| Code | Given | What to do, unless it is below | Then |\n|---|---|---|---|\n" + "".join(it.row() for it in shared)
+    sections = [it.section(code) for it in shared for code in it.codes]
+    return title.replace("the first of the line", "its first") + table + "\n" + "\n".join(sections)
 
 
 def main() -> None:

@@ -16,8 +16,8 @@ from counted import counts_of
 INSTALLED = ("README.md", "CHANGELOG.md", "CONTRIBUTING.md", "docs", "examples")
 PAGES = [Path(it) for it in INSTALLED if it.endswith(".md")] + [it for part in ("docs", "examples") for it in sorted(Path(part).rglob("*.md"))]
 OTHERS = [Path("tests/README.md"), Path("install/README.md"), *sorted(Path("crates").glob("*/README.md"))]
-LONG = {"MESSAGES.md": 2600, "LANGUAGE.md": 700}
-FENCED = re.compile(r"^```.*?^```$", re.MULTILINE | re.DOTALL)
+LONG = {"MESSAGES.md": 1900}
+FENCED = re.compile(r"^ *```.*?^ *```$", re.MULTILINE | re.DOTALL)
 LINK = re.compile(r"\[[^\]]+\]\(([^)#\s]*)(?:#([^)\s]+))?\)")
 HEADING = re.compile(r"^#+ (.+)$", re.MULTILINE)
 # names of files by their paths from the top, and of pages outside code
