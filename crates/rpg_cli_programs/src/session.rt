@@ -66,7 +66,8 @@ pub fn own_source<'a, R: Files + AllocGlobal, L: Listener>(
     let text = named(FileArgument::OwnSource, file_bytes(rt, path))?;
     match matched(rt.alloc(), text, object) {
         Ok((compiled, source)) => {
-            Ok(Some(OwnSource::of(rt.alloc(), file, compiled, &source)?))
+            let own = OwnSource::of(rt.alloc(), file, compiled, &source)?;
+            Ok(Some(own))
         }
         Err((text, answer)) => {
             if let Answer::Source(_) = answer {

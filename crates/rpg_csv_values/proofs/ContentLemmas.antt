@@ -1,21 +1,23 @@
 -- The content of columns is read back as these columns.
-use Rattle.std.proofs.Common.{◌≡◌, ℕ, zero, suc, ◌+◌, ◌-◌, ◌*◌, ◌/◌, ◌%◌, ◌^◌, ◌<◌, ◌≤◌, ◌==◌, ◌&&◌, ◌||◌, not, nat_le, nat_lt, min, Bool, true, false, cond, if◌then◌else◌, List, [], ◌∷◌, ◌++◌, length, map, take, take_all, drop, replicate, reverse, get_or, ◌⊎◌, refl, sym, ap, ap₂, ◌∙◌, arith, length-append, length-drop, length-take, div-add-mod', mod-eq_of_lt, add_comm, Option, None, Some, option_map, Result, Ok, Err, inl, inr, ℤ, pos, negsuc, neg_ℤ, unsigned_abs}
+use Rattle.std.proofs.Common.{◌≡◌, ℕ, zero, suc, ◌+◌, ◌-◌, ◌*◌, ◌/◌, ◌%◌, ◌^◌, ◌<◌, ◌≤◌, ◌==◌, ◌&&◌, ◌||◌, not, nat_le, nat_lt, min, Bool, true, false, cond, if◌then◌else◌, List, [], ◌∷◌, ◌++◌, length, map, take, take_all, drop, replicate, get_or, ◌⊎◌, refl, sym, ap, ap₂, ◌∙◌, arith, length-append, length-take, div-add-mod', mod-eq_of_lt, add_comm, Option, None, Some, option_map, Result, Ok, Err, inl, inr, ℤ, pos, negsuc, neg_ℤ, unsigned_abs}
 use Rattle.std.proofs.Math.Nat.{div-div-eq-div-mul, le-mul_of_pos_right, mul-le-mul_right, one-le-pow}
 use Rattle.std.proofs.Math.Seq.{drop-append_seam, take-append_seam}
-use Rattle.std.proofs.lemmas.Bool.{agree_below_at, and_from, and_left, and_parts, and_right, or_from, eq-eqb, eqb-true, le-ltb, lt-leb, leb-true, ltb-true, cases_lt, false_from_ne_true, true≢false}
-use Rattle.std.proofs.lemmas.List.{length-map, length-replicate, length-reverse, map-append, reverse-append, reverse-reverse}
+use Rattle.std.proofs.lemmas.Bool.{and_from, and_left, and_parts, and_right, or_from, eq-eqb, eqb-true, le-ltb, lt-leb, leb-true, ltb-true, cases_lt, false_from_ne_true, true≢false}
+use Rattle.std.proofs.lemmas.List.{length-map, length-replicate, map-append}
 use Rattle.std.proofs.lemmas.List.Folds.{list_all-append}
 use Rattle.std.proofs.lemmas.List.Sums.{suffix_len-le-length}
 use Rattle.std.proofs.lemmas.Nat.{pow-add}
 use Rattle.std.specs.Int.{is_negative}
-use Rattle.std.specs.List.{list_all, list_any, prefix_len, suffix_len}
+use Rattle.std.specs.List.{list_all, list_any}
 use Rattle.rpg_text.specs.Texts.{all_blank, is_blank, trimmed}
 use Rattle.rpg_decimal_words.specs.Place.{lowest_digits, place_value}
-use Rattle.rpg_decimal_words.specs.Zoned.{digit_of, is_digit, last_character, last_of, minus_letter, number_in, zoned_text}
+use Rattle.rpg_decimal_words.specs.Zoned.{digit_of, is_digit, last_character, last_of, number_in, zoned_text}
 use Rattle.rpg_decimal.proofs.PlaceLemmas.{length-digits, place_value-append, place_value-digits}
 use Rattle.rpg_decimal.proofs.LawLemmas.{length-zoned, read_back}
 use Rattle.rpg_decimal.proofs.WholeLemmas.{ten_le}
-use Rattle.rpg_decimal.proofs.ZonedLemmas.{digit_of-plain, digit_stands, last_character-pos, written_plus}
+use Rattle.rpg_decimal.proofs.ZonedLemmas.{digit_of-plain, digit_stands, written_plus}
+use Rattle.rpg_records.proofs.Again.{last_filled}
+use Rattle.rpg_records.proofs.Ends.{ends_in, kept_and_end, trimmed_again}
 use Rattle.rpg_csv_values.specs.Cells.{number_columns, padded, zoned_columns}
 use Rattle.rpg_csv_values.specs.Contents.{AreDigits, ContentsAreReadBack, columns_number, minus_of, number_content, pointed, without_leading_zeros}
 use Rattle.rpg_csv_values.specs.Numbers.{after_point, before_point, cell_number, counted, digits_number, digits_with_point, has_minus, number_size, parts_number, signed_size, ungrouped, whole_number, without_blanks, without_sign, without_zeros}
@@ -24,60 +26,7 @@ use Rattle.rpg_csv_values.specs.declared.cell.CellFault.TheVariants as faults
 use Rattle.rpg_csv_values.specs.declared.cell.CellKind.TheVariants as kinds
 use Rattle.rpg_csv_values.specs.declared.number.NumberFormat.{NumberFormat}
 
--- ---- the end of a text
-
-abbrev ends_in : ℕ → List ℕ → ℕ
-ends_in v xs = suffix_len (λ c. c == v) xs
-
-abbrev begins_in : ℕ → List ℕ → ℕ
-begins_in v xs = prefix_len (λ c. c == v) xs
-
-front_again : (v : ℕ) (ys : List ℕ) → replicate (begins_in v ys) v ++ drop (begins_in v ys) ys ≡ ys
-front_again v [] = refl
-front_again v (y ∷ ys) = at (y == v) refl (front_again v ys)
-  where
-    at : (b : Bool) → (y == v) ≡ b → replicate (begins_in v ys) v ++ drop (begins_in v ys) ys ≡ ys → replicate (cond b (1 + begins_in v ys) 0) v ++ drop (cond b (1 + begins_in v ys) 0) (y ∷ ys) ≡ y ∷ ys
-    at true e more = let next : 1 + begins_in v ys ≡ suc (begins_in v ys) = omega arith in ap (λ (k : ℕ). replicate k v ++ drop k (y ∷ ys)) next ∙ ap₂ (λ (c : ℕ) (cs : List ℕ). c ∷ cs) (sym (eqb-true y v e)) more
-    at false e more = refl
-
-one_more : (n v : ℕ) → replicate n v ++ v ∷ [] ≡ v ∷ replicate n v
-one_more zero v = refl
-one_more (suc n) v = ap (λ (cs : List ℕ). v ∷ cs) (one_more n v)
-
-replicate_reversed : (n v : ℕ) → reverse (replicate n v) ≡ replicate n v
-replicate_reversed zero v = refl
-replicate_reversed (suc n) v = reverse-append (v ∷ []) (replicate n v) ∙ ap (λ (cs : List ℕ). cs ++ v ∷ []) (replicate_reversed n v) ∙ one_more n v
-
--- a text is what comes before its end, and its end
-kept_and_end : (v : ℕ) (xs : List ℕ) → take (length xs - ends_in v xs) xs ++ replicate (ends_in v xs) v ≡ xs
-kept_and_end v xs =
-    let ys = reverse xs in
-    let n = begins_in v ys in
-    let kept = reverse (drop n ys) in
-    let whole : kept ++ replicate n v ≡ xs =
-    ap (λ (cs : List ℕ). kept ++ cs) (sym (replicate_reversed n v)) ∙ sym (reverse-append (replicate n v) (drop n ys)) ∙ ap reverse (front_again v ys) ∙ reverse-reverse xs in
-    let long : length kept ≡ length xs - n = omega (arith, length-reverse (drop n ys), length-drop n ys, length-reverse xs) in
-    let first : take (length xs - n) xs ≡ kept = ap (λ (k : ℕ). take k xs) (sym long) ∙ ap (take (length kept)) (sym whole) ∙ take-append_seam kept (replicate n v) in
-    ap (λ (cs : List ℕ). cs ++ replicate n v) first ∙ whole
-
-begins_more : (n v : ℕ) (ys : List ℕ) → begins_in v (replicate n v ++ ys) ≡ n + begins_in v ys
-begins_more zero v ys = omega arith
-begins_more (suc n) v ys =
-    let more = begins_more n v ys in
-    ap (λ (b : Bool). cond b (1 + begins_in v (replicate n v ++ ys)) 0) (eq-eqb v v refl) ∙ omega (arith, more)
-
-ends_more : (n v : ℕ) (xs : List ℕ) → ends_in v (xs ++ replicate n v) ≡ n + ends_in v xs
-ends_more n v xs = ap (begins_in v) (reverse-append xs (replicate n v) ∙ ap (λ (cs : List ℕ). cs ++ reverse xs) (replicate_reversed n v)) ∙ begins_more n v (reverse xs)
-
 -- ---- texts
-
-trimmed_again : (text : List ℕ) → trimmed (trimmed text) ≡ trimmed text
-trimmed_again text =
-    let kept = trimmed text in
-    let n = ends_in 32 text in
-    let counts : n ≡ n + ends_in 32 kept = sym (ap (ends_in 32) (kept_and_end 32 text)) ∙ ends_more n 32 kept in
-    let none : length kept - ends_in 32 kept ≡ length kept = omega (arith, counts) in
-    ap (λ (k : ℕ). take k kept) none ∙ take_all (length kept) kept (omega arith)
 
 padded_back : (width : ℕ) (text : List ℕ) → length text ≡ width → padded width (trimmed text) ≡ text
 padded_back width text long =
@@ -410,16 +359,12 @@ without_none (c ∷ cs) h =
 
 -- ---- columns of digits
 
-last_filled : (n : ℤ) → not (last_character n == 32) ≡ true
-last_filled (pos a) = ap (λ (c : ℕ). not (c == 32)) (last_character-pos a) ∙ ap not (differs (48 + a % 10) 32 (digit_stands (a % 10) (omega arith)) (omega arith))
-last_filled (negsuc a) = agree_below_at (λ n. not (minus_letter n == 32)) (λ _. true) 10 (suc a % 10) refl (omega arith)
-
 zoned_lacks : (width : ℕ) (n : ℤ) → lacks 32 (zoned_text width n) ≡ true
 zoned_lacks width n =
     let front = plain (width - 1) (unsigned_abs n / 10) in
     list_all-append (λ c. not (c == 32)) front (last_character n ∷ [])
     ∙ and_from (lacks 32 front) (lacks 32 (last_character n ∷ [])) (digits_lack 32 front (omega arith) (plain_stands (width - 1) (unsigned_abs n / 10)))
-    (and_from (not (last_character n == 32)) true (last_filled n) refl)
+    (and_from (not (last_character n == 32)) true (ap not (last_filled n)) refl)
 
 lacks_any : (xs : List ℕ) → lacks 32 xs ≡ true → list_any is_blank xs ≡ false
 lacks_any [] h = refl

@@ -1,4 +1,6 @@
+mod BackLemmas
 mod DigitLemmas
+mod ForthLemmas
 mod FrameLemmas
 mod InputLemmas
 mod LineLemmas

@@ -25,6 +25,14 @@ any_before test (x ∷ xs) = at (test x) (any_before test xs)
 position_none : (test : ℕ → Bool) (xs : List ℕ) → list_any test xs ≡ false → position test xs ≡ None
 position_none test xs e = ap (λ (b : Bool). cond b (Some (prefix_len (λ b. not (test b)) xs)) None) (sym (any_before test xs) ∙ e)
 
+-- no element passes
+pub none_passes : (test : ℕ → Bool) (xs : List ℕ) → position test xs ≡ None → list_any test xs ≡ false
+none_passes test xs e = at (nat_lt (prefix_len (λ b. not (test b)) xs) (length xs)) refl e
+  where
+    at : (b : Bool) → nat_lt (prefix_len (λ b. not (test b)) xs) (length xs) ≡ b → cond b (Some (prefix_len (λ b. not (test b)) xs)) None ≡ None → list_any test xs ≡ false
+    at true t h = cc
+    at false t h = any_before test xs ∙ t
+
 is_false : (b : Bool) → not b ≡ true → b ≡ false
 is_false true e = cc
 is_false false e = refl

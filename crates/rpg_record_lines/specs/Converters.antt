@@ -6,7 +6,7 @@ use Rattle.rpg_records.specs.declared.translation.Page.TheVariants as pages
 use Rattle.rpg_record_lines.specs.Lines.{record_characters, line_of_record, whole_line_of}
 use Rattle.rpg_record_lines.specs.Outcomes.{TextOrFault}
 use Rattle.rpg_record_lines.specs.Records.{checked_record, record_of_line, typed_record}
-use Rattle.rpg_record_lines.specs.Types.{first_type}
+use Rattle.rpg_records.specs.Types.{first_type}
 use Rattle.rpg_records.specs.declared.layout.RecordType.{RecordType}
 use Rattle.rpg_record_lines.specs.declared.line.Converter.{Converter}
 

@@ -1,4 +1,5 @@
 -- Records as lines.
+pub mod Back
 pub mod Conversions
 pub mod Converters
 pub mod Cuts
@@ -9,5 +10,5 @@ pub mod Numbers
 pub mod Outcomes
 pub mod Records
 pub mod Texts
-pub mod Types
 pub mod Ways
+pub use Rattle.rpg_records.specs.Types

@@ -7,7 +7,7 @@ use Rattle.rpg_records.specs.declared.translation.Page.{Page}
 use Rattle.rpg_records.specs.declared.translation.Page.TheVariants as pages
 use Rattle.rpg_record_lines.specs.Numbers.{digits_of_fields}
 use Rattle.rpg_record_lines.specs.Outcomes.{TextOrFault, text_and_then, joined_texts}
-use Rattle.rpg_record_lines.specs.Types.{card_of_type, first_type, is_card}
+use Rattle.rpg_records.specs.Types.{card_of_type, first_type, is_card}
 use Rattle.rpg_record_lines.specs.declared.fault.RecordFault.{RecordFault}
 use Rattle.rpg_record_lines.specs.declared.fault.RecordFault.TheVariants as faults
 use Rattle.rpg_records.specs.declared.layout.RecordType.{RecordType}

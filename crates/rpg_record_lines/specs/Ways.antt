@@ -1,5 +1,5 @@
 -- Lines of records, and records of lines.
-use Rattle.std.specs.Prelude.{ℕ, ◌+◌, ◌-◌, ◌==◌, ◌++◌, Bool, false, if◌then◌else◌, List, [], ◌∷◌, length, replicate, Option, Some, None, Result, Ok, Err}
+use Rattle.std.specs.Prelude.{ℕ, ◌-◌, ◌==◌, ◌++◌, Bool, false, if◌then◌else◌, List, [], ◌∷◌, length, replicate, Option, Some, None, Result, Ok, Err}
 use Rattle.rpg_text.specs.Lines.{with_line_feed}
 use Rattle.rpg_records.specs.Columns.{page_byte}
 use Rattle.rpg_records.specs.declared.translation.Page.{Page}

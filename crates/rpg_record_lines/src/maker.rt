@@ -1,6 +1,6 @@
 //! Converts a record or a line to what is written for it.
 
-ghost use Rattle.std.specs.Prelude.{◌≡◌, ◌-◌, ◌++◌, replicate, vec_len, Some, None, Ok, IfErr, IfOk, OnOk, if◌then◌else◌};
+ghost use Rattle.std.specs.Prelude.{◌≡◌, Some, None, Ok, IfErr, IfOk, OnOk, if◌then◌else◌};
 ghost use Rattle.rpg_records.specs.Columns.{page_byte};
 ghost use Rattle.rpg_record_lines.specs.Frames.{frame};
 ghost use Rattle.rpg_record_lines.specs.Outcomes.{IsLineFaultOf};
@@ -9,6 +9,7 @@ ghost use Rattle.rpg_record_lines.specs.Ways.{is_dropped};
 use crate::fault::LineFault;
 use crate::frames::Framing;
 use crate::line::Converter;
+use crate::record::pad;
 use std::alloc::AllocError;
 
 /// The direction of a conversion.
@@ -46,16 +47,6 @@ fn is_dropped(dropped: Option<u8>, bytes: &[u8]) -> bool
         (Some(byte), Some(first)) => *first == byte,
         _ => false,
     }
-}
-
-/// Pads a record to `length` bytes.
-fn pad(bytes: &mut Vec<u8>, length: usize, blank: u8) -> Result<(), AllocError>
-    ensures { OnOk result (bytes.new.items ≡ bytes.old.items ++ replicate (length - vec_len bytes.old) blank) }
-{
-    while bytes.len() < length {
-        bytes.push(blank)?;
-    }
-    Ok(())
 }
 
 /// Writes a record with its delimiters.

@@ -1,13 +1,13 @@
 //! Converts a line to a record.
 
-ghost use Rattle.std.specs.Prelude.{◌≡◌, ◌≤◌, length, Ok, Err, IfErr, OnOk};
+ghost use Rattle.std.specs.Prelude.{◌≡◌, ◌-◌, ◌≤◌, ◌++◌, length, replicate, Ok, Err, IfErr, OnOk};
 ghost use Rattle.rpg_record_lines.specs.Outcomes.{IsLineFaultOf};
-ghost use Rattle.rpg_record_lines.specs.Records.{bytes_of_characters, widened};
+ghost use Rattle.rpg_record_lines.specs.Records.{bytes_of_characters};
 
 use crate::fault::{LineFault, RecordFault};
-use crate::line::{Converter, card_of, is_card};
+use crate::line::Converter;
 use crate::numbers::write_numbers;
-use rpg_records::RecordType;
+use rpg_records::{RecordType, card_of, is_card};
 use rpg_text::{is_character, trimmed};
 use std::alloc::AllocError;
 
@@ -76,7 +76,7 @@ impl<'a> Converter<'a> {
     {
         let length = self.length();
         bytes.resize(length, 0)?;
-        widen(line, length)?;
+        pad(line, length, b' ')?;
         let wide = line.as_slice();
         let columns = &wide[..length];
         let Some(kind) = self.type_of_line(columns) else {
@@ -89,13 +89,13 @@ impl<'a> Converter<'a> {
     }
 }
 
-/// Pads a line with blanks to `columns` columns.
-fn widen(line: &mut Vec<u8>, columns: usize) -> Result<(), AllocError>
-    ensures line { OnOk result (line.new.items ≡ widened columns line.old.items) }
-    ensures long { OnOk result (columns ≤ length line.new.items) }
+/// Pads a text with a byte to `columns` bytes.
+pub(crate) fn pad(text: &mut Vec<u8>, columns: usize, byte: u8) -> Result<(), AllocError>
+    ensures padded { OnOk result (text.new.items ≡ text.old.items ++ replicate (columns - length text.old.items) byte) }
+    ensures long { OnOk result (columns ≤ length text.new.items) }
 {
-    if line.len() < columns {
-        line.resize(columns, b' ')?;
+    if text.len() < columns {
+        text.resize(columns, byte)?;
     }
     Ok(())
 }

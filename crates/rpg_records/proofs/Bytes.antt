@@ -113,7 +113,7 @@ pub read_high : (bytes : List ℕ) (size sizes : ℕ) → size ≡ byte_value by
     → to_z w64 (of_z w64 (pos 0 -ℤ to_z w64 (sizes - size))) ≡ binary_number bytes
 read_high bytes size sizes s e few h = small_minus (sizes - size) (omega arith) ∙ sym (number_is bytes size sizes s e ∙ high_half_is size sizes h)
 
-size_pos : (k a : ℕ) → twos_complement k (pos a) ≡ a
+pub size_pos : (k a : ℕ) → twos_complement k (pos a) ≡ a
 size_pos k a = ap (λ b. cond b (256 ^ k - a) a) (le-ltb a 0 (omega arith))
 
 written_is : (k size : ℕ) → size < 256 ^ k → binary_number (lowest_bytes k size) ≡ number_of size (256 ^ k)

@@ -2,7 +2,7 @@
 use Rattle.std.proofs.Common.{◌≡◌, ℕ, zero, suc, ◌+◌, ◌-◌, ◌*◌, ◌/◌, ◌%◌, ◌^◌, ◌<◌, ◌≤◌, Bool, true, false, ◌&&◌, ℤ, pos, negsuc, neg_ℤ, unsigned_abs, List, [], ◌∷◌, ◌++◌, length, take, get_or, refl, sym, ap, ap₂, ◌∙◌, arith, append_assoc, pow-suc, Some, None, cond, to_z, of_z, w64, if◌then◌else◌, div-add-mod', mod-eq_of_lt}
 use Rattle.std.proofs.Math.Nat.{div-div-eq-div-mul, pow-le-pow_right}
 use Rattle.std.proofs.lemmas.Nat.{pow-add, mul-pow}
-use Rattle.std.proofs.lemmas.Bool.{and_from, le-ltb}
+use Rattle.std.proofs.lemmas.Bool.{and_from, and_right, le-ltb}
 use Rattle.std.proofs.lemmas.Bool.Decides.{nat_tests}
 use Rattle.std.proofs.lemmas.Int.{ints}
 use Rattle.std.proofs.lemmas.List.{take_more, take_all, take_at, get_or_push, length_push}
@@ -12,6 +12,7 @@ use Rattle.rpg_decimal_words.specs.Place.{place_value, lowest_digits, signed_num
 use Rattle.rpg_decimal_words.specs.Zoned.{last_of}
 use Rattle.rpg_records.specs.Packed.{halves, is_figure, is_sign, is_minus_sign, packed_digits, packed_sign, is_packed, packed_number, packed_in, pair_byte, lowest_pairs, sign_digit, packed_bytes}
 use Rattle.rpg_decimal.proofs.PlaceLemmas.{place_value-append, place_value_push, place_value-digits}
+use Rattle.rpg_decimal.proofs.WholeLemmas.{ten_le}
 
 -- ---- halves
 
@@ -22,7 +23,7 @@ halves_push (x ∷ xs) b = ap (λ t. x / 16 ∷ (x % 16 ∷ t)) (halves_push xs 
 pub halves_more : (xs : List ℕ) (i : ℕ) → i < length xs → halves (take (i + 1) xs) ≡ halves (take i xs) ++ get_or xs i 0 / 16 ∷ (get_or xs i 0 % 16 ∷ [])
 halves_more xs i h = ap halves (take_more xs i 0 h) ∙ halves_push (take i xs) (get_or xs i 0)
 
-length-halves : (xs : List ℕ) → length (halves xs) ≡ 2 * length xs
+pub length-halves : (xs : List ℕ) → length (halves xs) ≡ 2 * length xs
 length-halves [] = refl
 length-halves (x ∷ xs) = let e = length-halves xs in omega (arith, e)
 
@@ -95,20 +96,16 @@ pub is_packed-bad_front : (front : List ℕ) (b : ℕ) → list_all is_figure (h
 is_packed-bad_front front b h =
     is_split front b ∙ ap (λ t. t && is_sign (b % 16)) (list_all-append is_figure (halves front) (b / 16 ∷ []) ∙ ap (λ t. t && list_all is_figure (b / 16 ∷ [])) h)
 
-and_false : (x : Bool) → (x && false) ≡ false
-and_false true = refl
-and_false false = refl
-
 pub is_packed-bad_digit : (front : List ℕ) (b : ℕ) → 9 < b / 16 → is_packed (front ++ b ∷ []) ≡ false
 is_packed-bad_digit front b h =
     let one : is_figure (b / 16) ≡ false = grind (arith, nat_tests) in
     is_split front b
-    ∙ ap (λ t. t && is_sign (b % 16)) (list_all-append is_figure (halves front) (b / 16 ∷ []) ∙ ap (λ t. list_all is_figure (halves front) && (t && true)) one ∙ and_false (list_all is_figure (halves front)))
+    ∙ ap (λ t. t && is_sign (b % 16)) (list_all-append is_figure (halves front) (b / 16 ∷ []) ∙ ap (λ t. list_all is_figure (halves front) && (t && true)) one ∙ and_right (list_all is_figure (halves front)) false refl)
 
 pub is_packed-bad_sign : (front : List ℕ) (b : ℕ) → b % 16 < 10 → is_packed (front ++ b ∷ []) ≡ false
 is_packed-bad_sign front b h =
     let one : is_sign (b % 16) ≡ false = grind (arith, nat_tests) in
-    is_split front b ∙ ap (λ t. list_all is_figure (halves front ++ b / 16 ∷ []) && t) one ∙ and_false (list_all is_figure (halves front ++ b / 16 ∷ []))
+    is_split front b ∙ ap (λ t. list_all is_figure (halves front ++ b / 16 ∷ []) && t) one ∙ and_right (list_all is_figure (halves front ++ b / 16 ∷ [])) false refl
 
 pub in_some : (xs : List ℕ) → is_packed xs ≡ true → packed_in xs ≡ Some (packed_number xs)
 in_some xs h = ap (λ t. cond t (Some (packed_number xs)) None) h
@@ -172,9 +169,6 @@ packed_back k n low fits =
 
 pub hundred_le : (j k : ℕ) → j ≤ k → 100 ^ j ≤ 100 ^ k
 hundred_le j k h = pow-le-pow_right (omega arith) h
-
-ten_le : (j k : ℕ) → j ≤ k → 10 ^ j ≤ 10 ^ k
-ten_le j k h = pow-le-pow_right (omega arith) h
 
 pub front_long : (xs : List ℕ) → 1 ≤ length xs → length (take (length xs - 1) xs) ≡ length xs - 1
 front_long xs h =

@@ -1,5 +1,5 @@
 -- A record's columns as characters, by the contents of each column.
-use Rattle.std.specs.Prelude.{◌≡◌, ℕ, ◌/◌, ◌%◌, ◌<◌, ◌==◌, ◌&&◌, Bool, if◌then◌else◌, List, [], ◌∷◌, slice_index}
+use Rattle.std.specs.Prelude.{◌≡◌, ℕ, ◌/◌, ◌%◌, ◌<◌, ◌==◌, ◌&&◌, not, Bool, true, false, if◌then◌else◌, List, [], ◌∷◌, slice_index}
 use Rattle.rpg_text.specs.Texts.{is_character}
 use Rattle.rpg_records.specs.CodePage.{byte_of, character_of, last_place_of}
 use Rattle.rpg_records.specs.declared.column.Column.{Column}
@@ -42,6 +42,20 @@ image page low_blank (k ∷ ks) (b ∷ bs) = column_character page low_blank k b
 abbrev pub page_byte : Page → ℕ → ℕ
 page_byte pages.Ebcdic c = byte_of c
 page_byte pages.Ascii c = c
+
+-- a byte of a packed or binary field
+abbrev pub is_number_column : Column → Bool
+is_number_column columns.Text = false
+is_number_column columns.LastPlace = false
+is_number_column columns.Number = true
+is_number_column columns.Unnamed = false
+
+-- the character of a byte is written as that byte again: not if its zone in a last place is another one of the same sign, or if an unnamed column's byte has none
+abbrev pub is_written_again : Page → Column → ℕ → Bool
+is_written_again page columns.Text b = true
+is_written_again page columns.LastPlace b = last_place_character page b == page_character page b
+is_written_again page columns.Number b = true
+is_written_again page columns.Unnamed b = not (page_character page b == 0)
 
 -- ---- a table of characters
 

@@ -8,4 +8,5 @@ pub mod Parts
 pub mod Seen
 pub mod Sizes
 pub mod Translations
+pub mod Types
 pub mod Unpacked

@@ -1,7 +1,7 @@
 use Rattle.std.proofs.Common.{◌≡◌, drop}
 use Rattle.rpg_records.specs.Translations.{is_low_blank, page_of}
-use Rattle.rpg_record_lines.specs.Types.{first_type}
-use Rattle.rpg_record_lines.proofs.line.first_type.Given as goal
+use Rattle.rpg_records.specs.Types.{first_type}
+use Rattle.rpg_records.proofs.types.first_type.Given as goal
 
 abbrev pub invariant-loop-kind : goal.invariant-loop-kind
 invariant-loop-kind l =
