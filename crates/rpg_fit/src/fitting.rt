@@ -57,5 +57,9 @@ pub fn fit_by<R: Rules>(alloc: Global, source: &[u8], rules: &R) -> Result<Fitte
 
 /// Counts the line feeds of a text, so that a deck of too many cards is rejected before it is read.
 fn line_feeds(text: &[u8]) -> usize {
-    text.iter().filter(|byte| **byte == b'\n').count()
+    let mut count: usize = 0;
+    for byte in text {
+        count = count.saturating_add(usize::from(*byte == b'\n'));
+    }
+    count
 }

@@ -1,7 +1,7 @@
 //! Notes on cards that are accepted but mean something else than before.
 
 use rpg_fit_deck::{Card, Seen, View};
-use rpg_fit_words::{is_card, printer_card};
+use rpg_fit_words::{is, is_card, printer_card};
 use std::alloc::AllocError;
 
 /// A note on a card.
@@ -39,7 +39,7 @@ pub(crate) fn notes(view: &View) -> Result<Vec<Note>, AllocError> {
 fn turns_halt_on(seen: &Seen) -> bool {
     let card = &seen.card;
     is_card(seen, b'C')
-        && card.value(28, 32) == b"SETON".as_slice()
+        && is(card.value(28, 32), b"SETON")
         && (is_halt(card, 54) || is_halt(card, 56) || is_halt(card, 58))
 }
 

@@ -3,8 +3,8 @@
 use rpg_fit_deck::{Editor, Seen, Sentence, View, Word};
 use rpg_fit_terms::is_name_on;
 use rpg_fit_words::{
-    Columns, Done, Indicator, Line, List, Place, Printer, RuleStop, array_of, calculation,
-    fresh_name, insert_at, is_card, is_name_used, lines,
+    Cards, Columns, Done, Indicator, Line, List, Place, Printer, RuleStop, array_of, calculation,
+    fresh_name, insert_at, is, is_card, is_name_used, lines,
 };
 
 /// The name of a part of the date that the old system provided as a field.
@@ -58,12 +58,14 @@ fn is_defined(view: &View, name: &[u8]) -> bool {
 
 /// Whether a card is a calculation that gives a name its length, or an input field.
 fn defines(seen: &Seen, name: &[u8]) -> bool {
-    is_card(seen, b'C') && !seen.card.is_blank(49, 51) && Columns::Result.value(&seen.card) == name
-        || is_card(seen, b'I') && seen.card.value(53, 58) == name
+    is_card(seen, b'C')
+        && !seen.card.is_blank(49, 51)
+        && is(Columns::Result.value(&seen.card), name)
+        || is_card(seen, b'I') && is(seen.card.value(53, 58), name)
 }
 
 fn is_part(parts: &[DatePart], name: &[u8]) -> bool {
-    parts.iter().any(|part| *part == name)
+    parts.iter().any(|part| is(*part, name))
 }
 
 fn first_card(view: &View, parts: &[DatePart]) -> usize {
@@ -108,14 +110,6 @@ fn has_total(view: &View) -> bool {
         || is_card(seen, b'O') && seen.card.column(15) == b'T')
 }
 
-/// The calculations that fill each part of the date, in order. The word is a field for the month and the day.
-const MOVES: [(DatePart, &[u8]); 4] = [
-    (b"UMONTH", b"||MOVEL|UDATE|UMONTH|  20"),
-    (b"UDAY", b"||MOVEL|UDATE|%|  40"),
-    (b"UDAY", b"||MOVE|%|UDAY|  20"),
-    (b"UYEAR", b"||MOVE|UDATE|UYEAR|  20"),
-];
-
 /// Fills parts of the date, as part of the change of a card.
 #[derive(Clone, Copy)]
 struct Filling<'a> {
@@ -129,13 +123,19 @@ impl Filling<'_> {
     /// Inserts the calculations at a place, at a level.
     fn put(&self, editor: &mut Editor, place: Place, level: Indicator) -> Done {
         let mut cards = List::new(editor.alloc());
-        for (part, template) in &MOVES {
-            if is_part(self.parts, *part) {
-                let filled = calculation(*template, &[self.half], self.number);
-                cards.push(filled.with(7, 8, level.word().text()));
-            }
-        }
+        self.push(&mut cards, b"UMONTH", b"||MOVEL|UDATE|UMONTH|  20", level);
+        self.push(&mut cards, b"UDAY", b"||MOVEL|UDATE|%|  40", level);
+        self.push(&mut cards, b"UDAY", b"||MOVE|%|UDAY|  20", level);
+        self.push(&mut cards, b"UYEAR", b"||MOVE|UDATE|UYEAR|  20", level);
         insert_at(editor, place, cards.checked()?, self.number)
+    }
+
+    /// Appends a calculation that fills a part of the date. Its word is a field for the month and the day.
+    fn push(&self, cards: &mut Cards, part: &[u8], template: &[u8], level: Indicator) {
+        if is_part(self.parts, part) {
+            let filled = calculation(template, &[self.half], self.number);
+            cards.push(filled.with(7, 8, level.word().text()));
+        }
     }
 }
 

@@ -3,7 +3,7 @@
 use rpg_fit_deck::{Card, Editor, Seen, Sentence, View, Word};
 use rpg_fit_words::{
     Columns, Done, Operand, Outcome, Place, RuleStop, calculation, form_of, fresh_name, insert_at,
-    is_card,
+    is, is_card,
 };
 
 /// The longest text that a literal fills.
@@ -28,10 +28,12 @@ enum Figure {
 impl Figure {
     /// Returns the figurative constant in an operand.
     fn of(operand: &[u8]) -> Option<Figure> {
-        match operand {
-            b"*BLANK" | b"*BLANKS" => Some(Figure::Blanks),
-            b"*ZERO" | b"*ZEROS" => Some(Figure::Zeros),
-            _ => None,
+        if is(operand, b"*BLANK") || is(operand, b"*BLANKS") {
+            Some(Figure::Blanks)
+        } else if is(operand, b"*ZERO") || is(operand, b"*ZEROS") {
+            Some(Figure::Zeros)
+        } else {
+            None
         }
     }
 
@@ -101,8 +103,8 @@ enum Instead {
     Field,
 }
 
-fn is_move(operation: &[u8]) -> bool {
-    matches!(operation, b"MOVE" | b"MOVEL")
+pub(crate) fn is_move(operation: &[u8]) -> bool {
+    is(operation, b"MOVE") || is(operation, b"MOVEL")
 }
 
 /// A deck, and its fields that nothing writes, for constants that are longer than a literal.
@@ -121,17 +123,22 @@ pub fn figures(editor: &mut Editor) -> Done {
         blanks: None,
         zeros: None,
     };
-    for seen in view.cards.iter() {
-        if is_card(seen, b'C') {
-            let mut now = *seen;
-            now.card = fields.rewritten(editor, now, Columns::Factor1)?;
-            fields.rewritten(editor, now, Columns::Factor2)?;
-        }
-    }
-    Ok(())
+    fields.rewrite_all(editor)
 }
 
 impl Fields<'_> {
+    fn rewrite_all(&mut self, editor: &mut Editor) -> Done {
+        let view = self.view;
+        for seen in view.cards.iter() {
+            if is_card(seen, b'C') {
+                let mut now = *seen;
+                now.card = self.rewritten(editor, now, Columns::Factor1)?;
+                self.rewritten(editor, now, Columns::Factor2)?;
+            }
+        }
+        Ok(())
+    }
+
     /// Rewrites the figurative constant in columns of a card, and returns the card. The first one of a card may change the operation for
     /// the second.
     fn rewritten(&mut self, editor: &mut Editor, seen: Seen, columns: Columns) -> Outcome<Card> {
@@ -181,7 +188,7 @@ fn meaning(view: &View, seen: &Seen, columns: Columns, figure: Figure) -> Outcom
         let why = "% stands with a name that nothing defines";
         return Err(RuleStop::about(seen.number, why, constant));
     };
-    let is_compared = matches!(operation, b"COMP" | b"LOKUP");
+    let is_compared = is(operation, b"COMP") || is(operation, b"LOKUP");
     if matches!(beside, Beside::Text(_)) && !is_move(operation) && !is_compared {
         return Err(RuleStop::with(seen.number, "% beside %", &[constant, Word::of(operation)]));
     }

@@ -6,24 +6,24 @@ use crate::now::{Now, Under};
 use rpg_fit_deck::{Card, Editor, Seen, Sentence, View, Word};
 use rpg_fit_words::{
     Array, Cards, Columns, Constant, Done, Group, NewCard, Operand, Outcome, RuleStop, array_of,
-    entry, form_of, groups, unused_prefix,
+    entry, form_of, groups_now, is, unused_prefix,
 };
 
 /// Rewrites MOVEA as moves of single entries.
 pub fn moves(editor: &mut Editor) -> Done {
-    let found = groups(&editor.view()?)?;
-    rewrite_groups(editor, found.as_slice())
-}
-
-fn rewrite_groups(editor: &mut Editor, found: &[Group]) -> Done {
+    let found = groups_now(editor)?;
     let Some(first) = found.first() else {
         return Ok(());
     };
     let mut now = Now::of(editor, first)?;
+    rewrite_moves(editor, &mut now, found.as_slice())
+}
+
+fn rewrite_moves<'a>(editor: &mut Editor, now: &mut Now<'a>, found: &'a [Group]) -> Done {
     for group in found {
-        if group.operation() == b"MOVEA".as_slice() {
+        if is(group.operation(), b"MOVEA") {
             now.turn(group);
-            rewrite_group(editor, &mut now)?;
+            rewrite_group(editor, now)?;
         }
     }
     Ok(())
@@ -55,7 +55,7 @@ fn meaning(now: &Now) -> Outcome<Option<Moves>> {
     let Some(to) = side(now, result)? else {
         return Ok(None);
     };
-    let is_same = Operand::of(factor).name == Operand::of(result).name;
+    let is_same = is(Operand::of(factor).name, Operand::of(result).name);
     match moves_of(from, to, is_same) {
         Ok(moves) => Ok(Some(moves)),
         Err(why) => Err(RuleStop::refused(now.seen.number, why)),

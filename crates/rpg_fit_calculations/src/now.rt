@@ -3,7 +3,7 @@
 use rpg_fit_deck::{Editor, Seen, Sentence, View, Word};
 use rpg_fit_words::{
     Cards, Conjunction, Done, FreeIndicators, Group, Indicator, List, Outcome, Section, ShortNames,
-    calculation, push_copies, put_cards, remove_cards,
+    calculation, is, push_copies, put_cards, remove_cards,
 };
 
 /// A deck, but for cards that replaced calculations, and the calculation that is next.
@@ -61,7 +61,7 @@ impl<'a> Now<'a> {
     /// Gives an array a name with room for a comma and an index.
     pub fn make_room(&mut self, editor: &mut Editor, array: Word, index: Word) -> Done {
         let name = self.names.with_room(editor, array.text(), index)?;
-        if name.text() != array.text() {
+        if !is(name.text(), array.text()) {
             self.look(editor)?;
         }
         Ok(())

@@ -4,7 +4,7 @@ use crate::now::{Now, Under};
 use rpg_fit_deck::{Card, Editor, Sentence, View, Word};
 use rpg_fit_words::{
     Cards, Columns, Done, FreshNames, Group, Indicator, NewCard, Operand, Outcome, RuleStop,
-    array_of, calculation, form_of, groups,
+    array_of, calculation, form_of, groups_now, is,
 };
 
 /// The most digits of a number.
@@ -15,20 +15,20 @@ const MOST_DECIMALS: usize = 4;
 
 /// Replaces each SQRT by a loop. Its result is rounded.
 pub fn square_roots(editor: &mut Editor) -> Done {
-    let found = groups(&editor.view()?)?;
-    rewrite_groups(editor, found.as_slice())
-}
-
-fn rewrite_groups(editor: &mut Editor, found: &[Group]) -> Done {
+    let found = groups_now(editor)?;
     let Some(first) = found.first() else {
         return Ok(());
     };
     let mut now = Now::of(editor, first)?;
+    rewrite_roots(editor, &mut now, found.as_slice())
+}
+
+fn rewrite_roots<'a>(editor: &mut Editor, now: &mut Now<'a>, found: &'a [Group]) -> Done {
     let mut unused = Unused::new();
     for group in found {
-        if group.operation() == b"SQRT".as_slice() {
+        if is(group.operation(), b"SQRT") {
             now.turn(group);
-            rewrite_root(editor, &mut unused, &mut now, found)?;
+            rewrite_root(editor, &mut unused, now, found)?;
         }
     }
     Ok(())
@@ -69,7 +69,10 @@ impl Unused {
 fn follows(group: &Group, before: &Group) -> bool {
     group.leading.is_empty()
         && before.leading.is_empty()
-        && group.last.card.columns(7, 17) == before.last.card.columns(7, 17)
+        && is(
+            group.last.card.columns(7, 17),
+            before.last.card.columns(7, 17),
+        )
 }
 
 /// Rejects an MVR that may take the remainder of a DIV of the loop.
@@ -80,7 +83,7 @@ fn check_remainders(number: usize, found: &[Group]) -> Done {
             Some(division) => follows(group, division),
             None => false,
         };
-        if group.operation() == b"MVR".as_slice() && !is_paired {
+        if is(group.operation(), b"MVR") && !is_paired {
             let why =
                 "an MVR (card %) under other conditions than its DIV: the rest of another DIV, and SQRT becomes some";
             return Err(RuleStop::about(number, why, Word::of_number(group.last.number)));

@@ -1,10 +1,11 @@
 //! Calculations with whole arrays.
 
+use crate::figure_rule::is_move;
 use crate::now::{Now, Under};
 use rpg_fit_deck::{Card, Editor, Sentence, View, Word};
 use rpg_fit_words::{
     Array, Cards, Columns, Done, FreshNames, Group, Indicator, NewCard, Operand, Outcome, RuleStop,
-    array_of, calculation, entry, fresh_name, groups,
+    array_of, calculation, entry, fresh_name, groups_now, is,
 };
 
 /// The least number of entries for which the calculations are a loop.
@@ -12,19 +13,19 @@ const LOOP_FROM: usize = 31;
 
 /// Rewrites calculations with whole arrays as calculations with their entries.
 pub fn whole_calculations(editor: &mut Editor) -> Done {
-    let found = groups(&editor.view()?)?;
-    rewrite_groups(editor, found.as_slice())
-}
-
-fn rewrite_groups(editor: &mut Editor, found: &[Group]) -> Done {
+    let found = groups_now(editor)?;
     let Some(first) = found.first() else {
         return Ok(());
     };
     let mut now = Now::of(editor, first)?;
+    rewrite_wholes(editor, &mut now, found.as_slice())
+}
+
+fn rewrite_wholes<'a>(editor: &mut Editor, now: &mut Now<'a>, found: &'a [Group]) -> Done {
     for (place, group) in found.iter().enumerate() {
         if !is_left(group.operation()) {
             now.turn(group);
-            rewrite_group(editor, &mut now, found.get(place.saturating_add(1)))?;
+            rewrite_group(editor, now, found.get(place.saturating_add(1)))?;
         }
     }
     Ok(())
@@ -32,14 +33,18 @@ fn rewrite_groups(editor: &mut Editor, found: &[Group]) -> Done {
 
 /// Whether an operation accepts whole arrays, or names labels or subroutines.
 fn is_left(operation: &[u8]) -> bool {
-    matches!(operation, b"LOKUP" | b"XFOOT" | b"GOTO" | b"EXSR")
-        || matches!(operation, b"TAG" | b"BEGSR" | b"ENDSR")
+    let is_label = is(operation, b"GOTO") || is(operation, b"TAG") || is(operation, b"EXSR");
+    let is_subroutine = is(operation, b"BEGSR") || is(operation, b"ENDSR");
+    is_label || is_subroutine || is(operation, b"LOKUP") || is(operation, b"XFOOT")
 }
 
 /// Whether an operation does the same to a whole array as to each of its entries.
 fn is_by_entry(operation: &[u8]) -> bool {
-    matches!(operation, b"ADD" | b"SUB" | b"MULT" | b"DIV")
-        || matches!(operation, b"Z-ADD" | b"Z-SUB" | b"MOVE" | b"MOVEL")
+    matches!(operation, b"ADD" | b"SUB" | b"DIV")
+        || is(operation, b"MULT")
+        || is(operation, b"Z-ADD")
+        || is(operation, b"Z-SUB")
+        || is_move(operation)
 }
 
 /// The whole arrays of a calculation.
@@ -80,7 +85,7 @@ impl Wholes {
 }
 
 fn is_entry_of(text: &[u8], array: &[u8]) -> bool {
-    text != array && Operand::of(text).name == array
+    !is(text, array) && is(Operand::of(text).name, array)
 }
 
 /// Rejects an operation that can't be done entry by entry, a result that isn't a whole array or is a factor by one of its entries, and
@@ -185,13 +190,17 @@ fn by_loop(editor: &mut Editor, now: &mut Now, whole: &Wholes, count: usize) -> 
     make_rooms(editor, now, whole, index)?;
     let under = now.under_flag()?;
     let frame = Loop::of(now, &under, index)?;
+    let cards = frame.cards(now.cards_before(&under), whole, count);
+    put_loop(editor, now, cards, count)
+}
+
+fn put_loop(editor: &mut Editor, now: &mut Now, cards: Cards, count: usize) -> Done {
     let remark =
         "whole arrays: a loop of %; give --allowance more than 1000 where it is done often";
-    let remark = Sentence::about(remark, Word::of_number(count));
     now.replace(
         editor,
-        frame.cards(now.cards_before(&under), whole, count),
-        remark,
+        cards,
+        Sentence::about(remark, Word::of_number(count)),
     )?;
     now.look(editor)
 }

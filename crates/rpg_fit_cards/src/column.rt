@@ -3,24 +3,29 @@
 use crate::table_data::COLUMNS;
 use crate::wide::narrow_data;
 use rpg_fit_deck::{Card, Editor, Seen, Sentence, Word};
-use rpg_fit_words::{Done, RuleStop};
+use rpg_fit_words::{Done, RuleStop, is};
 
 /// Blanks columns that have no meaning, gives a card file the record length of its block, and cuts what follows column 80.
 pub fn columns(editor: &mut Editor) -> Done {
+    blank_cards(editor)?;
+    narrow_data(editor)
+}
+
+fn blank_cards(editor: &mut Editor) -> Done {
     let view = editor.view()?;
     for seen in &view.cards {
         let mut now = *seen;
-        if seen.card.is_comment() {
-            cut(editor, &now);
-        } else {
+        if !seen.card.is_comment() {
             blank_habits(editor, &mut now)?;
-            cut(editor, &now);
+        }
+        cut(editor, &now);
+        if !seen.card.is_comment() {
             blank_spares(editor, &mut now);
             put_record_length(editor, &mut now);
             blank_stackers(editor, &mut now);
         }
     }
-    narrow_data(editor)
+    Ok(())
 }
 
 /// Cuts off what follows the columns of a card.
@@ -82,57 +87,52 @@ fn blank_extents(editor: &mut Editor, now: &mut Seen) -> Done {
     Ok(())
 }
 
-/// Options of the header: the column, the characters that have no meaning for a job over files, and why any other one is rejected.
-const OPTIONS: [(usize, &[u8], &str); 4] = [
-    (37, b" IB", "37 has %"),
-    (48, b" 1S", "48 has %"),
-    (
-        40,
-        b" ",
-        "signs (40 has %): old numbers may come out with another last character",
-    ),
-    (
-        43,
-        b" ",
-        "files are translated (43 has %): translate the records beforehand",
-    ),
-];
+/// Why header options are rejected that may change what is printed.
+const SIGNS: &str = "signs (40 has %): old numbers may come out with another last character";
+
+const TRANSLATED: &str = "files are translated (43 has %): translate the records beforehand";
+
+/// Rejects the option in a column, unless it is one of the characters that have no meaning for a job over files.
+fn check_option(now: &Seen, column: usize, meaningless: &[u8], why: &'static str) -> Done {
+    if meaningless.contains(&now.card.column(column)) {
+        return Ok(());
+    }
+    let option = Word::of(now.card.columns(column, column));
+    Err(RuleStop::about(now.number, why, option))
+}
 
 /// Blanks options of the header without a meaning, and rejects others.
 fn blank_options(editor: &mut Editor, now: &mut Seen) -> Done {
-    for (column, meaningless, why) in &OPTIONS {
-        if !meaningless.contains(&now.card.column(*column)) {
-            let option = Word::of(now.card.columns(*column, *column));
-            return Err(RuleStop::about(now.number, *why, option));
-        }
-    }
+    check_option(now, 37, b" IB", "37 has %")?;
+    check_option(now, 48, b" 1S", "48 has %")?;
+    check_option(now, 40, b" ", SIGNS)?;
+    check_option(now, 43, b" ", TRANSLATED)?;
     blank(editor, now, 37, 37, "inquiry (37) blanked");
     blank(editor, now, 48, 48, "shared areas (48) blanked");
     Ok(())
 }
 
-/// Columns without a meaning, by the form of the card.
-const SPARES: [(u8, usize, usize, &str); 5] = [
-    (b'F', 47, 52, "the symbolic device (47 to 52) blanked"),
-    (b'F', 53, 53, "labels (53) blanked"),
-    (b'F', 70, 70, "the unit (70) blanked"),
-    (b'H', 15, 15, "debug (15) blanked"),
-    (b'H', 41, 41, "forms alignment (41) blanked"),
-];
-
+/// Blanks columns without a meaning.
 fn blank_spares(editor: &mut Editor, now: &mut Seen) {
-    for (form, first, last, sentence) in &SPARES {
-        if now.card.form() == *form {
-            blank(editor, now, *first, *last, *sentence);
-        }
+    if now.card.form() == b'F' {
+        let device = "the symbolic device (47 to 52) blanked";
+        blank(editor, now, 47, 52, device);
+        blank(editor, now, 53, 53, "labels (53) blanked");
+        blank(editor, now, 70, 70, "the unit (70) blanked");
+    } else if now.card.form() == b'H' {
+        blank(editor, now, 15, 15, "debug (15) blanked");
+        blank(editor, now, 41, 41, "forms alignment (41) blanked");
     }
 }
 
 /// Whether a file has one record per block, by its device.
 fn has_one_record(card: &Card) -> bool {
     let device = card.value(40, 46);
-    matches!(device, [b'P', b'R', b'I', b'N', b'T', ..])
-        || matches!(device, b"MFCU1" | b"MFCU2" | b"READ40" | b"READER")
+    let is_read = is(device, b"READ40") || is(device, b"READER");
+    is_read
+        || is(device, b"MFCU1")
+        || is(device, b"MFCU2")
+        || matches!(device, [b'P', b'R', b'I', b'N', b'T', ..])
 }
 
 fn put_record_length(editor: &mut Editor, now: &mut Seen) {

@@ -1,7 +1,7 @@
 //! Turns directives for the listing, and DEBUG, into comments, and removes the cards of job control around a deck.
 
 use rpg_fit_deck::{Card, Editor, Seen, Sentence};
-use rpg_fit_words::{Done, Group, groups};
+use rpg_fit_words::{Done, Group, groups_now, is};
 
 /// Turns directives for the listing into comments, and DEBUG with the cards of its conditions.
 pub fn comments(editor: &mut Editor) -> Done {
@@ -10,7 +10,8 @@ pub fn comments(editor: &mut Editor) -> Done {
 }
 
 fn is_directive(card: &Card) -> bool {
-    matches!(card.columns(7, 12), b"/TITLE" | b"/EJECT" | b"/SPACE")
+    let directive = card.columns(7, 12);
+    is(directive, b"/TITLE") || is(directive, b"/EJECT") || is(directive, b"/SPACE")
 }
 
 fn make_comment(editor: &mut Editor, seen: &Seen, with: usize) {
@@ -29,9 +30,9 @@ fn put_directives(editor: &mut Editor) -> Done {
 }
 
 fn put_debugs(editor: &mut Editor) -> Done {
-    let groups = groups(&editor.view()?)?;
+    let groups = groups_now(editor)?;
     for group in groups.iter() {
-        if group.operation() == b"DEBUG".as_slice() {
+        if is(group.operation(), b"DEBUG") {
             put_debug(editor, group);
         }
     }
@@ -62,5 +63,5 @@ pub fn job_control(editor: &mut Editor) -> Done {
 }
 
 fn is_job_control(card: &Card) -> bool {
-    matches!(card.columns(1, 2), b"//" | b"/&") || matches!(card.columns(1, 5), b"* $$ ")
+    matches!(card.columns(1, 2), b"//" | b"/&") || is(card.columns(1, 5), b"* $$ ")
 }

@@ -2,7 +2,7 @@
 
 use rpg_fit_deck::{Card, Editor, Seen, Sentence, View, Word};
 use rpg_fit_terms::address_after;
-use rpg_fit_words::{Done, Line, List, is_card, lines};
+use rpg_fit_words::{Done, Line, List, is, is_card, lines};
 
 /// A disk file that is written.
 #[derive(Clone, Copy)]
@@ -76,9 +76,7 @@ fn written_disks(view: &View) -> List<Disk> {
 
 /// Whether a card describes a file that is written, but not the printer.
 fn is_disk(seen: &Seen) -> bool {
-    is_card(seen, b'F')
-        && seen.card.column(15) == b'O'
-        && seen.card.value(40, 46) != b"PRINTER".as_slice()
+    is_card(seen, b'F') && seen.card.column(15) == b'O' && !is(seen.card.value(40, 46), b"PRINTER")
 }
 
 fn report_disks(editor: &mut Editor, disks: &[Disk]) {
@@ -92,13 +90,13 @@ fn report_disks(editor: &mut Editor, disks: &[Disk]) {
 }
 
 fn disk_of<'a>(disks: &'a [Disk], file: &[u8]) -> Option<&'a Disk> {
-    disks.iter().find(|disk| disk.name() == file)
+    disks.iter().find(|disk| is(disk.name(), file))
 }
 
 /// Puts a file's name on the card of a line, as part of the change of a disk file.
 fn put_file(editor: &mut Editor, line: &Line, name: &[u8], with: &Disk) {
     let head = &line.head;
-    if head.card.value(7, 14) != name {
+    if !is(head.card.value(7, 14), name) {
         editor.change(head.at, head.card.with(7, 14, name), with.seen.number);
     }
 }

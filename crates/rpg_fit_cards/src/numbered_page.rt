@@ -2,7 +2,7 @@
 
 use rpg_fit_deck::{Editor, Sentence, View, Word};
 use rpg_fit_terms::{is_name_on, rename};
-use rpg_fit_words::{Done, List, RuleStop, is_card};
+use rpg_fit_words::{Done, List, RuleStop, is, is_card};
 
 /// The page counters of the old language.
 const COUNTERS: [&[u8]; 8] = [
@@ -12,25 +12,36 @@ const COUNTERS: [&[u8]; 8] = [
 /// Turns the one page counter of a deck into PAGE.
 pub fn numbered_pages(editor: &mut Editor) -> Done {
     let view = editor.view()?;
-    let mut used = List::new(editor.alloc());
-    for counter in &COUNTERS {
-        if counts(&view, *counter) {
-            used.push(*counter);
-        }
-    }
-    match used.checked()? {
-        [first, second, ..] if is_page(*first) => Err(reason(&view, *second, *first)),
-        [first, second, ..] => Err(reason(&view, *first, *second)),
+    let used = used_counters(&view);
+    become_one(editor, &view, used.checked()?)
+}
+
+/// Turns the counter that is used into PAGE. Rejects a deck with two.
+fn become_one(editor: &mut Editor, view: &View, used: &[&[u8]]) -> Done {
+    match used {
+        [first, second, ..] if is_page(*first) => Err(reason(view, *second, *first)),
+        [first, second, ..] => Err(reason(view, *first, *second)),
         [counter] if !is_page(*counter) => {
-            become_page(editor, &view, *counter);
+            become_page(editor, view, *counter);
             Ok(())
         }
         _ => Ok(()),
     }
 }
 
+/// Returns the counters that a deck uses.
+fn used_counters(view: &View) -> List<&'static [u8]> {
+    let mut used = List::new(view.alloc);
+    for counter in &COUNTERS {
+        if counts(view, *counter) {
+            used.push(*counter);
+        }
+    }
+    used
+}
+
 fn is_page(counter: &[u8]) -> bool {
-    counter == b"PAGE".as_slice()
+    is(counter, b"PAGE")
 }
 
 /// Whether a counter is used, and no calculation defines its length.
@@ -41,7 +52,7 @@ fn counts(view: &View, counter: &[u8]) -> bool {
 /// Whether a calculation defines the length of a name.
 fn is_defined(view: &View, name: &[u8]) -> bool {
     view.cards.iter().any(|seen| {
-        is_card(seen, b'C') && !seen.card.is_blank(49, 51) && seen.card.value(43, 48) == name
+        is_card(seen, b'C') && !seen.card.is_blank(49, 51) && is(seen.card.value(43, 48), name)
     })
 }
 

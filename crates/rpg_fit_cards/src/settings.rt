@@ -1,6 +1,7 @@
 //! The arguments of the command that concern a deck.
 
 use rpg_fit_deck::Word;
+use rpg_fit_words::is;
 
 /// The external indicators U1 to U8, as they were set when the job ran.
 #[derive(Clone, Copy)]
@@ -56,7 +57,7 @@ pub struct Settings<'a> {
 impl<'a> Settings<'a> {
     /// Returns the records of a table file, if the arguments have them.
     pub(crate) fn records_of(&self, name: &[u8]) -> Option<&'a [u8]> {
-        let table = self.tables.iter().find(|table| table.name == name)?;
+        let table = self.tables.iter().find(|table| is(table.name, name))?;
         Some(table.records)
     }
 }

@@ -3,7 +3,7 @@
 use crate::settings::Switches;
 use rpg_fit_deck::{Card, Editor, Seen, Sentence, View, Word};
 use rpg_fit_words::{
-    Conjunction, Done, Indicator, Line, RuleStop, Term, UseKind, indicator_uses, is_card, lines,
+    Conjunction, Done, Indicator, Line, RuleStop, Term, UseKind, indicator_uses, is, is_card, lines,
 };
 
 /// Evaluates conditions on U1 to U8: L0 replaces a condition that holds, NL0 one that doesn't.
@@ -101,7 +101,7 @@ fn decide_file(editor: &mut Editor, view: &View, file: &Seen, switches: &Switche
 /// Gives the lines of a file a condition that never holds.
 fn drop_lines(editor: &mut Editor, lines: &[Line], file: &Seen) -> Done {
     for line in lines {
-        if line.file.text() == file.card.value(7, 14) {
+        if is(line.file.text(), file.card.value(7, 14)) {
             drop_line(editor, line, file.number)?;
         }
     }

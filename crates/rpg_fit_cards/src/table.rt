@@ -95,12 +95,25 @@ fn put_records(editor: &mut Editor, settings: &Settings, before: Address, seen: 
         return Err(RuleStop::refused(seen.number, why));
     }
     let entries = entries_of(editor.alloc(), &shape, records)?;
-    if !has_only_characters(entries.as_slice()) {
+    put_entries(editor, before, seen, &shape, entries.as_slice())?;
+    take_over(editor, &shape, records.len(), seen);
+    Ok(())
+}
+
+/// Inserts a table's entries after a `**` card.
+fn put_entries(
+    editor: &mut Editor,
+    before: Address,
+    seen: &Seen,
+    shape: &TableShape,
+    entries: &[u8],
+) -> Done {
+    if !has_only_characters(entries) {
+        let name = Word::of(seen.card.value(11, 18));
         return Err(RuleStop::about(seen.number, "% has a byte that is no character", name));
     }
     editor.insert(before, Card::of(b"**"), seen.number);
-    shape.put_cards(editor, before, entries.as_slice(), seen.number);
-    take_over(editor, &shape, records.len(), seen);
+    shape.put_cards(editor, before, entries, seen.number);
     Ok(())
 }
 

@@ -4,7 +4,7 @@ use crate::column::cut;
 use crate::table::begins_data;
 use crate::table_data::{COLUMNS, TableShape, entries_of};
 use rpg_fit_deck::{Editor, Seen, Sentence, View, Word};
-use rpg_fit_words::{Done, List, RuleStop, is_card};
+use rpg_fit_words::{Done, List, RuleStop, is_card, remove_cards};
 
 /// Cuts data and the card `/*` after column 80. Entries that stand there are punched on more cards.
 pub(crate) fn narrow_data(editor: &mut Editor) -> Done {
@@ -13,14 +13,39 @@ pub(crate) fn narrow_data(editor: &mut Editor) -> Done {
         cut(editor, last);
     }
     let tables = tables_with_data(&view);
-    let mut left = tables.checked()?;
-    for part in view.data.as_slice().chunk_by(|_, next| !begins_data(next)) {
-        if part.iter().any(|line| line.width > COLUMNS) {
-            narrow_part(editor, left.first(), part)?;
+    narrow_parts(editor, tables.checked()?, view.data.as_slice())
+}
+
+/// Cuts or punches anew the data of each E card.
+fn narrow_parts(editor: &mut Editor, tables: &[Seen], data: &[Seen]) -> Done {
+    let mut left = tables;
+    let mut start: usize = 0;
+    for end in 1..data.len().saturating_add(1) {
+        if ends_before(data, end) {
+            narrow_part(editor, left.first(), data.get(start..end).unwrap_or(&[]))?;
+            left = left.get(1..).unwrap_or(&[]);
+            start = end;
         }
-        left = left.get(1..).unwrap_or(&[]);
     }
     Ok(())
+}
+
+/// Whether the data of an E card end before a line, by its place.
+fn ends_before(data: &[Seen], place: usize) -> bool {
+    match data.get(place) {
+        Some(line) => begins_data(line),
+        None => true,
+    }
+}
+
+/// Whether one of some lines has more columns than a card.
+fn are_wide(lines: &[Seen]) -> bool {
+    for line in lines {
+        if line.width > COLUMNS {
+            return true;
+        }
+    }
+    false
 }
 
 /// Returns the E cards whose data stand in the deck, in order.
@@ -34,19 +59,25 @@ fn tables_with_data(view: &View) -> List<Seen> {
     found
 }
 
-/// Cuts the data of an E card, if there is one, or punches them anew.
+/// Cuts the data of an E card, if there is one, or punches them anew, if a line is wider than a card.
 fn narrow_part(editor: &mut Editor, table: Option<&Seen>, part: &[Seen]) -> Done {
-    let shape = table.and_then(|table| TableShape::of(&table.card));
-    match (table, shape) {
-        (Some(table), Some(shape)) if shape.record_columns() > COLUMNS => {
+    if !are_wide(part) {
+        return Ok(());
+    }
+    let Some(table) = table else {
+        cut_lines(editor, part);
+        return Ok(());
+    };
+    match TableShape::of(&table.card) {
+        Some(shape) if shape.record_columns() > COLUMNS => {
             return punch_anew(editor, table, &shape, part);
         }
-        (Some(table), Some(_)) => {
+        Some(_) => {
             let text = "columns 81 and on of its data cut: the entries stand before them";
             editor.report(table.number, Sentence::of(text));
             narrow_lines(editor, part, table.number);
         }
-        _ => cut_lines(editor, part),
+        None => cut_lines(editor, part),
     }
     Ok(())
 }
@@ -89,22 +120,30 @@ fn punch_anew(editor: &mut Editor, table: &Seen, shape: &TableShape, part: &[See
         return Ok(());
     };
     check_data(table, shape, rows.len())?;
-    let mut lines = List::new(editor.alloc());
-    for row in rows {
-        lines.push(editor.line(row.number));
-    }
+    let lines = lines_of(editor, rows);
     let entries = entries_of(editor.alloc(), shape, lines.checked()?)?;
     narrow_lines(editor, &[*lead], table.number);
     if let Some(first) = rows.first() {
         shape.put_cards(editor, first.at, entries.as_slice(), table.number);
     }
+    remove_cards(editor, rows, table.number);
+    report_punched(editor, table, shape);
+    Ok(())
+}
+
+/// Returns the lines of the source that cards stand for.
+fn lines_of<'a>(editor: &Editor<'a>, rows: &[Seen]) -> List<&'a [u8]> {
+    let mut lines = List::new(editor.alloc());
     for row in rows {
-        editor.remove(row.at, table.number);
+        lines.push(editor.line(row.number));
     }
+    lines
+}
+
+fn report_punched(editor: &mut Editor, table: &Seen, shape: &TableShape) {
     let per_card = Word::of_number(shape.per_card());
     let text = "% entries a card in place of %, as a card has 80 columns";
     let sentence = Sentence::with(text, &[per_card, Word::of_number(shape.per_record)]);
     let card = table.card.with_right(33, 35, per_card.text());
     editor.rewrite(table, card, sentence);
-    Ok(())
 }

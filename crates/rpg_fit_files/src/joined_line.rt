@@ -5,7 +5,7 @@ use crate::updated::{Both, Updated};
 use rpg_fit_deck::{Editor, Seen, Sentence, Word};
 use rpg_fit_words::{
     Cards, Conjunction, Done, FreeIndicators, Indicator, Line, List, NewCard, Outcome, Place,
-    Printer, RuleStop, calculation, insert_at, operand_on, push_conditioned, push_conditions,
+    Printer, RuleStop, calculation, insert_at, is, operand_on, push_conditioned, push_conditions,
     put_cards,
 };
 
@@ -55,7 +55,7 @@ fn check_fields(updated: &Updated, line: &Line, both: &Both) -> Done {
 /// Whether a field may be put out with one condition more.
 fn may_be_joined(field: &Seen) -> bool {
     let card = &field.card;
-    let is_counted = is_page(field) || operand_on(field).name == b"*PLACE".as_slice();
+    let is_counted = is_page(field) || is(operand_on(field).name, b"*PLACE");
     !is_counted && card.column(39) != b'B' && Conjunction::at(card, 23).terms().len() < 3
 }
 
@@ -86,10 +86,21 @@ fn blanked_on<'a>(line: &'a Line, lines: &[&Line]) -> Option<&'a Seen> {
 }
 
 fn have_field(lines: &[&Line], name: &[u8]) -> bool {
-    lines.iter().any(|line| line
-        .fields
-        .iter()
-        .any(|field| operand_on(field).name == name))
+    for line in lines {
+        if has_field(line, name) {
+            return true;
+        }
+    }
+    false
+}
+
+fn has_field(line: &Line, name: &[u8]) -> bool {
+    for field in &line.fields {
+        if is(operand_on(field).name, name) {
+            return true;
+        }
+    }
+    false
 }
 
 /// Rejects a line that tests overflow.
@@ -160,14 +171,19 @@ impl Joined {
         let with = updated.file.number;
         let cards = self.cards(updated, first.head.number)?;
         put_cards(editor, first.head.at, cards.checked()?, with)?;
-        for line in lines {
-            line.remove(editor, with);
-        }
+        remove_lines(editor, lines, with);
         insert_at(editor, Place::DetailEnd, self.calculations.checked()?, with)?;
         let text = "% is read, and % gets its records as they are after the job; % lines are one";
         let lines = Word::of_number(lines.len());
         let sentence = Sentence::with(text, &[updated.name(), updated.new, lines]);
         editor.report(with, sentence);
         Ok(())
+    }
+}
+
+/// Removes lines, as part of the change of the card `with`.
+fn remove_lines(editor: &mut Editor, lines: &[&Line], with: usize) {
+    for line in lines {
+        line.remove(editor, with);
     }
 }

@@ -3,7 +3,7 @@
 use rpg_fit_deck::{Card, Editor, Seen, Sentence, View, Word};
 use rpg_fit_terms::address_after;
 use rpg_fit_words::{
-    Done, List, NewCard, RecordType, RuleStop, file_name, files_read, name_types, put_cards,
+    Done, List, NewCard, RecordType, RuleStop, file_name, files_read, is, name_types, put_cards,
     record_length, record_types, with_record_length,
 };
 
@@ -39,9 +39,10 @@ fn merge(editor: &mut Editor, view: &View, files: &[Seen]) -> Done {
 /// Moves the columns of the files' types, and puts the first file on them.
 fn move_types(editor: &mut Editor, view: &View, files: &[Seen], first: &[u8], with: usize) -> Done {
     let types = record_types(view)?;
-    check_types(types.as_slice(), files)?;
-    name_types(editor, types.as_slice(), with);
-    for kind in types.iter() {
+    let types = types.as_slice();
+    check_types(types, files)?;
+    name_types(editor, types, with);
+    for kind in types {
         if let Some(place) = place_of(files, kind.file.text()) {
             move_codes(editor, view, kind, letter(place), first, with)?;
             move_fields(editor, kind, with);
@@ -71,7 +72,7 @@ fn new_length(files: &[Seen]) -> Option<usize> {
 }
 
 fn place_of(files: &[Seen], name: &[u8]) -> Option<usize> {
-    files.iter().position(|file| file_name(file) == name)
+    files.iter().position(|file| is(file_name(file), name))
 }
 
 /// Returns the letter in front of the records of a file, by its place.
@@ -134,8 +135,12 @@ fn move_fields(editor: &mut Editor, kind: &RecordType, with: usize) {
 
 /// Returns the first column of the first code that a card has room for.
 fn free_code(card: &Card) -> Option<usize> {
-    let mut columns = CODES.into_iter();
-    columns.find(|column| card.is_blank(*column, column.saturating_add(6)))
+    for column in CODES {
+        if card.is_blank(column, column.saturating_add(6)) {
+            return Some(column);
+        }
+    }
+    None
 }
 
 /// Returns a card with the positions of its codes one to the right.
@@ -148,9 +153,13 @@ fn moved_codes(mut card: Card) -> Card {
 
 /// Returns the last card with room for a code, by its place.
 fn place_with_room(cards: &[Seen]) -> Option<usize> {
-    cards
-        .iter()
-        .rposition(|seen| free_code(&seen.card).is_some())
+    let mut found = None;
+    for (place, seen) in cards.iter().enumerate() {
+        if free_code(&seen.card).is_some() {
+            found = Some(place);
+        }
+    }
+    found
 }
 
 /// Moves the codes of a type one to the right, adds one for its letter, and puts its file on it.

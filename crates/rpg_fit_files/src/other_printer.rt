@@ -1,10 +1,10 @@
 //! The lines of a printer whose deck isn't wanted.
 
-use rpg_fit_deck::{Address, Card, Editor, Seen, Sentence, Word};
+use rpg_fit_deck::{Address, Editor, Seen, Sentence, Word};
 use rpg_fit_terms::is_name_on;
 use rpg_fit_words::{
     Cards, Conjunction, DeckLines, Done, Indicator, Line, List, NewCard, Outcome, RuleStop, Term,
-    Time, UseKind, file_name, indicator_uses, is_card, name_files, operand_on, push_conditions,
+    Time, UseKind, file_name, indicator_uses, is, is_card, name_files, operand_on, push_conditions,
     put_cards,
 };
 
@@ -21,11 +21,17 @@ pub(crate) struct OtherPrinter {
     deck: DeckLines,
 }
 
+/// Puts the name of its file on each line's card.
+fn name_all_files(editor: &mut Editor, with: usize) -> Done {
+    let unnamed = DeckLines::of(editor)?;
+    name_files(editor, unnamed.lines.as_slice(), with);
+    Ok(())
+}
+
 impl OtherPrinter {
     /// Returns a printer of a deck in its present form. Each line gets its file's name, so that lines may go.
     pub fn of(editor: &mut Editor, file: &Seen) -> Outcome<OtherPrinter> {
-        let unnamed = DeckLines::of(editor)?;
-        name_files(editor, unnamed.lines.as_slice(), file.number);
+        name_all_files(editor, file.number)?;
         Ok(OtherPrinter {
             file: *file,
             overflow: Indicator::at(&file.card, 33),
@@ -50,7 +56,7 @@ impl OtherPrinter {
     }
 
     fn has(&self, line: &Line) -> bool {
-        line.file.text() == file_name(&self.file)
+        is(line.file.text(), file_name(&self.file))
     }
 
     /// Rejects its overflow indicator anywhere but in the alternatives of its own lines.
@@ -70,8 +76,8 @@ impl OtherPrinter {
     fn is_own(&self, at: Address) -> bool {
         for line in self.deck.lines.iter() {
             if self.has(line) && line.time != Time::Exception {
-                if let Some(card) = condition_card(line, at) {
-                    return !Conjunction::at(card, 23).has(Term::off(self.overflow));
+                if let Some(seen) = line.card_at(at) {
+                    return !Conjunction::at(&seen.card, 23).has(Term::off(self.overflow));
                 }
             }
         }
@@ -153,7 +159,7 @@ impl OtherPrinter {
     /// Takes out the forms of the printer.
     fn remove_forms(&self, editor: &mut Editor) {
         for seen in &self.deck.view.cards {
-            if is_card(seen, b'L') && seen.card.value(7, 14) == file_name(&self.file) {
+            if is_card(seen, b'L') && is(seen.card.value(7, 14), file_name(&self.file)) {
                 editor.remove(seen.at, self.file.number);
             }
         }
@@ -185,14 +191,19 @@ impl OtherPrinter {
         }
         let conditions = conditions.checked()?;
         if !conditions.is_empty() {
-            let mut cards = List::new(editor.alloc());
-            let head = line.new_head().with(16, 22, &[]);
-            push_conditions(&mut cards, head, conditions)?;
-            self.push_fields(&mut cards, line);
-            put_cards(editor, line.head.at, cards.checked()?, self.file.number)?;
+            self.put_line(editor, line, conditions)?;
         }
         line.remove(editor, self.file.number);
         Ok(())
+    }
+
+    /// Inserts a line under conditions, without spaces and skips.
+    fn put_line(&self, editor: &mut Editor, line: &Line, conditions: &[Conjunction]) -> Done {
+        let mut cards = List::new(editor.alloc());
+        let head = line.new_head().with(16, 22, &[]);
+        push_conditions(&mut cards, head, conditions)?;
+        self.push_fields(&mut cards, line);
+        put_cards(editor, line.head.at, cards.checked()?, self.file.number)
     }
 
     /// Appends the fields of a line without counters that no other line has, or a blank if there are none.
@@ -209,13 +220,4 @@ impl OtherPrinter {
             cards.push(blank.with_number(40, 43, 1).with(45, 47, b"' '"));
         }
     }
-}
-
-/// Returns the card at an address, if it has conditions of a line.
-fn condition_card(line: &Line, at: Address) -> Option<&Card> {
-    if line.head.at == at {
-        return Some(&line.head.card);
-    }
-    let seen = line.more.iter().find(|seen| seen.at == at)?;
-    Some(&seen.card)
 }

@@ -2,7 +2,7 @@
 
 use crate::other_printer::OtherPrinter;
 use rpg_fit_deck::{Card, Editor, Seen, Sentence, View, Word};
-use rpg_fit_words::{Done, List, RuleStop, file_name, is_card};
+use rpg_fit_words::{Done, List, RuleStop, file_name, is, is_card};
 
 /// Makes each printer a PRINTER. Of several, the deck keeps the one that is `wanted`.
 pub fn printers(editor: &mut Editor, wanted: Option<&[u8]>) -> Done {
@@ -47,7 +47,7 @@ fn files_printed(view: &View) -> List<Seen> {
 /// Makes the device of a printer PRINTER.
 fn name_device(editor: &mut Editor, file: &Seen) {
     let device = file.card.value(40, 46);
-    if device != b"PRINTER".as_slice() {
+    if !is(device, b"PRINTER") {
         let sentence = Sentence::about("% is a printer: PRINTER", Word::of(device));
         editor.rewrite(file, file.card.with(40, 46, b"PRINTER"), sentence);
     }

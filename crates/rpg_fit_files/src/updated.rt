@@ -9,7 +9,7 @@ use rpg_fit_terms::address_after;
 use rpg_fit_words::{
     Conjunction, DeckLines, DeckTypes, Done, FileTypes, FreeIndicators, Indicator, IndicatorUse,
     Line, List, NewCard, Outcome, RuleStop, UseKind, file_card, file_name, files_read,
-    indicator_uses, name_files, name_types, put_cards, record_length, record_types,
+    indicator_uses, is, name_files, name_types, put_cards, record_length, types_now,
 };
 
 /// LR, which ends the job.
@@ -19,8 +19,12 @@ const LAST_RECORD: &[u8] = b"LR";
 pub fn updated_files(editor: &mut Editor) -> Done {
     let view = editor.view()?;
     let files = files_read(&view);
+    update_files(editor, files.checked()?)
+}
+
+fn update_files(editor: &mut Editor, files: &[Seen]) -> Done {
     let mut free = FreeIndicators::new();
-    for file in files.checked()? {
+    for file in files {
         if matches!(file.card.column(15), b'C' | b'U') {
             write_back(editor, &mut free, file)?;
         }
@@ -77,7 +81,7 @@ fn check_file(view: &View, file: &Seen) -> Done {
     }
     let uses = indicator_uses(view);
     for one in uses.checked()? {
-        let is_last = one.indicator.word().text() == LAST_RECORD;
+        let is_last = is(one.indicator.word().text(), LAST_RECORD);
         if is_last && !matches!(one.kind, UseKind::Asked) {
             let why = "LR is turned on here, and the records after it would be missing";
             return Err(RuleStop::because(one.number, why));
@@ -88,7 +92,7 @@ fn check_file(view: &View, file: &Seen) -> Done {
 
 /// Puts the name of its file on each type's card.
 fn name_all_types(editor: &mut Editor, with: usize) -> Done {
-    let unnamed = record_types(&editor.view()?)?;
+    let unnamed = types_now(editor)?;
     name_types(editor, unnamed.as_slice(), with);
     Ok(())
 }
@@ -97,6 +101,15 @@ fn name_all_types(editor: &mut Editor, with: usize) -> Done {
 fn complete_types(editor: &mut Editor, free: &mut FreeIndicators, file: &Seen) -> Done {
     name_all_types(editor, file.number)?;
     let deck = DeckTypes::of(editor)?;
+    give_indicators(editor, free, &deck, file)
+}
+
+fn give_indicators(
+    editor: &mut Editor,
+    free: &mut FreeIndicators,
+    deck: &DeckTypes,
+    file: &Seen,
+) -> Done {
     for kind in deck.types.iter() {
         let head = &kind.head;
         if kind.is_of(file_name(file)) && Indicator::at(&head.card, 19).is_blank() {
@@ -143,7 +156,7 @@ impl Updated {
 
     /// Whether a line is for the file.
     pub fn has(&self, line: &Line) -> bool {
-        line.file.text() == self.types.file.text()
+        is(line.file.text(), self.types.file.text())
     }
 
     /// Writes the records of the file to the new one by its lines.
@@ -206,10 +219,12 @@ impl Updated {
 
     /// Whether a record of the file is read in each cycle, and each of its types has an indicator of its own.
     fn is_alone(&self) -> bool {
-        let all = self.types.all.iter();
-        let types = all.filter(|kind| kind.is_of(self.types.file.text()));
+        let mut types: usize = 0;
+        for kind in &self.types.all {
+            types = types.saturating_add(usize::from(kind.is_of(self.types.file.text())));
+        }
         let is_only = files_read(&self.deck.view).as_slice().len() == 1;
-        is_only && self.types.indicators.as_slice().len() == types.count()
+        is_only && self.types.indicators.as_slice().len() == types
     }
 
     /// Rejects lines that aren't for the record that was read.
@@ -262,12 +277,20 @@ impl Updated {
     /// Returns the first two alternatives of different lines that may hold together.
     fn both(&self, puts: &[Put]) -> Option<Both> {
         for (place, put) in puts.iter().enumerate() {
-            let mut before = puts.get(..place).unwrap_or(&[]).iter();
-            let earlier = before.find(|other| other.line != put.line
-                && !self.excludes(&put.condition, &other.condition));
-            if let Some(earlier) = earlier {
-                let (earlier, later) = (earlier.line, put.line);
+            let before = puts.get(..place).unwrap_or(&[]);
+            if let Some(earlier) = self.line_with(before, put) {
+                let later = put.line;
                 return Some(Both { earlier, later });
+            }
+        }
+        None
+    }
+
+    /// Returns the first other line with an alternative that may hold together with one.
+    fn line_with(&self, before: &[Put], put: &Put) -> Option<usize> {
+        for other in before {
+            if other.line != put.line && !self.excludes(&put.condition, &other.condition) {
+                return Some(other.line);
             }
         }
         None

@@ -2,11 +2,15 @@
 
 use crate::field::worded;
 use rpg_fit_deck::{Editor, Seen, Sentence, View, Word};
-use rpg_fit_words::{Constant, DeckLines, Done, Form, RuleStop};
+use rpg_fit_words::{Constant, DeckLines, Done, Form, RuleStop, is};
 
 /// Replaces each edit word with a floating dollar sign by an edit code.
 pub fn dollars(editor: &mut Editor) -> Done {
     let deck = DeckLines::of(editor)?;
+    code_lines(editor, &deck)
+}
+
+fn code_lines(editor: &mut Editor, deck: &DeckLines) -> Done {
     for line in deck.lines.iter() {
         code_fields(editor, &deck.view, line.fields.as_slice())?;
     }
@@ -51,7 +55,7 @@ fn has_floating_dollar(word: &[u8]) -> bool {
 /// Returns the code with the same effect as a word with a floating dollar sign.
 fn code_of(form: Form, word: &[u8]) -> Option<u8> {
     for code in b"1JA3LC" {
-        if word_of(*code, form).text() == word {
+        if is(word_of(*code, form).text(), word) {
             return Some(*code);
         }
     }

@@ -3,12 +3,16 @@
 use rpg_fit_deck::{Editor, Seen, Sentence, Word};
 use rpg_fit_words::{
     Alternative, Apart, Cards, Conditions, Conjunction, DeckLines, Done, Line, List, Outcome,
-    Printer, Term, Time, is_or, name_files, put_cards,
+    Printer, Term, Time, is, is_or, name_files, put_cards,
 };
 
 /// Replaces each line whose alternatives have different spaces or skips by several lines. No two of these are printed together.
 pub fn or_spaces(editor: &mut Editor) -> Done {
     let deck = DeckLines::of(editor)?;
+    split_lines(editor, &deck)
+}
+
+fn split_lines(editor: &mut Editor, deck: &DeckLines) -> Done {
     let mut apart = Apart {
         alloc: editor.alloc(),
         overflow: Printer::of(&deck.view).overflow,
@@ -89,14 +93,14 @@ impl Split<'_> {
     }
 
     fn are_alike(&self, one: &Alternative, next: &Alternative) -> bool {
-        self.spaces_of(one).text() == self.spaces_of(next).text()
+        is(self.spaces_of(one).text(), self.spaces_of(next).text())
     }
 
     /// Whether all alternatives have the same spaces and skips.
     fn has_one_run(&self) -> bool {
         let spaces = self.line.head.card.columns(17, 22);
         let mut alternatives = self.line.alternatives.iter();
-        alternatives.all(|alternative| self.spaces_of(alternative).text() == spaces)
+        alternatives.all(|alternative| is(self.spaces_of(alternative).text(), spaces))
     }
 
     /// Appends a line for each run, unless it is never printed, and returns how many lines there are.
@@ -104,25 +108,45 @@ impl Split<'_> {
         let all = self.line.alternatives.as_slice();
         let mut lines: usize = 0;
         let mut first: usize = 0;
-        for run in all.chunk_by(|one, next| self.are_alike(one, next)) {
-            let apart = self.all_apart(run, all.get(..first).unwrap_or(&[]))?;
-            if !apart.checked()?.is_empty() {
-                self.push_line(cards, run, apart.as_slice())?;
-                lines = lines.saturating_add(1);
+        for end in 1..all.len().saturating_add(1) {
+            if self.ends_run(all, end) {
+                let earlier = all.get(..first).unwrap_or(&[]);
+                let run = all.get(first..end).unwrap_or(&[]);
+                lines = lines.saturating_add(self.push_run(cards, run, earlier)?);
+                first = end;
             }
-            first = first.saturating_add(run.len());
         }
         Ok(lines)
     }
 
-    /// Appends the line of a run under conditions.
-    fn push_line(&self, cards: &mut Cards, run: &[Alternative], when: &[Conjunction]) -> Done {
-        let Some(first) = run.first() else {
-            return Ok(());
-        };
-        let spaces = self.spaces_of(first);
-        let head = self.line.new_head().with(17, 22, spaces.text());
-        self.line.push_copy(cards, head, when)
+    /// Whether a run of alternatives ends before a place.
+    fn ends_run(&self, all: &[Alternative], end: usize) -> bool {
+        match (all.get(end.saturating_sub(1)), all.get(end)) {
+            (Some(last), Some(next)) => !self.are_alike(last, next),
+            _ => true,
+        }
+    }
+
+    /// Appends the line of a run, unless it is never printed, and returns how many lines that is.
+    fn push_run(
+        &self,
+        cards: &mut Cards,
+        run: &[Alternative],
+        earlier: &[Alternative],
+    ) -> Outcome<usize> {
+        let apart = self.all_apart(run, earlier)?;
+        let when = apart.checked()?;
+        match run.first() {
+            Some(first) if !when.is_empty() => {
+                let head = self
+                    .line
+                    .new_head()
+                    .with(17, 22, self.spaces_of(first).text());
+                self.line.push_copy(cards, head, when)?;
+                Ok(1)
+            }
+            _ => Ok(0),
+        }
     }
 
     fn is_overflow(&self, condition: &Conjunction) -> bool {

@@ -2,12 +2,18 @@
 
 use crate::field::{end_on, name_on};
 use rpg_fit_deck::{Editor, Seen, Sentence, Word};
-use rpg_fit_words::{Conjunction, DeckLines, Done, List, NewCard, Outcome, RuleStop, put_cards};
+use rpg_fit_words::{
+    Conjunction, DeckLines, Done, Line, List, NewCard, Outcome, RuleStop, is, put_cards,
+};
 
 /// Replaces each *PLACE by copies of the fields above the first one, moved to the right so that they end where it ends.
 pub fn places(editor: &mut Editor) -> Done {
     let deck = DeckLines::of(editor)?;
-    for line in deck.lines.iter() {
+    repeat_all(editor, deck.lines.as_slice())
+}
+
+fn repeat_all(editor: &mut Editor, lines: &[Line]) -> Done {
+    for line in lines {
         repeat_fields(editor, line.fields.as_slice())?;
     }
     Ok(())
@@ -20,7 +26,7 @@ fn fields_above(fields: &[Seen]) -> usize {
 }
 
 fn is_place(field: &Seen) -> bool {
-    name_on(&field.card) == b"*PLACE".as_slice()
+    is(name_on(&field.card), b"*PLACE")
 }
 
 /// Returns where the last of some fields ends.
@@ -51,10 +57,7 @@ fn repeat_fields(editor: &mut Editor, fields: &[Seen]) -> Done {
 
 /// Rejects *PLACE if it would count pages twice, or if the copies don't begin after what the line has before them.
 fn check_place(place: &Seen, group: &[Seen], least: usize) -> Done {
-    if group
-        .iter()
-        .any(|field| matches!(name_on(&field.card), b"PAGE"))
-    {
+    if group.iter().any(|field| is(name_on(&field.card), b"PAGE")) {
         return Err(RuleStop::because(place.number, "PAGE stands before *PLACE"));
     }
     if end_on(&place.card) < least {

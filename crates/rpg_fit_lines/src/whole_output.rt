@@ -3,7 +3,7 @@
 use crate::field::{end_on, name_on, width_on};
 use rpg_fit_deck::{Editor, Seen, Sentence, View, Word};
 use rpg_fit_words::{
-    Array, DeckLines, Done, List, NewCard, Outcome, RuleStop, ShortNames, array_of, entry,
+    Array, DeckLines, Done, List, NewCard, Outcome, RuleStop, ShortNames, array_of, entry, is,
 };
 
 /// The most fields of a line.
@@ -27,8 +27,12 @@ pub fn whole_outputs(editor: &mut Editor) -> Done {
         names: List::new(editor.alloc()),
         short: ShortNames::new(editor.alloc()),
     };
+    spread_lines(editor, &deck, &mut renamed)
+}
+
+fn spread_lines(editor: &mut Editor, deck: &DeckLines, renamed: &mut Renamed) -> Done {
     for line in deck.lines.iter() {
-        spread_fields(editor, &deck.view, &mut renamed, line.fields.as_slice())?;
+        spread_fields(editor, &deck.view, renamed, line.fields.as_slice())?;
     }
     renamed.names.check()
 }
@@ -45,7 +49,7 @@ fn spread_fields(editor: &mut Editor, view: &View, renamed: &mut Renamed, fields
                 let name = renamed.name_for(editor, field, array)?;
                 row.put(editor, field, name);
             }
-            _ if name == b"*PLACE".as_slice() => {}
+            _ if is(name, b"*PLACE") => {}
             _ => before.push((end_on(&field.card), width_on(view, &field.card))),
         }
     }
@@ -149,7 +153,7 @@ impl Renamed {
         let entries = Word::of_number(array.entries);
         let name = self.name_now(array.name);
         let new = self.short.with_room(editor, name.text(), entries)?;
-        if new.text() != name.text() {
+        if !is(new.text(), name.text()) {
             self.names.push((array.name, new));
         }
         let remark = if array.entries == 1 {
@@ -164,7 +168,7 @@ impl Renamed {
     /// Returns the present name of an array.
     fn name_now(&self, name: Word) -> Word {
         for (old, new) in self.names.as_slice() {
-            if old.text() == name.text() {
+            if is(old.text(), name.text()) {
                 return *new;
             }
         }

@@ -4,7 +4,7 @@ use crate::field::{name_on, worded};
 use rpg_fit_deck::{Editor, Seen, Sentence, Word};
 use rpg_fit_words::{
     DeckLines, Done, Group, Line, List, NewCard, Operand, Outcome, Place, Printer, RuleStop, Time,
-    calculation, fresh_name, groups, insert_at, is_date_part, is_table,
+    calculation, fresh_name, groups_now, insert_at, is, is_date_part, is_table,
 };
 
 /// The most digits of a number.
@@ -15,17 +15,14 @@ const MOST_DIGITS: usize = 15;
 pub fn words(editor: &mut Editor) -> Done {
     let deck = DeckLines::of(editor)?;
     let printer = Printer::of(&deck.view);
-    let lines = deck.lines.as_slice();
+    let is_total_skipped = printer.is_total_skipped_late(&deck.view, deck.lines.as_slice())?;
     let mut rule = Widening {
         deck: &deck,
         printer,
-        is_total_skipped: printer.is_total_skipped_late(&deck.view, lines)?,
+        is_total_skipped,
         wide: List::new(editor.alloc()),
     };
-    for (place, line) in lines.iter().enumerate() {
-        rule.widen_fields(editor, line, lines.get(..place).unwrap_or(&[]))?;
-    }
-    rule.wide.check()
+    rule.widen_lines(editor, deck.lines.as_slice())
 }
 
 /// A deck before its words are rewritten.
@@ -75,6 +72,14 @@ enum Moment {
 }
 
 impl Widening<'_> {
+    /// Rewrites the words of all lines.
+    fn widen_lines(&mut self, editor: &mut Editor, lines: &[Line]) -> Done {
+        for (place, line) in lines.iter().enumerate() {
+            self.widen_fields(editor, line, lines.get(..place).unwrap_or(&[]))?;
+        }
+        self.wide.check()
+    }
+
     /// Rewrites the words of a line, which comes after others.
     fn widen_fields(&mut self, editor: &mut Editor, line: &Line, earlier: &[Line]) -> Done {
         for field in line.fields.iter() {
@@ -154,7 +159,7 @@ impl Widening<'_> {
             Sentence::about("a word with % places", Word::of_number(number.places))
         } else if operand.has_index_field() {
             Sentence::of("a word with more places than digits beside an index field")
-        } else if operand.name == b"PAGE".as_slice() {
+        } else if is(operand.name, b"PAGE") {
             Sentence::of("a word with more places than digits beside PAGE")
         } else if self.has_early_value(operand.name) && self.may_come_early(line, &number.field) {
             Sentence::of(EARLY)
@@ -169,7 +174,7 @@ impl Widening<'_> {
     /// Whether a name has a value before any calculation: part of the date, or data in the deck.
     fn has_early_value(&self, name: &[u8]) -> bool {
         self.deck.view.cards.iter().any(|seen| has_data(seen, name))
-            || name == b"UDATE".as_slice()
+            || is(name, b"UDATE")
             || is_date_part(name)
     }
 
@@ -227,7 +232,7 @@ fn is_same_time(one: Time, other: Time) -> bool {
 /// Returns the name of the existing field for a number.
 fn find(wide: &[WideField], number: &ShortNumber) -> Option<Word> {
     let found = wide.iter().find(|field| {
-        field.number.text() == number.name.text() && field.places == number.places
+        is(field.number.text(), number.name.text()) && field.places == number.places
     })?;
     Some(found.name)
 }
@@ -236,29 +241,32 @@ fn find(wide: &[WideField], number: &ShortNumber) -> Option<Word> {
 fn define(editor: &mut Editor, number: &ShortNumber, time: Time) -> Outcome<Word> {
     let card = number.field.number;
     let name = fresh_name(&editor.view()?, b"W#", card)?;
-    if time == Time::Exception
-        && !groups(&editor.view()?)?
-            .iter()
-            .any(|group| is_exception(group))
-    {
+    if time == Time::Exception && !has_exception(editor)? {
         let never = number.sized(calculation(b"NL0||Z-ADD|0|%", &[name], card));
         insert_at(editor, Place::DetailFront, &[never], card)?;
     }
     Ok(name)
 }
 
+/// Whether a deck has an EXCPT.
+fn has_exception(editor: &Editor) -> Outcome<bool> {
+    let groups = groups_now(editor)?;
+    Ok(groups.iter().any(|group| is_exception(group)))
+}
+
 fn is_exception(group: &Group) -> bool {
-    group.operation() == b"EXCPT".as_slice()
+    is(group.operation(), b"EXCPT")
 }
 
 /// Whether a number is already copied to a field at a point in the cycle.
 fn is_copied(wide: &[WideField], name: Word, moment: Moment) -> bool {
-    wide.iter().any(|done| done.copied == Some(moment) && done.name.text() == name.text())
+    wide.iter().any(|done| done.copied == Some(moment) && is(done.name.text(), name.text()))
 }
 
 /// Inserts a calculation before each EXCPT.
 fn put_before_exceptions(editor: &mut Editor, copy: NewCard) -> Done {
-    for group in groups(&editor.view()?)?.iter() {
+    let groups = groups_now(editor)?;
+    for group in groups.iter() {
         if is_exception(group) {
             let level = group.section().level().word();
             let at = copy.with(7, 8, level.text());

@@ -2,7 +2,7 @@
 
 use crate::fetch_moves::Moves;
 use crate::overflow::{fetches, first_fetching};
-use rpg_fit_deck::{Address, Editor, Seen, View};
+use rpg_fit_deck::{Editor, View};
 use rpg_fit_words::{
     Conjunction, DeckLines, Done, IndicatorUse, Line, Printer, RuleStop, Term, Time, indicator_uses,
 };
@@ -77,21 +77,10 @@ fn check_uses(moves: &Moves) -> Done {
 
 /// Whether an indicator is on a card of a line's alternatives, and must be on.
 fn is_alternative(lines: &[Line], one: IndicatorUse) -> bool {
-    match card_at(lines, one.at) {
-        Some(seen) => !Conjunction::at(&seen.card, 23).has(Term::off(one.indicator)),
-        None => false,
-    }
-}
-
-/// Returns the card of a line's alternatives at an address.
-fn card_at(lines: &[Line], at: Address) -> Option<Seen> {
     for line in lines {
-        if line.head.at == at {
-            return Some(line.head);
-        }
-        if let Some(seen) = line.more.iter().find(|seen| seen.at == at) {
-            return Some(*seen);
+        if let Some(seen) = line.card_at(one.at) {
+            return !Conjunction::at(&seen.card, 23).has(Term::off(one.indicator));
         }
     }
-    None
+    false
 }

@@ -2,7 +2,7 @@
 
 use crate::overflow::Part;
 use rpg_fit_deck::Seen;
-use rpg_fit_words::{Conditions, Conjunction, Indicator, Line, List, Printer, Term};
+use rpg_fit_words::{Conditions, Conjunction, Indicator, Line, List, Printer, Term, is};
 use std::alloc::Global;
 
 /// A field that prints PAGE, its line, and the lines before that.
@@ -24,7 +24,7 @@ pub(crate) struct Resets {
 
 /// Whether a field prints PAGE.
 pub(crate) fn is_page(field: &Seen) -> bool {
-    field.card.value(32, 37) == b"PAGE".as_slice()
+    is(field.card.value(32, 37), b"PAGE")
 }
 
 /// Returns the number of a line's first card that prints PAGE.

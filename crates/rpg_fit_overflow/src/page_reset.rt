@@ -4,12 +4,15 @@ use crate::overflow::{first_fetching, is_put_later};
 use crate::page_field::{PageField, Resets, is_page, page_card};
 use crate::page_steps::{Marks, reset};
 use rpg_fit_deck::{Card, Editor, Sentence, View, Word};
-use rpg_fit_words::{Conjunction, DeckLines, Done, Line, Printer, RuleStop, Time, is_card};
+use rpg_fit_words::{Conjunction, DeckLines, Done, Line, Printer, RuleStop, Time, is, is_card};
 
 /// Lets calculations reset PAGE where it is printed under conditions.
 pub fn pages(editor: &mut Editor) -> Done {
     let deck = DeckLines::of(editor)?;
-    let (view, lines) = (&deck.view, deck.lines.as_slice());
+    reset_all(editor, &deck.view, deck.lines.as_slice())
+}
+
+fn reset_all(editor: &mut Editor, view: &View, lines: &[Line]) -> Done {
     let printer = Printer::of(view);
     let rule = Deck {
         view,
@@ -75,12 +78,11 @@ impl Deck<'_> {
         if page.line.time == Time::Exception {
             return refused(page, "PAGE under conditions on a line of time E");
         }
-        let pages = page.line.fields.iter().filter(|field| is_page(field));
-        if pages.count() > 1 {
+        if pages_on(page.line) > 1 {
             return refused(page, "PAGE twice in a line");
         }
         let mut cards = self.view.cards.iter();
-        if cards.any(|seen| is_card(seen, b'I') && matches!(seen.card.value(53, 58), b"PAGE")) {
+        if cards.any(|seen| is_card(seen, b'I') && is(seen.card.value(53, 58), b"PAGE")) {
             return refused(page, "PAGE under conditions, and on an I card");
         }
         if self.tests_normally(page.line) || self.printer.is_tested(&page.own()) {
@@ -156,6 +158,15 @@ impl Deck<'_> {
         }
         Ok(())
     }
+}
+
+/// Returns how many fields of a line print PAGE.
+fn pages_on(line: &Line) -> usize {
+    let mut pages: usize = 0;
+    for field in &line.fields {
+        pages = pages.saturating_add(usize::from(is_page(field)));
+    }
+    pages
 }
 
 /// Inserts calculations that reset PAGE, and blanks the conditions of its field.

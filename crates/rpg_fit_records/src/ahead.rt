@@ -3,10 +3,12 @@
 use rpg_fit_deck::{Card, Editor, Seen, Sentence, View, Word};
 use rpg_fit_terms::address_after;
 use rpg_fit_words::{
-    Columns, Conjunction, DeckTypes, Done, FileTypes, Group, Line, List, NewCard, Operand, Outcome,
-    RecordType, RuleStop, array_of, file_card, files_read, groups, indicator_uses, lines,
-    operand_on, put_cards, record_length, record_types, remove_cards, with_record_length,
+    Columns, Conjunction, DeckTypes, Done, FileTypes, Group, Indicator, IndicatorUse, Line, List,
+    NewCard, Operand, Outcome, RecordType, RuleStop, array_of, file_card, files_read, groups,
+    indicator_uses, is, lines, operand_on, put_cards, record_length, remove_cards, types_now,
+    with_record_length,
 };
+use std::alloc::Global;
 
 /// The longest record.
 const LONGEST: usize = 9999;
@@ -17,7 +19,7 @@ const ANY_RECORD: &str = "a look ahead field is used where no record of % need b
 /// Reads fields that look ahead from the columns after each record. A file whose columns can't be read stays, for the compiler to
 /// report.
 pub fn look_ahead(editor: &mut Editor) -> Done {
-    let count = record_types(&editor.view()?)?.len();
+    let count = types_now(editor)?.len();
     for _ in 0..count {
         if !rewrite_first(editor)? {
             return Ok(());
@@ -90,7 +92,7 @@ fn base_of(field: &Seen) -> &[u8] {
 }
 
 fn has_field(kind: &RecordType, name: &[u8]) -> bool {
-    kind.fields.iter().any(|field| base_of(field) == name)
+    kind.fields.iter().any(|field| is(base_of(field), name))
 }
 
 /// Moves the fields of a type that looks ahead into the other types of its file.
@@ -183,17 +185,24 @@ fn check_lines(view: &View, kind: &RecordType, types: &FileTypes) -> Done {
 fn own_types(view: &View, kind: &RecordType) -> Outcome<FileTypes> {
     let mut types = FileTypes::of(view, kind.file)?;
     let uses = indicator_uses(view);
-    let mut own = List::new(view.alloc);
+    let own = own_indicators(&types, uses.checked()?, view.alloc);
+    own.check()?;
+    types.indicators = own;
+    Ok(types)
+}
+
+/// Returns the indicators of a file's types that nothing else turns on or off.
+fn own_indicators(types: &FileTypes, uses: &[IndicatorUse], alloc: Global) -> List<Indicator> {
+    let mut own = List::new(alloc);
     for indicator in types.indicators.as_slice() {
-        let mut others = uses.checked()?.iter();
-        let is_changed = others.any(|one| one.indicator == *indicator && types.is_changed(one));
+        let is_changed = uses
+            .iter()
+            .any(|one| one.indicator == *indicator && types.is_changed(one));
         if !indicator.is_blank() && !is_changed {
             own.push(*indicator);
         }
     }
-    own.check()?;
-    types.indicators = own;
-    Ok(types)
+    own
 }
 
 fn is_operand(card: &Card, kind: &RecordType) -> bool {
@@ -265,7 +274,7 @@ fn name_next(editor: &mut Editor, all: &[RecordType], place: usize) {
     };
     let is_named = !kind.head.card.is_blank(7, 14);
     let (head, file) = (&next.head, kind.file.text());
-    if is_named && head.card.is_blank(7, 14) && next.file.text() == file {
+    if is_named && head.card.is_blank(7, 14) && is(next.file.text(), file) {
         editor.change(head.at, head.card.with(7, 14, file), kind.head.number);
     }
 }

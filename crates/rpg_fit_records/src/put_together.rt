@@ -4,7 +4,7 @@ use crate::structure::{Structure, Subfield, reads};
 use rpg_fit_deck::{Editor, Sentence, Word};
 use rpg_fit_words::{
     Cards, Done, FreshNames, List, NewCard, Outcome, Place, RuleStop, array_of, calculation,
-    insert_at, is_structure,
+    insert_at, is, is_structure,
 };
 
 /// Replaces a structure by calculations that make its whole of the pieces that are read.
@@ -14,16 +14,22 @@ pub(crate) fn assemble(editor: &mut Editor, structure: &Structure, pieces: &[Sub
         let why = "a data structure with more names than its fields and one of the whole";
         return Err(RuleStop::because(number, why));
     };
-    structure.check_unchanged(number, whole.name)?;
-    for piece in pieces {
-        check(structure, &whole, pieces, piece)?;
-    }
+    check_all(structure, &whole, pieces)?;
     let cards = moves_of(structure, &whole, pieces)?;
     structure.remove(editor);
     insert_at(editor, Place::DetailFront, cards.checked()?, number)?;
     let text = "a data structure: % is put together from % fields at the front of detail";
     let sentence = Sentence::with(text, &[whole.name, Word::of_number(pieces.len())]);
     editor.report(number, sentence);
+    Ok(())
+}
+
+/// Rejects a whole that is changed, and pieces that it can't be made of.
+fn check_all(structure: &Structure, whole: &Subfield, pieces: &[Subfield]) -> Done {
+    structure.check_unchanged(structure.number(), whole.name)?;
+    for piece in pieces {
+        check(structure, whole, pieces, piece)?;
+    }
     Ok(())
 }
 
@@ -62,7 +68,7 @@ fn check(structure: &Structure, whole: &Subfield, all: &[Subfield], piece: &Subf
 /// Whether another piece that begins no later ends within a piece, or after it.
 fn is_overlaid(pieces: &[Subfield], piece: &Subfield) -> bool {
     pieces.iter().any(|other| {
-        let is_other = other.name.text() != piece.name.text();
+        let is_other = !is(other.name.text(), piece.name.text());
         is_other && other.span.first <= piece.span.first && other.span.last >= piece.span.first
     })
 }

@@ -5,14 +5,18 @@ use crate::taken_apart::take_apart;
 use rpg_fit_deck::{Editor, Seen, View, Word};
 use rpg_fit_terms::is_name_on;
 use rpg_fit_words::{
-    Done, Line, List, Operand, Outcome, RecordType, RuleStop, is_card, is_structure, lines,
-    record_types, remove_cards,
+    Done, Line, List, Operand, Outcome, RecordType, RuleStop, is, is_card, is_structure, lines,
+    record_types, remove_cards, types_now,
 };
 
 /// Replaces each data structure: its subfields are read from the columns of the field that fills it.
 pub fn structures(editor: &mut Editor) -> Done {
-    let types = record_types(&editor.view()?)?;
-    for kind in types.iter() {
+    let types = types_now(editor)?;
+    replace_all(editor, types.as_slice())
+}
+
+fn replace_all(editor: &mut Editor, types: &[RecordType]) -> Done {
+    for kind in types {
         if is_structure(&kind.head.card) {
             replace(editor, kind)?;
         }
@@ -85,7 +89,7 @@ fn name_on(field: &Seen) -> &[u8] {
 /// Whether a calculation changes a field.
 fn is_calculated(view: &View, name: &[u8]) -> bool {
     view.cards.iter().any(|seen| is_card(seen, b'C')
-        && Operand::of(seen.card.value(43, 48)).name == name)
+        && is(Operand::of(seen.card.value(43, 48)).name, name))
 }
 
 /// Whether a calculation or an output field has a name.
@@ -179,13 +183,13 @@ impl Structure<'_> {
 
 /// Whether a type has a field with a name.
 pub(crate) fn reads(kind: &RecordType, name: &[u8]) -> bool {
-    kind.fields.iter().any(|field| name_on(field) == name)
+    kind.fields.iter().any(|field| is(name_on(field), name))
 }
 
 /// Appends a type's fields with a name.
 fn push_named(found: &mut List<Seen>, kind: &RecordType, name: &[u8]) {
     for field in kind.fields.iter() {
-        if name_on(field) == name {
+        if is(name_on(field), name) {
             found.push(*field);
         }
     }
@@ -199,7 +203,7 @@ fn subfields_of(view: &View, kind: &RecordType) -> Outcome<Option<List<Subfield>
             return Ok(None);
         };
         let mut others = found.as_slice().iter();
-        if others.any(|other| other.name.text() == name_on(field)) {
+        if others.any(|other| is(other.name.text(), name_on(field))) {
             return Err(RuleStop::because(kind.head.number, "a subfield stands twice"));
         }
         found.push(Subfield {

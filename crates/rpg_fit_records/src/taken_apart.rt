@@ -3,7 +3,7 @@
 use crate::structure::{Structure, Subfield};
 use rpg_fit_deck::{Editor, Seen, Sentence, Word};
 use rpg_fit_terms::address_after;
-use rpg_fit_words::{Cards, Done, List, NewCard, Outcome, RuleStop, array_of, put_cards};
+use rpg_fit_words::{Cards, Done, List, NewCard, Outcome, RuleStop, array_of, is, put_cards};
 
 /// Replaces a structure: inserts its subfields after each card that reads the field with its columns, the parent.
 pub(crate) fn take_apart(editor: &mut Editor, structure: &Structure, parent: Subfield) -> Done {
@@ -39,7 +39,7 @@ fn put_fields(editor: &mut Editor, structure: &Structure, parent: &Subfield) -> 
 }
 
 fn is_parent(parent: &Subfield, subfield: &Subfield) -> bool {
-    subfield.name.text() == parent.name.text()
+    is(subfield.name.text(), parent.name.text())
 }
 
 /// Rejects a subfield that is more than some columns of the parent.

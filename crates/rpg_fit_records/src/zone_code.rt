@@ -18,21 +18,30 @@ const MOST: usize = 100;
 /// Replaces codes by zone or digit: an alternative for each character that has it, and conditions on all of them for a code with N.
 pub fn zone_codes(editor: &mut Editor) -> Done {
     let deck = DeckTypes::of(editor)?;
+    rewrite_types(editor, &deck)
+}
+
+fn rewrite_types(editor: &mut Editor, deck: &DeckTypes) -> Done {
     for kind in deck.types.iter() {
-        let cards = kind.code_cards(editor.alloc());
-        if has_zone_code(cards.checked()?) {
-            rewrite_type(editor, &deck.view, kind, cards.as_slice())?;
-        }
+        rewrite_type(editor, &deck.view, kind)?;
     }
     Ok(())
 }
 
 /// Whether one of some cards has a code by zone or digit.
 fn has_zone_code(cards: &[Seen]) -> bool {
-    cards.iter().any(|seen| {
-        let mut columns = CODES.into_iter();
-        columns.any(|column| matches!(seen.card.column(column.saturating_add(5)), b'Z' | b'D'))
-    })
+    for seen in cards {
+        let card = &seen.card;
+        if is_zone(card.column(26)) || is_zone(card.column(33)) || is_zone(card.column(40)) {
+            return true;
+        }
+    }
+    false
+}
+
+/// Whether a code compares zones or digits, by its letter.
+fn is_zone(kind: u8) -> bool {
+    matches!(kind, b'Z' | b'D')
 }
 
 /// A code of a record type, with the characters that it stands for.
@@ -64,11 +73,7 @@ impl Code {
         Ok(Code {
             position: Word::of(seen.card.columns(column, column.saturating_add(3))),
             is_not: seen.card.column(column.saturating_add(4)) == b'N',
-            kind: if matches!(kind, b'Z' | b'D') {
-                b'C'
-            } else {
-                kind
-            },
+            kind: if is_zone(kind) { b'C' } else { kind },
             characters: Constant::empty().and(found.unwrap_or(&[character])),
         })
     }
@@ -175,6 +180,27 @@ impl Punch {
         }
     }
 
+    /// Appends the alternatives of a type's code cards. `head`: the number of its card.
+    fn push_cards(&mut self, alloc: Global, cards: &[Seen], head: usize) -> Done {
+        let mut start: usize = 0;
+        for end in 1..cards.len().saturating_add(1) {
+            if ends_before(cards, end) {
+                let alternative = cards.get(start..end).unwrap_or(&[]);
+                self.push_alternative(alloc, alternative, head)?;
+                start = end;
+            }
+        }
+        Ok(())
+    }
+
+    fn push_alternative(&mut self, alloc: Global, cards: &[Seen], head: usize) -> Done {
+        let codes = codes_of(alloc, cards)?;
+        match cards.first() {
+            Some(first) => self.push_alternatives(first, codes.checked()?, head),
+            None => Ok(()),
+        }
+    }
+
     /// Appends the alternatives of codes. `head`: the number of the type's card.
     fn push_alternatives(&mut self, first: &Seen, codes: &[Code], head: usize) -> Done {
         let count = count_of(codes);
@@ -206,16 +232,29 @@ fn or_card(first: &Seen, indicator: Indicator) -> NewCard {
         .with(21, 41, &[])
 }
 
-/// Replaces the codes of a type.
-fn rewrite_type(editor: &mut Editor, view: &View, kind: &RecordType, cards: &[Seen]) -> Done {
-    let head = &kind.head;
-    let mut punch = Punch::new(view.alloc, head);
-    for alternative in cards.chunk_by(|_, next| !is_or(next)) {
-        let codes = codes_of(view.alloc, alternative)?;
-        let first = alternative.first().unwrap_or(head);
-        punch.push_alternatives(first, codes.checked()?, head.number)?;
+/// Replaces the codes of a type, if one of them compares zones or digits.
+fn rewrite_type(editor: &mut Editor, view: &View, kind: &RecordType) -> Done {
+    let cards = kind.code_cards(view.alloc);
+    let cards = cards.checked()?;
+    if has_zone_code(cards) {
+        rewrite_codes(editor, view, kind, cards)
+    } else {
+        Ok(())
     }
+}
+
+fn rewrite_codes(editor: &mut Editor, view: &View, kind: &RecordType, cards: &[Seen]) -> Done {
+    let mut punch = Punch::new(view.alloc, &kind.head);
+    punch.push_cards(view.alloc, cards, kind.head.number)?;
     put_codes(editor, view, kind, &punch)
+}
+
+/// Whether an alternative ends before a card, by its place.
+fn ends_before(cards: &[Seen], place: usize) -> bool {
+    match cards.get(place) {
+        Some(next) => is_or(next),
+        None => true,
+    }
 }
 
 /// Replaces the cards of a type's codes.

@@ -1,7 +1,7 @@
 //! The forms of names: lengths and decimals.
 
 use crate::cards::is_card;
-use crate::name::is_date_part;
+use crate::name::{is, is_date_part};
 use rpg_fit_deck::{Card, Seen, View, Word};
 
 /// A name's length and decimals.
@@ -43,7 +43,7 @@ pub struct Array {
 /// Returns the table or array with this name on an E card, given the first column of the name and of the length. None if the columns
 /// can't be read.
 fn table_at(card: &Card, name: &[u8], first: usize, length: usize) -> Option<Array> {
-    if name.is_empty() || card.value(first, first.saturating_add(5)) != name {
+    if name.is_empty() || !is(card.value(first, first.saturating_add(5)), name) {
         return None;
     }
     Some(Array {
@@ -59,7 +59,7 @@ fn table_at(card: &Card, name: &[u8], first: usize, length: usize) -> Option<Arr
 /// Whether a card defines a table or an array with this name.
 pub fn is_table(seen: &Seen, name: &[u8]) -> bool {
     let card = &seen.card;
-    is_card(seen, b'E') && (card.value(27, 32) == name || card.value(46, 51) == name)
+    is_card(seen, b'E') && (is(card.value(27, 32), name) || is(card.value(46, 51), name))
 }
 
 /// Returns the table or array with this name, the last one in the deck.
@@ -85,7 +85,7 @@ pub fn array_of(view: &View, name: &[u8]) -> Option<Array> {
 /// Returns the form that an input field gives a name.
 fn input_form(seen: &Seen, name: &[u8]) -> Option<Form> {
     let card = &seen.card;
-    if !is_card(seen, b'I') || !card.is_blank(7, 16) || card.value(53, 58) != name {
+    if !is_card(seen, b'I') || !card.is_blank(7, 16) || !is(card.value(53, 58), name) {
         return None;
     }
     let last = card.number(48, 51)?;
@@ -96,7 +96,7 @@ fn input_form(seen: &Seen, name: &[u8]) -> Option<Form> {
 
 /// Returns the form that a calculation gives its result.
 fn result_form(seen: &Seen, name: &[u8]) -> Option<Form> {
-    if !is_card(seen, b'C') || seen.card.value(43, 48) != name {
+    if !is_card(seen, b'C') || !is(seen.card.value(43, 48), name) {
         return None;
     }
     Some(Form::of(seen.card.number(49, 51)?, seen.card.column(52)))

@@ -5,7 +5,7 @@ ghost use Rattle.rpg_fit_deck.specs.Words.{cut, word_text};
 ghost use Rattle.rpg_fit_terms.specs.Fresh.{AllTaken, AreNew, AreTaken, IsTaken, candidate, digit, suffix_of, is_taken};
 ghost use Rattle.rpg_fit_terms.specs.Names.{is_prefix_used};
 
-use crate::name::{is_name_used, is_prefix_used, is_reserved};
+use crate::name::{is, is_name_used, is_prefix_used, is_reserved};
 use crate::stop::{Outcome, RuleStop};
 use rpg_fit_deck::{Sentence, View, Word};
 
@@ -73,7 +73,7 @@ fn is_taken(view: &View, name: &[u8]) -> bool
 impl FreshNames {
     /// Whether these are names of a stem, of at most `room` characters.
     pub(crate) fn is_of(&self, stem: &[u8], room: usize) -> bool {
-        self.room == room && self.stem.text() == stem
+        self.room == room && is(self.stem.text(), stem)
     }
 
     /// Starts with a stem, for names of at most `room` characters.

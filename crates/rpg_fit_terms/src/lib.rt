@@ -19,7 +19,7 @@ pub use form::{Array, Form, array_of, form_of, is_table};
 pub use free_indicator::{FreeIndicators, free_halt};
 pub use fresh::{FreshNames, fresh_name, unused_prefix};
 pub use indicator::Indicator;
-pub use name::{is_date_part, is_name_on, is_name_used};
+pub use name::{is, is_date_part, is_name_on, is_name_used};
 pub use operand::{Operand, entry};
 pub use renaming::{ShortNames, rename};
 pub use stop::{Done, Outcome, Reason, RuleStop, settle};

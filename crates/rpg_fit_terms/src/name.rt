@@ -2,6 +2,7 @@
 
 ghost use Rattle.std.specs.Prelude.{◌≡◌, nat_eq};
 ghost use Rattle.std.specs.List.{starts_with};
+ghost use Rattle.std.specs.Str.{bytes_eq};
 ghost use Rattle.rpg_fit_terms.specs.Names.{card_has_operand, has_operand_in, is_date_part, is_name_in, is_name_used, is_prefix_in, is_prefix_used, is_reserved, operand_columns};
 
 use crate::operand::Operand;
@@ -36,12 +37,19 @@ pub(crate) fn name_columns(form: u8) -> &'static [Columns]
     }
 }
 
+/// Whether a text is this word.
+pub fn is(text: &[u8], word: &[u8]) -> bool
+    ensures { result ≡ bytes_eq text.now word.now }
+{
+    text == word
+}
+
 /// Whether an operand has a name, as its name or its index.
 fn is_name_in(operand: &[u8], name: &[u8]) -> bool
     ensures { result ≡ is_name_in name.now operand.now }
 {
     let found = Operand::of(operand);
-    found.name == name || found.index == name
+    is(found.name, name) || is(found.index, name)
 }
 
 fn has_name_in(card: &Card, places: &[Columns], name: &[u8]) -> bool
@@ -107,7 +115,7 @@ pub(crate) fn is_prefix_used(view: &View, prefix: &[u8]) -> bool
 pub fn is_date_part(name: &[u8]) -> bool
     ensures { result ≡ is_date_part name.now }
 {
-    name == b"UDAY".as_slice() || name == b"UMONTH".as_slice() || name == b"UYEAR".as_slice()
+    is(name, b"UDAY") || is(name, b"UMONTH") || is(name, b"UYEAR")
 }
 
 /// Whether a name is predefined.
@@ -115,5 +123,5 @@ pub fn is_date_part(name: &[u8]) -> bool
 pub(crate) fn is_reserved(name: &[u8]) -> bool
     ensures { result ≡ is_reserved name.now }
 {
-    name == b"UDATE".as_slice() || name == b"PAGE".as_slice() || is_date_part(name)
+    is(name, b"UDATE") || is(name, b"PAGE") || is_date_part(name)
 }

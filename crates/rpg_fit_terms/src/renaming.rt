@@ -2,7 +2,7 @@
 
 use crate::form::is_table;
 use crate::fresh::FreshNames;
-use crate::name::{Columns, name_columns};
+use crate::name::{Columns, is, name_columns};
 use crate::operand::Operand;
 use crate::stop::{Outcome, RuleStop};
 use rpg_fit_deck::{Card, Editor, Sentence, View, Word};
@@ -14,13 +14,14 @@ const RESULT: usize = 6;
 /// Whether a calculation names labels or subroutines, which aren't fields.
 fn names_labels(card: &Card) -> bool {
     let operation = card.value(28, 32);
-    matches!(operation, b"GOTO" | b"EXSR") || matches!(operation, b"TAG" | b"BEGSR" | b"ENDSR")
+    let is_called = is(operation, b"EXSR") || is(operation, b"BEGSR") || is(operation, b"ENDSR");
+    is_called || is(operation, b"GOTO") || is(operation, b"TAG")
 }
 
 /// Returns a card with the new name in columns that have the old one, or None if they don't.
 fn renamed_in(card: Card, columns: &Columns, old: &[u8], new: &[u8]) -> Option<Card> {
     let text = card.value(columns.0, columns.1);
-    if Operand::of(text).name != old {
+    if !is(Operand::of(text).name, old) {
         return None;
     }
     let index = text.get(old.len()..).unwrap_or(&[]);
@@ -111,11 +112,22 @@ impl ShortNames {
             return Ok(old);
         }
         let view = editor.view()?;
-        let card = card_of(&view, name);
-        let new = self.shorter(&view, name, room, card)?;
+        self.renamed(editor, &view, name, room)
+    }
+
+    /// Renames an array to a name of at most `room` characters, with a sentence about that.
+    fn renamed(
+        &mut self,
+        editor: &mut Editor,
+        view: &View,
+        name: &[u8],
+        room: usize,
+    ) -> Outcome<Word> {
+        let card = card_of(view, name);
+        let new = self.shorter(view, name, room, card)?;
         let remark = "% is called %, so that an index has room";
-        editor.report(card, Sentence::with(remark, &[old, new]));
-        rename(editor, &view, name, new.text(), card);
+        editor.report(card, Sentence::with(remark, &[Word::of(name), new]));
+        rename(editor, view, name, new.text(), card);
         Ok(new)
     }
 }

@@ -4,7 +4,7 @@ use crate::indicator_use::{IndicatorUse, UseKind};
 use crate::list::List;
 use crate::record_type::{RecordType, record_types};
 use rpg_fit_deck::{Card, Seen, View, Word};
-use rpg_fit_terms::{Conjunction, Indicator, Outcome, is_card};
+use rpg_fit_terms::{Conjunction, Indicator, Outcome, is, is_card};
 use std::alloc::Global;
 
 /// Returns the name of an F card's file.
@@ -28,7 +28,7 @@ pub fn files_read(view: &View) -> List<Seen> {
 /// Returns the card of the file with a name.
 pub fn file_card<'a>(view: &'a View, name: &[u8]) -> Option<&'a Seen> {
     let mut cards = view.cards.iter();
-    cards.find(|seen| is_card(*seen, b'F') && file_name(*seen) == name)
+    cards.find(|seen| is_card(*seen, b'F') && is(file_name(*seen), name))
 }
 
 /// Returns the length of a file's records.

@@ -1,6 +1,6 @@
 //! Calculations with their AN and OR cards.
 
-use rpg_fit_deck::{Address, Card, Seen, View};
+use rpg_fit_deck::{Address, Card, Editor, Seen, View};
 use rpg_fit_terms::{Done, Indicator, Outcome, is_card};
 use std::alloc::Global;
 
@@ -98,6 +98,11 @@ pub(crate) fn is_in_detail(view: &View, at: Address) -> bool {
         }
     }
     false
+}
+
+/// Returns the calculations of a deck in its present form.
+pub fn groups_now(editor: &Editor) -> Outcome<Vec<Group>> {
+    groups(&editor.view()?)
 }
 
 /// Returns the calculations of a deck, in order.

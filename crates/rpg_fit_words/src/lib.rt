@@ -21,7 +21,7 @@ pub use columns::Columns;
 pub use constant::Constant;
 pub use file::{FileTypes, file_card, file_name, files_read, record_length, with_record_length};
 pub use flagged::push_conditioned;
-pub use group::{Group, Section, groups};
+pub use group::{Group, Section, groups, groups_now};
 pub use indicator_use::{IndicatorUse, UseKind, check_only_type, indicator_uses};
 pub use line::{
     Alternative, DeckLines, Line, Time, lines, name_files, operand_on, push_conditions,
@@ -30,10 +30,12 @@ pub use line::{
 pub use list::{Cards, Conditions, List};
 pub use place::{Place, before_output, insert_at};
 pub use printer::{Printer, printer_card};
-pub use record_type::{DeckTypes, RecordType, is_or, is_structure, name_types, record_types};
+pub use record_type::{
+    DeckTypes, RecordType, is_or, is_structure, name_types, record_types, types_now,
+};
 pub use rpg_fit_terms::{
     Array, Conjunction, Done, Form, FreeIndicators, FreshNames, Indicator, NewCard, Operand,
-    Outcome, RuleStop, ShortNames, Term, array_of, entry, form_of, fresh_name, is_card,
+    Outcome, RuleStop, ShortNames, Term, array_of, entry, form_of, fresh_name, is, is_card,
     is_date_part, is_name_used, is_table, put_cards, unused_prefix,
 };
 pub use template::calculation;

@@ -2,8 +2,8 @@
 
 use crate::list::Cards;
 use crate::record_type::is_or;
-use rpg_fit_deck::{Editor, Seen, View, Word};
-use rpg_fit_terms::{Conjunction, Done, NewCard, Operand, Outcome, is_card};
+use rpg_fit_deck::{Address, Editor, Seen, View, Word};
+use rpg_fit_terms::{Conjunction, Done, NewCard, Operand, Outcome, is, is_card};
 use std::alloc::Global;
 
 /// When a line is printed.
@@ -106,6 +106,14 @@ impl Line {
         }
     }
 
+    /// Returns the card at an address, if it has conditions of the line.
+    pub fn card_at(&self, at: Address) -> Option<&Seen> {
+        if self.head.at == at {
+            return Some(&self.head);
+        }
+        self.more.iter().find(|seen| seen.at == at)
+    }
+
     /// Removes all cards of the line, as part of the change of the card `with`.
     pub fn remove(&self, editor: &mut Editor, with: usize) {
         editor.remove(self.head.at, with);
@@ -127,7 +135,7 @@ impl Line {
     /// Whether it blanks a field, or an entry of an array, after printing it.
     pub fn blanks(&self, name: &[u8]) -> bool {
         let mut fields = self.fields.iter();
-        fields.any(|field| field.card.column(39) == b'B' && operand_on(field).name == name)
+        fields.any(|field| field.card.column(39) == b'B' && is(operand_on(field).name, name))
     }
 
     /// Returns a copy of its record card, with its file's name on it.
@@ -229,7 +237,7 @@ impl DeckLines {
 /// Puts the name of its file on each line's card, so that lines may be moved, as part of the change of the card `with`.
 pub fn name_files(editor: &mut Editor, lines: &[Line], with: usize) {
     for line in lines {
-        if line.head.card.value(7, 14) != line.file.text() {
+        if !is(line.head.card.value(7, 14), line.file.text()) {
             let named = line.head.card.with(7, 14, line.file.text());
             editor.change(line.head.at, named, with);
         }

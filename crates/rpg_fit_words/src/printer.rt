@@ -2,9 +2,9 @@
 
 use crate::file::file_name;
 use crate::line::{Line, Time};
-use crate::record_type::record_types;
+use crate::record_type::{RecordType, record_types};
 use rpg_fit_deck::{Card, Seen, View, Word};
-use rpg_fit_terms::{Conjunction, Indicator, Outcome, Term, is_card};
+use rpg_fit_terms::{Conjunction, Indicator, Outcome, Term, is, is_card};
 
 /// A deck's first printer. If there is none, its name and its overflow indicator are blank, and no line is its overflow line.
 #[derive(Clone, Copy)]
@@ -22,7 +22,7 @@ const OVERFLOW_LINE: usize = 60;
 /// Returns the overflow line of a printer: that of the first L card with its name.
 fn overflow_line_of(view: &View, file: &[u8]) -> usize {
     for seen in view.cards.iter() {
-        if is_card(seen, b'L') && file_name(seen) == file {
+        if is_card(seen, b'L') && is(file_name(seen), file) {
             return seen.card.number(20, 22).unwrap_or(OVERFLOW_LINE);
         }
     }
@@ -32,7 +32,7 @@ fn overflow_line_of(view: &View, file: &[u8]) -> usize {
 /// Returns the card of a deck's first printer.
 pub fn printer_card(view: &View) -> Option<&Seen> {
     let mut cards = view.cards.iter();
-    cards.find(|seen| is_card(*seen, b'F') && matches!(seen.card.value(40, 46), b"PRINTER"))
+    cards.find(|seen| is_card(*seen, b'F') && is(seen.card.value(40, 46), b"PRINTER"))
 }
 
 /// Returns the line that two columns skip to: A0 to A9 are 100 to 109, and B0 to B2 are 110 to 112.
@@ -57,6 +57,15 @@ fn line_following(at: usize, card: &Card) -> usize {
     at.saturating_add(moved).max(before).max(after)
 }
 
+/// Returns how many types have control fields.
+fn count_leveled(types: &[RecordType]) -> usize {
+    let mut count: usize = 0;
+    for kind in types {
+        count = count.saturating_add(usize::from(kind.has_levels()));
+    }
+    count
+}
+
 impl Printer {
     /// Returns that of a deck.
     pub fn of(view: &View) -> Printer {
@@ -75,7 +84,7 @@ impl Printer {
     }
 
     fn has(&self, line: &Line) -> bool {
-        self.file.text() == line.file.text()
+        is(self.file.text(), line.file.text())
     }
 
     /// Whether a line is printed at overflow under a condition.
@@ -112,11 +121,7 @@ impl Printer {
     /// have control fields.
     pub fn is_total_skipped_late(&self, view: &View, lines: &[Line]) -> Outcome<bool> {
         let types = record_types(view)?;
-        let leveled = types.iter().filter(|kind| {
-            let mut fields = kind.fields.iter();
-            fields.any(|field| !field.card.is_blank(59, 60))
-        });
-        let leveled = leveled.count();
+        let leveled = count_leveled(types.as_slice());
         Ok(leveled > 0 && leveled < types.len() || self.reaches_overflow(lines))
     }
 }

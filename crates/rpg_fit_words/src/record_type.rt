@@ -2,7 +2,7 @@
 
 use crate::list::List;
 use rpg_fit_deck::{Card, Editor, Seen, View, Word};
-use rpg_fit_terms::{Done, Outcome, is_card};
+use rpg_fit_terms::{Done, Outcome, is, is_card};
 use std::alloc::Global;
 
 /// A record type, or a data structure, whose file is empty.
@@ -18,12 +18,22 @@ pub struct RecordType {
 impl RecordType {
     /// Whether it is a type of a file, and isn't looked ahead.
     pub fn is_of(&self, file: &[u8]) -> bool {
-        self.file.text() == file && !self.is_looked_ahead()
+        is(self.file.text(), file) && !self.is_looked_ahead()
     }
 
     /// Whether its fields are those of the next record.
     pub fn is_looked_ahead(&self) -> bool {
         matches!(self.head.card.columns(19, 20), b"**")
+    }
+
+    /// Whether it has a control field.
+    pub(crate) fn has_levels(&self) -> bool {
+        for field in self.fields.iter() {
+            if !field.card.is_blank(59, 60) {
+                return true;
+            }
+        }
+        false
     }
 
     /// Returns the cards with its codes.
@@ -89,6 +99,11 @@ fn push_card(alloc: Global, found: &mut Vec<RecordType>, file: &mut Word, seen: 
     Ok(())
 }
 
+/// Returns the record types of a deck in its present form.
+pub fn types_now(editor: &Editor) -> Outcome<Vec<RecordType>> {
+    record_types(&editor.view()?)
+}
+
 /// Returns the record types of a deck, in order, each with the name of its file.
 pub fn record_types(view: &View) -> Outcome<Vec<RecordType>> {
     let mut found = Vec::new(view.alloc);
@@ -121,7 +136,7 @@ impl DeckTypes {
 pub fn name_types(editor: &mut Editor, types: &[RecordType], with: usize) {
     for kind in types {
         let head = &kind.head;
-        if head.card.value(7, 14) != kind.file.text() && !is_structure(&head.card) {
+        if !is(head.card.value(7, 14), kind.file.text()) && !is_structure(&head.card) {
             editor.change(head.at, head.card.with(7, 14, kind.file.text()), with);
         }
     }
