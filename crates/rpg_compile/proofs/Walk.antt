@@ -159,3 +159,19 @@ last_more first cards i c k lt is on =
     let one : take (i + 1) cards ≡ take i cards ++ c ∷ [] = rw (take_more cards i c lt, ← is) refl in
     let specs : calculation_specs_in (take (i + 1) cards) ≡ calculation_specs_in (take i cards) ++ k ∷ [] = ap calculation_specs_in one ∙ filter_map-append (λ (d : SpecCard). calculation_on d.spec) (take i cards) (c ∷ []) ∙ ap (λ o. calculation_specs_in (take i cards) ++ cons_option o []) on in
     sym (ap (λ ks. unwrap_or (last_or None ks) first) specs ∙ ap (λ o. unwrap_or o first) (last_push (calculation_specs_in (take i cards)) k None))
+
+-- ---- the last card, if it isn't a C card
+
+goes_on : (c : SpecCard) (cs : List SpecCard) → calculation_on c.spec ≡ None → continues (cs ++ c ∷ []) ≡ continues cs
+goes_on c [] none = goes_by c [] None none
+goes_on c (d ∷ ds) none = refl
+
+from_without : (o : Option CalculationGroup) (cs : List SpecCard) (c : SpecCard) → calculation_on c.spec ≡ None → calculations_from o (cs ++ c ∷ []) [] ≡ calculations_from o cs []
+from_without o [] c none = closed o c [] (ap (option_map (group_with o)) none)
+from_without o (d ∷ ds) c none =
+    let same = ap continues (append-nil (ds ++ c ∷ [])) ∙ goes_on c ds none ∙ sym (ap continues (append-nil ds)) in
+    ap (λ b. option_to_list (option_map calculation_of (cond b None (open_with o d.spec))) ++ calculations_from (open_with o d.spec) (ds ++ c ∷ []) []) same
+    ∙ ap (λ gs. option_to_list (option_map calculation_of (group_at o d (ds ++ []))) ++ gs) (from_without (open_with o d.spec) ds c none)
+
+pub without_last : (rest before : List SpecCard) (c : SpecCard) → rest ≡ before ++ c ∷ [] → calculation_on c.spec ≡ None → calculations rest ≡ calculations before
+without_last rest before c is none = ap calculations is ∙ from_without None before c none

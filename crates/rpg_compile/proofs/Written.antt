@@ -36,3 +36,8 @@ same_levels number called f g own first [] same = refl
 same_levels number called f g own first (s ∷ ss) same =
     ap (λ n. record { level = n; instructions = calculations_code number called own first s.body } ∷ subroutines_code number called f (suc own) (first + sizes s.body) ss) (same own (omega arith))
     ∙ ap (λ rows. record { level = g own; instructions = calculations_code number called own first s.body } ∷ rows) (same_levels number called f g (suc own) (first + sizes s.body) ss (λ n low. same n (omega arith)))
+
+pub no_rows : (number : Key → ℕ) (called : Option Name → ℕ) (level : ℕ → ℕ) (own first : ℕ) (ss : List (Subroutine Key)) → length ss ≡ 0 → subroutines_code number called level own first ss ≡ []
+unfolding subroutines_code
+no_rows number called level own first [] none = refl
+no_rows number called level own first (s ∷ ss) none = absurd cc

@@ -29,13 +29,16 @@ pub(crate) fn action_of(
         Operation::Add => compute(Operator::Add, table, calculation),
         Operation::Subtract => compute(Operator::Subtract, table, calculation),
         Operation::Multiply => compute(Operator::Multiply, table, calculation),
-        Operation::Divide => Action::Divide {
-            half,
-            factor1: first_or_result(table, calculation),
-            factor2: factor_of(table, &calculation.factor_2),
-            result: result_of(table, &calculation.result_field),
-            shows,
-        },
+        Operation::Divide => {
+            let own = result_of(table, &calculation.result_field);
+            Action::Divide {
+                half,
+                factor1: first_or(table, calculation, own),
+                factor2: factor_of(table, &calculation.factor_2),
+                result: own,
+                shows,
+            }
+        }
         Operation::ZeroAdd => assign(false, table, calculation),
         Operation::ZeroSubtract => assign(true, table, calculation),
         Operation::MoveRemainder => Action::TakeRemainder {
@@ -87,12 +90,13 @@ fn compute(
     ensures value { result ≡ renamed_action (key_number table.now) (steps.computed_action operator calculation.now) }
     ensures kept { IsMarkedAction result }
 {
+    let own = result_of(table, &calculation.result_field);
     Action::Compute {
         operator,
         half: calculation.half_adjust,
-        factor1: first_or_result(table, calculation),
+        factor1: first_or(table, calculation, own),
         factor2: factor_of(table, &calculation.factor_2),
-        result: result_of(table, &calculation.result_field),
+        result: own,
         shows: shows_of(calculation.resulting_indicators),
     }
 }
@@ -155,12 +159,17 @@ fn given_result(table: &FieldTable, entry: &Option<Entry>) -> Option<Operand<u16
     }
 }
 
-/// Returns factor 1, or the result field if it is blank.
-fn first_or_result(table: &FieldTable, calculation: &CalculationSpec) -> Operand<u16>
+/// Returns factor 1, or if it is blank the result field, whose operand this is.
+fn first_or(
+    table: &FieldTable,
+    calculation: &CalculationSpec,
+    otherwise: Operand<u16>,
+) -> Operand<u16>
+    requires { otherwise ≡ renamed_operand (key_number table.now) (unwrap_or (option_map keys.entry_operand calculation.now.result_field) keys.nowhere) }
     ensures { result ≡ renamed_operand (key_number table.now) (statements.first_or_result calculation.now) }
 {
     match &calculation.factor_1 {
-        None => result_of(table, &calculation.result_field),
+        None => otherwise,
         Some(factor) => table.operand_of(factor),
     }
 }

@@ -77,17 +77,18 @@ fn size_of(first: &CalculationSpec, cards: &[SpecCard]) -> u16
     waits + count_tests(cards) + 1
 }
 
-/// Returns the cards from the first C card on; none if there is no C card.
-pub(crate) fn from_calculations(cards: &[SpecCard]) -> &[SpecCard]
+/// Returns the cards up to the last C card; none if there is no C card.
+#[tactic(auto, using(crate::proofs::Walk::without_last))]
+pub(crate) fn up_to_calculations(cards: &[SpecCard]) -> &[SpecCard]
     ensures same { calculations.calculations cards.now ≡ calculations.calculations result.now }
     ensures within { length result.now ≤ length cards.now }
 {
     let mut rest = cards;
-    while let Some((card, following)) = rest.split_first() {
+    while let Some((card, before)) = rest.split_last() {
         if card.calculation().is_some() {
             return rest;
         }
-        rest = following;
+        rest = before;
     }
     rest
 }

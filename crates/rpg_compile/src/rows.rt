@@ -15,7 +15,7 @@ ghost use Rattle.rpg_compile_program.specs.Table.{key_number};
 
 use crate::calls::levels_of;
 use crate::code::Code;
-use crate::group::from_calculations;
+use crate::group::up_to_calculations;
 use crate::instruction::Section;
 use crate::numbers::NameNumbers;
 use crate::part::{Part, next_subroutine};
@@ -49,10 +49,11 @@ pub fn section_rows(
     ensures total_kept { IfOk result (λ r. All IsMarked r.total.items) }
     ensures subroutines_kept { IfOk result (λ r. All IsMarkedRow (map subroutine_row r.subroutines.items)) }
 {
-    rows_from(alloc, table, from_calculations(cards))
+    rows_from(alloc, table, up_to_calculations(cards))
 }
 
-/// Compiles the calculations of cards that begin with them. The cards are read seven times.
+/// Compiles the calculations of cards that end with them. The cards are read six times, and once more if there are
+/// subroutines.
 fn rows_from(
     alloc: Global,
     table: &FieldTable,
@@ -124,6 +125,7 @@ impl Writer<'_> {
     }
 
     /// Compiles the subroutines, the first at this place.
+    #[tactic(auto, using(crate::proofs::Written::no_rows))]
     fn subroutines(
         &mut self,
         levels: &[u16],
@@ -137,6 +139,9 @@ impl Writer<'_> {
         ensures kept { IfOk result (λ v. All IsMarkedRow (map subroutine_row v.items)) }
     {
         let mut rows = Vec::new(self.alloc);
+        if levels.is_empty() {
+            return Ok(rows);
+        }
         let mut own = 0;
         let mut place = first;
         let mut rest = cards;

@@ -7,7 +7,7 @@ ghost use Rattle.rpg_warnings_lines.specs.Unused as unused;
 ghost use Rattle.rpg_warnings_lines.specs.Uses as uses;
 
 use crate::marks::{Mark, NONE, least_at, least_of, lower_each, put_mark};
-use crate::uses::{next_place, printed_on, read_on, reads_nothing, result_field};
+use crate::uses::{named_index, next_place, printed, read_on, reads_nothing, result_field};
 use crate::warning::{Warning, WarningKind, put_warning};
 use rpg_card_index::IndexedCards;
 use rpg_cards::SpecCard;
@@ -21,27 +21,19 @@ const RESULT: ColumnFault = ColumnFault {
     last: 48,
 };
 
-/// Notes the names that an output field prints.
-fn note_printed(
-    read: &mut Vec<u16>,
-    source: &IndexedCards,
-    card: &SpecCard,
-) -> Result<(), AllocError>
-    ensures { OnOk result (marks.Lowers (marks.marks_of card.now.number (uses.printed_on source.now card.now.spec)) read.old.items read.new.items) }
-{
-    match &card.spec {
-        Spec::Output(_) => lower_each(read, &printed_on(source, card), card.number),
-        _ => Ok(()),
-    }
-}
-
-/// Notes the names that output fields print, with their first cards.
+/// Notes the names that output fields print, with their first cards. The place of a name isn't looked up again for the next field.
 #[tactic(auto, using(crate::proofs::Noting::lowers_more))]
 fn lower_printed(read: &mut Vec<u16>, source: &IndexedCards) -> Result<(), AllocError>
     ensures { OnOk result (marks.Lowers (unused.printed_from source.now source.now) read.old.items read.new.items) }
 {
+    let mut last = [].as_slice();
+    let mut place = source.name_place(&Name::new(last));
     for card in source.as_slice() {
-        note_printed(read, source, card)?;
+        if let Some(entry) = printed(card) {
+            place = next_place(source, &entry.name, last, place);
+            last = entry.name.as_slice();
+            lower_each(read, &[place, named_index(source, entry)], card.number)?;
+        }
     }
     Ok(())
 }

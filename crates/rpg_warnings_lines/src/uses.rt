@@ -19,7 +19,7 @@ pub(crate) fn entry_place(source: &IndexedCards, entry: &Option<Entry>) -> Optio
 }
 
 /// Returns the place of the field that has an entry's index.
-fn named_index(source: &IndexedCards, entry: &Entry) -> Option<u64>
+pub(crate) fn named_index(source: &IndexedCards, entry: &Entry) -> Option<u64>
     ensures { result ≡ uses.named_index source.now entry.now }
 {
     match &entry.index {
@@ -150,17 +150,11 @@ fn table_place(source: &IndexedCards, table: &Option<TableSpec>) -> Option<u64>
     source.name_place(&table.as_ref()?.name)
 }
 
-/// Returns the names that an output field prints.
-pub(crate) fn printed_on(source: &IndexedCards, card: &SpecCard) -> [Option<u64>; 2]
-    ensures { result ≡ uses.printed_on source.now card.now.spec }
+/// Returns what an output field prints, if it isn't a constant.
+pub(crate) fn printed(card: &SpecCard) -> Option<&Entry>
+    ensures { (cards : List SpecCard) → uses.printed_on cards card.now.spec ≡ uses.two (uses.entry_place cards (option_copied result)) (uses.index_place cards (option_copied result)) }
 {
-    match &card.spec {
-        Spec::Output(OutputSpec::Field(field)) => {
-            let index = index_place(source, &field.operand);
-            [entry_place(source, &field.operand), index]
-        }
-        _ => [None, None],
-    }
+    card.output_field()?.operand.as_ref()
 }
 
 fn two_of_six(first: Option<u64>, second: Option<u64>) -> [Option<u64>; 6]

@@ -1,6 +1,6 @@
 use Rattle.std.proofs.Common.{◌≡◌, ◌≤◌, length}
 use Rattle.rpg_cards.specs.Calculations.{calculations}
-use Rattle.rpg_compile.proofs.group.from_calculations.Given as goal
+use Rattle.rpg_compile.proofs.group.up_to_calculations.Given as goal
 
 abbrev pub invariant-loop-card : goal.invariant-loop-card
 invariant-loop-card l = record {
