@@ -12,9 +12,7 @@ use rpg_cli_files::write_bytes;
 use rpg_cli_list::source_listing;
 use rpg_cli_messages::{card_diagnostic, is_object, object_diagnostic};
 use rpg_cli_reports::report_source_fault;
-use rpg_cli_shorthand::{
-    RULER, ShorthandFault, are_cards, deck_of, line_diagnostic, ruled_of, shorthand_of,
-};
+use rpg_cli_shorthand::{RULER, ShorthandFault, are_cards, deck_of, line_diagnostic, shorthand_of};
 use rpg_cli_text::TextWriter;
 use rpg_cli_warnings::judge_warnings;
 use rpg_cli_words::{CardsWanted, FileArgument, Format, SameFile, Shared, is_standard};
@@ -248,9 +246,13 @@ impl<R: Files + Input + AllocGlobal, L: Listener> Session<'_, '_, R, L> {
     /// Converts a file to cards or shorthand, or rules its cards, as the arguments ask.
     fn wanted_text(&mut self, source: &[u8]) -> Result<String, Answer> {
         let made = match self.request.cards {
-            CardsWanted::RuledCards if are_cards(source) => ruled_of(self.alloc(), source),
+            CardsWanted::RuledCards if are_cards(source) => shorthand_of(
+                self.alloc(),
+                source,
+                true,
+            ),
             CardsWanted::Cards | CardsWanted::RuledCards => return self.deck_text(source),
-            CardsWanted::Shorthand => shorthand_of(self.alloc(), source),
+            CardsWanted::Shorthand => shorthand_of(self.alloc(), source, false),
         };
         if let Err(fault) = made {
             self.report_card(source, fault);
