@@ -5,9 +5,7 @@ mod cause;
 mod fields;
 mod files;
 mod names;
-mod near;
 mod spot;
 
 pub use cause::{Root, root_of, write_cause};
-pub use near::NearNames;
-pub use spot::{CardLines, SourceCards, definer};
+pub use spot::{CardLines, NearNames, SourceCards, definer};
