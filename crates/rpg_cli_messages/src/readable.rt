@@ -78,8 +78,7 @@ impl Unread {
 
     /// Writes which faults aren't known yet, if there may be some.
     pub(crate) fn write_left_out(self, out: &mut TextWriter, is_one: bool) {
-        let mut count = 0usize;
-        let mut last = "";
+        let (mut count, mut last) = (0usize, "");
         for sheet in ["F", "E", "L", "I", "C"] {
             if self.has_any(sheet) {
                 count = count.saturating_add(1);
@@ -227,19 +226,15 @@ fn readable(
 /// Takes the next fault of two lists, by card.
 fn next_of<'a>(first: &mut &'a [CardFault], second: &mut &'a [CardFault]) -> Option<&'a CardFault> {
     match (*first, *second) {
-        ([one, after @ ..], [other, ..]) if one.card < other.card => {
-            *first = after;
-            Some(one)
-        }
-        (_, [other, after @ ..]) => {
+        (_, [other, after @ ..]) if !matches!(*first, [one, ..] if one.card < other.card) => {
             *second = after;
             Some(other)
         }
-        ([one, after @ ..], []) => {
+        ([one, after @ ..], _) => {
             *first = after;
             Some(one)
         }
-        ([], []) => None,
+        _ => None,
     }
 }
 
