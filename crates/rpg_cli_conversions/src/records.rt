@@ -12,9 +12,7 @@ use rpg_cli_files::{
     kept_file, lines, records,
 };
 use rpg_cli_messages::{is_object, object_diagnostic};
-use rpg_cli_words::{
-    FileArgument, RecordFraming, RecordsWay, Request, RowsWay, SameFile, Shared, is_standard,
-};
+use rpg_cli_words::{FileArgument, RecordsWay, Request, SameFile, Shared, is_standard};
 use rpg_record_decks::{CardChange, DeckArguments, DeckFault, fitted_deck};
 use rpg_record_lines::{
     ConversionFault, Counts, Framing, Layout, Page, RecordFormat, lines_to_records,
@@ -41,7 +39,7 @@ fn refusal(fault: DeckFault) -> Answer {
 /// Whether lines become rows of comma-separated values.
 fn makes_rows(request: &Request) -> bool {
     match request.rows_of_values {
-        Some(rows) => rows.way == RowsWay::ToRows,
+        Some(rows) => rows.makes_rows,
         None => false,
     }
 }
@@ -79,7 +77,7 @@ fn layout(alloc: Global, request: &Request, source: &[u8]) -> Result<BackLayout,
     let arguments = DeckArguments {
         file: request.file_name,
         length: request.length,
-        are_lines: request.framing == RecordFraming::Lines,
+        are_lines: request.are_lines,
     };
     if makes_rows(request) {
         return rows_layout(alloc, source, arguments);
@@ -113,10 +111,10 @@ fn format_of(request: &Request) -> RecordFormat {
         } else {
             Page::Ebcdic
         },
-        framing: match request.framing {
-            RecordFraming::EndToEnd => Framing::EndToEnd,
-            RecordFraming::Descriptors => Framing::Descriptors,
-            RecordFraming::Lines => Framing::Lines,
+        framing: match (request.has_descriptors, request.are_lines) {
+            (true, _) => Framing::Descriptors,
+            (false, true) => Framing::Lines,
+            (false, false) => Framing::EndToEnd,
         },
         low_blank: request.low_blank,
         dropped: request.dropped,

@@ -8,7 +8,7 @@ use rpg_card_index::IndexedCards;
 use rpg_cli_answers::{Answer, Listener, RefusedRow, file_of, tell_all, tell_made};
 use rpg_cli_files::{FileFault, LineTarget, Reason, RecordSource};
 use rpg_cli_messages::source_diagnostics;
-use rpg_cli_words::{FileArgument, Request, RowArguments, RowsWay};
+use rpg_cli_words::{FileArgument, Request, RowArguments};
 use rpg_csv_columns::{Fault, FileFields, Part, Refusal, file_fields};
 use rpg_csv_lines::{Format, Header, Setting, Stop, lines_to_rows, rows_to_lines};
 use rpg_csv_outputs::written_fields;
@@ -158,9 +158,9 @@ impl FileRows<'_> {
         requires write { faults_of writer.old < 2 ^ 64 - 1 }
     {
         let setting = self.setting();
-        let records = match self.arguments.way {
-            RowsWay::ToLines => rows_to_lines(alloc, setting, reader, writer)?,
-            RowsWay::ToRows => lines_to_rows(alloc, setting, reader, writer)?,
+        let records = match self.arguments.makes_rows {
+            false => rows_to_lines(alloc, setting, reader, writer)?,
+            true => lines_to_rows(alloc, setting, reader, writer)?,
         };
         match writer.flush() {
             Ok(()) => Ok(Counts {

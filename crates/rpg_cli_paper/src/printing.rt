@@ -8,7 +8,7 @@ use rpg_cli_answers::{
 use rpg_cli_files::{
     FileFault, KeptFile, Opened, Pending, Reason, input_file, kept_file, lines, records,
 };
-use rpg_cli_words::{FileArgument, PaperArgument, PaperArguments, Request, is_standard};
+use rpg_cli_words::{FileArgument, PaperArguments, Request, is_standard};
 use rpg_pdf::{PaperFault, PaperForm, Press, Settings};
 use std::alloc::Global;
 use std::rt::Files;
@@ -17,11 +17,11 @@ use std::rt::Files;
 const PAGE_TOO_MANY: u32 = 100_000;
 
 /// Returns the settings of the arguments. The values that clap accepts are all in range.
-fn settings_of(arguments: PaperArguments) -> Option<Settings> {
+fn settings_of(arguments: PaperArguments<'_>) -> Option<Settings> {
     let form = match arguments.form {
-        PaperArgument::A4 => PaperForm::A4,
-        PaperArgument::Letter => PaperForm::Letter,
-        PaperArgument::Fanfold => PaperForm::Fanfold,
+        "letter" => PaperForm::Letter,
+        "fanfold" => PaperForm::Fanfold,
+        _ => PaperForm::A4,
     };
     let (length, columns) = (arguments.length.into(), arguments.columns.into());
     Settings::of(form, length, columns, arguments.has_bars)

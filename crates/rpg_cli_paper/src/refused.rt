@@ -8,12 +8,12 @@ use std::alloc::{AllocError, Global};
 const HEX: &[u8; 16] = b"0123456789ABCDEF";
 
 /// Returns the diagnostic for a print that isn't put on sheets, if that is a fault of its own.
-pub(crate) fn print_diagnostic(
+pub(crate) fn print_diagnostic<'a>(
     alloc: Global,
-    file: FileName<'_>,
-    settings: PaperArguments,
+    file: FileName<'a>,
+    settings: PaperArguments<'_>,
     fault: PaperFault,
-) -> Result<Diagnostic<'_>, AllocError> {
+) -> Result<Diagnostic<'a>, AllocError> {
     let draft = Draft::error(alloc, file.whole());
     let PaperFault::Page { number, fault } = fault else {
         return draft.filled("it has more than 99,999 pages", &[]);

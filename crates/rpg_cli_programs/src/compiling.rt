@@ -15,7 +15,7 @@ use rpg_cli_reports::report_source_fault;
 use rpg_cli_shorthand::{RULER, ShorthandFault, are_cards, deck_of, line_diagnostic, shorthand_of};
 use rpg_cli_text::TextWriter;
 use rpg_cli_warnings::judge_warnings;
-use rpg_cli_words::{CardsWanted, FileArgument, Format, SameFile, Shared, is_standard};
+use rpg_cli_words::{FileArgument, Format, SameFile, Shared, is_standard};
 use rpg_faults::{CardFault, SourceFault, faultless_cards};
 use std::alloc::{AllocError, Global};
 use std::rt::Files;
@@ -245,15 +245,11 @@ impl<R: Files + Input + AllocGlobal, L: Listener> Session<'_, '_, R, L> {
 
     /// Converts a file to cards or shorthand, or rules its cards, as the arguments ask.
     fn wanted_text(&mut self, source: &[u8]) -> Result<String, Answer> {
-        let made = match self.request.cards {
-            CardsWanted::RuledCards if are_cards(source) => shorthand_of(
-                self.alloc(),
-                source,
-                true,
-            ),
-            CardsWanted::Cards | CardsWanted::RuledCards => return self.deck_text(source),
-            CardsWanted::Shorthand => shorthand_of(self.alloc(), source, false),
-        };
+        let is_ruled = self.request.has_ruler && are_cards(source);
+        if !is_ruled && !self.request.is_short {
+            return self.deck_text(source);
+        }
+        let made = shorthand_of(self.alloc(), source, is_ruled);
         if let Err(fault) = made {
             self.report_card(source, fault);
         }
@@ -264,7 +260,7 @@ impl<R: Files + Input + AllocGlobal, L: Listener> Session<'_, '_, R, L> {
     pub fn convert_cards(&mut self) -> Ended {
         let source = self.source()?;
         let text = self.wanted_text(&source)?;
-        if matches!(self.request.cards, CardsWanted::RuledCards) && !are_cards(&source) {
+        if self.request.has_ruler && !are_cards(&source) {
             self.listener.show(RULER)?;
         }
         self.listener.show(text.as_str())?;

@@ -32,7 +32,6 @@ fn bad_file(command: &str, given: &ArgMatches<'_>) -> Option<&'static str> {
     None
 }
 
-/// Whether one of these arguments names a table file by this name.
 fn have_table(texts: &[&str], name: &str) -> bool {
     let mut tables = texts.iter().copied().filter_map(TableArgument::of);
     tables.any(|table| table.name == name)
@@ -40,13 +39,13 @@ fn have_table(texts: &[&str], name: &str) -> bool {
 
 const NO_TABLE: &str = "'--table <NAME=FILE>' needs a file's name from the cards, =, and a path";
 
+const TABLE_TWICE: &str = "'--table <NAME=FILE>' can be given only once for each name";
+
 fn bad_table(texts: &[&str]) -> Option<&'static str> {
     for i in 0..texts.len() {
         match TableArgument::of(texts[i]) {
             None => return Some(NO_TABLE),
-            Some(table) if have_table(&texts[i + 1..], table.name) => {
-                return Some("'--table <NAME=FILE>' can be given only once for each name");
-            }
+            Some(table) if have_table(&texts[i + 1..], table.name) => return Some(TABLE_TWICE),
             Some(_) => {}
         }
     }
@@ -141,7 +140,6 @@ fn has_other(given: &ArgMatches<'_>) -> bool {
     OTHERS.split(' ').any(|name| is_given(given, name))
 }
 
-/// Returns what is wrong with a file that is merged, given those after it.
 fn bad_merged(text: &str, others: &[&str]) -> Option<&'static str> {
     match TableArgument::of(text) {
         None => Some(MERGED),
@@ -195,16 +193,11 @@ fn bad_lines(given: &ArgMatches<'_>) -> Option<&'static str> {
     }
 }
 
-#[derive(Clone, Copy, PartialEq, Eq)]
-pub enum RowsWay {
-    ToLines,
-    ToRows,
-}
-
 /// How rows of comma-separated values are written.
 #[derive(Clone, Copy)]
 pub struct RowArguments<'a> {
-    pub way: RowsWay,
+    /// Whether lines become rows, and not rows lines.
+    pub makes_rows: bool,
     pub columns: Option<&'a str>,
     /// Whether the first row names the columns.
     pub has_header: bool,
@@ -254,30 +247,25 @@ fn character(given: &ArgMatches<'_>, name: &str) -> Result<Option<u8>, &'static 
     }
 }
 
-fn decimal(text: Option<&str>) -> Result<u8, &'static str> {
-    match text {
-        None | Some(".") => Ok(b'.'),
-        Some(",") => Ok(b','),
-        Some(_) => Err("'--decimal <C>' needs . or ,"),
-    }
-}
-
 impl<'a> RowArguments<'a> {
     /// Reads the arguments, if rows are converted. The error is what is wrong with one of them.
     pub(crate) fn read(given: &ArgMatches<'a>) -> Result<Option<Self>, &'static str> {
-        let way = match (given.get_flag("csv"), given.get_flag("to-csv")) {
-            (true, _) => RowsWay::ToLines,
-            (false, true) => RowsWay::ToRows,
-            (false, false) => return Ok(None),
-        };
+        let makes_rows = given.get_flag("to-csv");
+        if !makes_rows && !given.get_flag("csv") {
+            return Ok(None);
+        }
         Ok(Some(RowArguments {
-            way,
+            makes_rows,
             columns: given.get_str("columns"),
             has_header: !given.get_flag("no-header"),
             delimiter: character(given, "delimiter")?.unwrap_or(b','),
             group: character(given, "group")?,
             replacement: character(given, "replace")?,
-            decimal: decimal(given.get_str("decimal"))?,
+            decimal: match given.get_str("decimal") {
+                None | Some(".") => b'.',
+                Some(",") => b',',
+                Some(_) => return Err("'--decimal <C>' needs . or ,"),
+            },
         }))
     }
 
@@ -303,11 +291,7 @@ fn first_excluded(given: &ArgMatches<'_>) -> Option<&'static str> {
     for line in EXCLUDED.lines() {
         let (one, rest) = cut(line, " ");
         let (other, message) = cut(rest, " ");
-        let excludes = if one == "-" {
-            !converts
-        } else {
-            given.get_flag(one)
-        };
+        let excludes = (one == "-" && !converts) || given.get_flag(one);
         if excludes && is_given(given, other) {
             return Some(message);
         }
@@ -315,16 +299,13 @@ fn first_excluded(given: &ArgMatches<'_>) -> Option<&'static str> {
     None
 }
 
+const MIXED: &str =
+    "'--delimiter <C>', '--decimal <C>' and '--group <C>' need different characters, but each of two may be , where cells are quoted";
+
 fn bad_rows(given: &ArgMatches<'_>) -> Option<&'static str> {
-    let excluded = first_excluded(given);
-    if excluded.is_some() {
-        return excluded;
-    }
-    match RowArguments::read(given) {
+    first_excluded(given).or(match RowArguments::read(given) {
         Err(message) => Some(message),
-        Ok(Some(rows)) if rows.mixes() => Some(
-            "'--delimiter <C>', '--decimal <C>' and '--group <C>' need different characters, but each of two may be , where cells are quoted",
-        ),
+        Ok(Some(rows)) if rows.mixes() => Some(MIXED),
         Ok(_) => None,
-    }
+    })
 }
