@@ -4,6 +4,5 @@
 mod fields;
 mod program;
 mod rows;
-mod shown;
 
 pub use program::{program_overview, program_text};
