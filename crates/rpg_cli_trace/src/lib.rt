@@ -4,8 +4,7 @@
 mod changes;
 mod counts;
 mod looking;
-mod told;
 mod tracing;
 
 pub use looking::{HaltedFile, Looking};
-pub use told::JobNames;
+pub use tracing::JobNames;
