@@ -407,7 +407,7 @@ fn convert_opened<'a, R: Files + Input + Print + AllocGlobal, L: Listener>(
     named(FileArgument::Out, output.empty())?;
     let (from, to) = (records(rt, input), lines(rt, output, None));
     let counts = match deck.rows {
-        Some(rows) => convert_rows(rt.alloc(), request, rows, from, to, listener)?,
+        Some(rows) => convert_rows::<R, L>(rt.alloc(), request, rows, from, to, listener)?,
         None => convert(rt.alloc(), request, deck, from, to, listener)?,
     };
     write_deck(rt, deck, new_deck)?;

@@ -3,6 +3,5 @@
 
 mod messages;
 mod rows;
-mod shown;
 
 pub use rows::{FileRows, convert_rows, file_rows};

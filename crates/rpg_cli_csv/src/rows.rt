@@ -18,13 +18,11 @@ use rpg_files::Counted;
 use rpg_record_lines::{Counts, Layout};
 use rpg_text::trimmed;
 use std::alloc::Global;
-use std::fs::OpenFile;
-use std::io::{BufWriter, Read, Write};
+use std::io::{BufWriter, Printer, Read, Write};
+use std::rt::Files;
 
-/// The most faults of a deck that are reported.
 const MOST_TOLD: u16 = 20;
 
-/// How many bytes of OUT are buffered.
 const WRITE_ROOM: usize = 65_536;
 
 /// How the rows of a file are written, and its fields.
@@ -100,26 +98,18 @@ pub fn file_rows<'a, L: Listener>(
         Some(name) => output_fields(alloc, request, source, layout, &name, listener)?,
         None => file_fields(alloc, source, layout),
     };
-    match fields {
-        Ok(fields) => Ok(Some(FileRows { arguments, fields })),
-        Err(
-            Refusal {
-                fault: Fault::NoMemory,
-                ..
-            },
-        ) => Err(Answer::NoMemory),
-        Err(
-            Refusal {
-                part: Part::Card(number),
-                fault,
-                ..
-            },
-        ) => {
+    let refusal = match fields {
+        Ok(fields) => return Ok(Some(FileRows { arguments, fields })),
+        Err(refusal) => refusal,
+    };
+    match (refusal.part, refusal.fault) {
+        (_, Fault::NoMemory) => Err(Answer::NoMemory),
+        (Part::Card(number), fault) => {
             let file = file_of(request, request.deck_argument());
             tell_made(listener, card_diagnostic(alloc, file, number, fault));
             Err(Answer::DeckRefused { card: Some(number) })
         }
-        Err(_) => Err(Answer::NoMemory),
+        _ => Err(Answer::NoMemory),
     }
 }
 
@@ -162,17 +152,14 @@ impl FileRows<'_> {
             false => rows_to_lines(alloc, setting, reader, writer)?,
             true => lines_to_rows(alloc, setting, reader, writer)?,
         };
+        let dropped = 0;
         match writer.flush() {
-            Ok(()) => Ok(Counts {
-                records,
-                dropped: 0,
-            }),
+            Ok(()) => Ok(Counts { records, dropped }),
             Err(_) => Err(Stop::Write),
         }
     }
 }
 
-/// Returns the answer for a part of the input that is rejected. Reports it.
 fn refused<L: Listener>(
     alloc: Global,
     request: &Request,
@@ -182,10 +169,8 @@ fn refused<L: Listener>(
 ) -> Answer {
     let file = file_of(request, FileArgument::In);
     let has_header = rows.arguments.has_header;
-    tell_made(
-        listener,
-        input_diagnostic(alloc, file, has_header, &rows.fields, refusal),
-    );
+    let told = input_diagnostic(alloc, file, has_header, &rows.fields, refusal);
+    tell_made(listener, told);
     match refusal.part {
         Part::Row { number, .. } => Answer::RowRefused(RefusedRow::Row(number)),
         Part::Line(number) => Answer::RowRefused(RefusedRow::Line(number)),
@@ -194,18 +179,12 @@ fn refused<L: Listener>(
 }
 
 /// Converts rows to lines or lines to rows, for the files of the request. Reports what ends it early.
-pub fn convert_rows<
-    F: Read + Drop,
-    S: Read + Drop,
-    T: Write + OpenFile + Drop,
-    P: Write + Drop,
-    L: Listener,
->(
+pub fn convert_rows<R: Files + Input + Print, L: Listener>(
     alloc: Global,
     request: &Request,
     rows: &FileRows<'_>,
-    source: RecordSource<F, S>,
-    target: LineTarget<'_, T, P>,
+    source: RecordSource<R::File, R::Reader>,
+    target: LineTarget<'_, R::File, Printer<'_, R>>,
     listener: &mut L,
 ) -> Result<Counts, Answer> {
     let Ok(buffered) = BufWriter::with_capacity(alloc, WRITE_ROOM, target) else {
