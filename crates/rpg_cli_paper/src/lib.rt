@@ -2,6 +2,5 @@
 #![tactic(auto)]
 
 mod printing;
-mod refused;
 
 pub use printing::paper_file;
