@@ -229,6 +229,15 @@ impl Argument {
             _ => &[],
         }
     }
+
+    /// Returns the arguments that can replace it.
+    fn unless(self) -> &'static [&'static str] {
+        match self.letter {
+            b'E' => &["to", "merge", "ahead"],
+            b'U' => &["output"],
+            _ => &[],
+        }
+    }
 }
 
 fn plain<'a>(alloc: Global, argument: Argument) -> Arg<'a> {
@@ -267,14 +276,9 @@ fn valued<'a>(alloc: Global, argument: Argument) -> Arg<'a> {
 
 /// Builds an argument for clap, with the one that conflicts with it, and those that can replace it.
 fn arg<'a>(alloc: Global, argument: Argument) -> Result<Arg<'a>, AllocError> {
-    let unless: &[&str] = match argument.letter {
-        b'E' => &["to", "merge", "ahead"],
-        b'U' => &["output"],
-        _ => &[],
-    };
     valued(alloc, argument)
         .conflicts_with_all(argument.other.as_slice())?
-        .required_unless_present_any(unless)
+        .required_unless_present_any(argument.unless())
 }
 
 fn put<T: Drop>(made: &mut Vec<T>, one: Result<T, AllocError>) -> Result<(), AllocError> {
