@@ -60,18 +60,23 @@ impl Flow {
     }
 
     /// Moves on to the next card, in place, given the cards after it.
+    #[tactic(auto, using(crate::proofs::Flowing::flow_past))]
     pub fn pass(&mut self, before: &[SpecCard], card: &SpecCard, after: &[SpecCard])
         requires few { length before.now ≤ 2000 }
         requires flow { flows.IsFlow before.now (card.now ∷ after.now) self.old }
         ensures { flows.IsFlow (before.now ++ card.now ∷ []) after.now self.new }
     {
+        self.definitions += card.definition_count() as u16;
+        if card.calculation().is_none() {
+            self.group = None;
+            return;
+        }
         let bracket = bracket_on(&self.group, card, after);
         note_last(&mut self.bracket, bracket);
         self.begun = begun_after(self.begun, bracket);
         note_first(&mut self.total, 0, card);
         note_first(&mut self.subroutine, 1, card);
         self.group = level_with(&self.group, card);
-        self.definitions += card.definition_count() as u16;
     }
 }
 
