@@ -86,15 +86,21 @@ impl<R: Print + Eprint + AllocGlobal> StandardStreams<'_, R> {
         }
     }
 
+    /// Prints the lines that wait. Their memory is kept for the next ones.
     fn pass_lines(&mut self) {
-        let lines = mem::replace(&mut self.lines, TextWriter::new(self.rt.alloc()));
-        self.print_made(lines.finish());
+        let mut lines = mem::replace(&mut self.lines, TextWriter::new(self.rt.alloc()));
+        match lines.so_far() {
+            Ok(text) => self.print(text),
+            Err(_) => self.lose(),
+        }
+        lines.clear();
+        self.lines = lines;
     }
 
+    /// Prints a diagnostic. No lines wait.
     fn print_text(&mut self, told: &Diagnostic<'_>) {
-        let mut out = TextWriter::new(self.rt.alloc());
-        write_text(&mut out, told, self.has_colours);
-        self.print_made(out.finish());
+        write_text(&mut self.lines, told, self.has_colours);
+        self.pass_lines();
     }
 
     /// Begins the object of a diagnostic, which waits for remarks.
