@@ -1,6 +1,8 @@
 -- What the cards before a card have come to, with one more card.
+use denote.Bor.{Bor}
 use Rattle.std.proofs.Common.{◌≡◌, ℕ, suc, ◌+◌, ◌*◌, ◌≤◌, Bool, true, false, not, cond, ◌&&◌, ◌||◌, List, [], ◌∷◌, ◌++◌, length, take, Option, Some, None, refl, sym, ap, ◌∙◌, arith, append_assoc, append-nil, length-append}
-use Rattle.std.specs.Option.{option_and_then, option_map, option_or, option_to_list}
+use Rattle.std.specs.Option.{is_some, option_and_then, option_map, option_or, option_to_list}
+use Rattle.std.specs.Prelude.{option_copied}
 use Rattle.rpg_cards.specs.Calculations.{CalculationGroup, calculation_of, calculations_before, calculations_from, card_ending, continues, group_at, open_after, open_calculation_group, open_with}
 use Rattle.rpg_cards.specs.Cards.{calculation_on}
 use Rattle.rpg_cards.specs.Statements.{Calculation}
@@ -116,6 +118,10 @@ flow_with before c after f new was group total subroutine bracket begun defined 
 never : (o : Option CalculationSpec) (b : Bool) → cond b o o ≡ o
 never o true = refl
 never o false = refl
+
+pub no_card : (k : Option (Bor CalculationSpec)) → is_some k ≡ false → option_copied k ≡ None
+no_card None e = refl
+no_card (Some x) e = absurd cc
 
 -- a card of another sheet
 pub flow_past : (before : List SpecCard) (c : SpecCard) (after : List SpecCard) (f new : Flow) → IsFlow before (c ∷ after) f → calculation_on c.spec ≡ None → new.group ≡ None → new.total ≡ f.total → new.subroutine ≡ f.subroutine

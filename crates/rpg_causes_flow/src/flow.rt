@@ -60,7 +60,6 @@ impl Flow {
     }
 
     /// Moves on to the next card, in place, given the cards after it.
-    #[tactic(auto, using(crate::proofs::Flowing::flow_past))]
     pub fn pass(&mut self, before: &[SpecCard], card: &SpecCard, after: &[SpecCard])
         requires few { length before.now ≤ 2000 }
         requires flow { flows.IsFlow before.now (card.now ∷ after.now) self.old }
