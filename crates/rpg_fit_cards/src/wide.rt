@@ -22,7 +22,8 @@ fn narrow_parts(editor: &mut Editor, tables: &[Seen], data: &[Seen]) -> Done {
     let mut start: usize = 0;
     for end in 1..data.len().saturating_add(1) {
         if ends_before(data, end) {
-            narrow_part(editor, left.first(), data.get(start..end).unwrap_or(&[]))?;
+            let part = data.get(start..end).unwrap_or(&[]);
+            narrow_part(editor, left.first(), part)?;
             left = left.get(1..).unwrap_or(&[]);
             start = end;
         }
