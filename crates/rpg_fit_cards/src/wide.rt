@@ -13,30 +13,12 @@ pub(crate) fn narrow_data(editor: &mut Editor) -> Done {
         cut(editor, last);
     }
     let tables = tables_with_data(&view);
-    narrow_parts(editor, tables.checked()?, view.data.as_slice())
-}
-
-/// Cuts or punches anew the data of each E card.
-fn narrow_parts(editor: &mut Editor, tables: &[Seen], data: &[Seen]) -> Done {
-    let mut left = tables;
-    let mut start: usize = 0;
-    for end in 1..data.len().saturating_add(1) {
-        if ends_before(data, end) {
-            let part = data.get(start..end).unwrap_or(&[]);
-            narrow_part(editor, left.first(), part)?;
-            left = left.get(1..).unwrap_or(&[]);
-            start = end;
-        }
+    let mut left = tables.checked()?;
+    for part in view.data.as_slice().chunk_by(|_, next| !begins_data(next)) {
+        narrow_part(editor, left.first(), part)?;
+        left = left.get(1..).unwrap_or(&[]);
     }
     Ok(())
-}
-
-/// Whether the data of an E card end before a line, by its place.
-fn ends_before(data: &[Seen], place: usize) -> bool {
-    match data.get(place) {
-        Some(line) => begins_data(line),
-        None => true,
-    }
 }
 
 /// Whether one of some lines has more columns than a card.
