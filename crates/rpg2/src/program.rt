@@ -78,6 +78,7 @@ fn arguments<R: Env + AllocGlobal>(rt: &R) -> io::Result<Vec<String>> {
     Ok(join_codes(rt.alloc(), words)?)
 }
 
+/// Runs a command over the standard streams, and returns the exit status.
 fn obey_on_streams<R: Clock + Env + Files + Input + Print + Eprint + AllocGlobal>(
     rt: &R,
     request: &mut Request,
@@ -107,6 +108,7 @@ fn run_on_streams<R: Clock + Env + Files + Input + Print + Eprint + AllocGlobal>
     }
 }
 
+/// Prints why there is no request, and returns the exit status.
 fn refuse_on_streams<R: Print + Eprint + AllocGlobal>(rt: &R, refusal: &Refusal) -> u8 {
     let mut listener = StandardStreams::new(rt, Format::Text, false);
     refuse(rt, refusal, &mut io::writer(rt), &mut listener)

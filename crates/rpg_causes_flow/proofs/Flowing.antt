@@ -1,9 +1,7 @@
 -- What the cards before a card have come to, with one more card.
-use denote.Bor.{Bor}
 use Rattle.std.proofs.Common.{◌≡◌, ℕ, suc, ◌+◌, ◌*◌, ◌≤◌, Bool, true, false, not, cond, ◌&&◌, ◌||◌, List, [], ◌∷◌, ◌++◌, length, take, Option, Some, None, refl, sym, ap, ◌∙◌, arith, append_assoc, append-nil, length-append}
-use Rattle.std.specs.Option.{is_some, option_and_then, option_map, option_or, option_to_list}
-use Rattle.std.specs.Prelude.{option_copied}
-use Rattle.rpg_cards.specs.Calculations.{CalculationGroup, calculation_of, calculations_before, calculations_from, card_ending, continues, group_at, open_after, open_calculation_group, open_with}
+use Rattle.std.specs.Option.{option_and_then, option_map, option_or, option_to_list}
+use Rattle.rpg_cards.specs.Calculations.{CalculationGroup, calculation_of, calculations_before, calculations_from, group_at, open_after, open_calculation_group, open_with}
 use Rattle.rpg_cards.specs.Cards.{calculation_on}
 use Rattle.rpg_cards.specs.Statements.{Calculation}
 use Rattle.rpg_cards.proofs.ItemLemmas.{definitions-append, definitions-push, few_definitions}
@@ -15,7 +13,7 @@ use Rattle.rpg_cards.specs.declared.spec_card.SpecCard.{SpecCard}
 use Rattle.rpg_causes_flow.proofs.Carried.{bracket_at-is, level_with-is}
 use Rattle.rpg_causes_flow.proofs.Options.{or_assoc, or_none}
 use Rattle.rpg_causes_flow.proofs.OrderLemmas.{mark, never_both}
-use Rattle.rpg_causes_flow.specs.ByCard.{bracket_in, bracket_of, calculation_level, level_of_group, level_with}
+use Rattle.rpg_causes_flow.specs.ByCard.{bracket_of, level_of_group, level_with}
 use Rattle.rpg_causes_flow.specs.Flow.{IsFlow, begun_after}
 use Rattle.rpg_causes_flow.specs.Order.{bracket_on, first_above, if_above, last_bracket}
 use Rattle.rpg_causes_flow.specs.declared.flow.Flow.{Flow}
@@ -24,7 +22,6 @@ use Rattle.std.proofs.lemmas.List.{take-append-le}
 use Rattle.rpg_faults_flow.proofs.Ending.{pushed}
 use Rattle.rpg_faults_flow.specs.Flow.{is_defined}
 use Rattle.rpg_faults_flow.proofs.Walk.{open_after-push}
-use Rattle.rpg_sheet_specs.specs.declared.calculation.CalculationSpec.{CalculationSpec}
 
 -- ---- the first card of a later section
 
@@ -114,28 +111,6 @@ flow_with before c after f new was group total subroutine bracket begun defined 
   begun = begun ∙ ap (λ n. begun_after n (bracket_on f.group c after)) was.begun ∙ ap (λ l. begun_after (begun_count (calculations_before before (c ∷ after))) (bracket_on l c after)) was.group ∙ sym (begun-push before c after);
   definitions = defined ∙ ap (λ n. n + length (definitions_on c.spec)) was.definitions ∙ sym (length-append (definitions before) (definitions_on c.spec)) ∙ ap length (sym (definitions-push before c));
 }
-
-never : (o : Option CalculationSpec) (b : Bool) → cond b o o ≡ o
-never o true = refl
-never o false = refl
-
-pub no_card : (k : Option (Bor CalculationSpec)) → is_some k ≡ false → option_copied k ≡ None
-no_card None e = refl
-no_card (Some x) e = absurd cc
-
--- a card of another sheet
-pub flow_past : (before : List SpecCard) (c : SpecCard) (after : List SpecCard) (f new : Flow) → IsFlow before (c ∷ after) f → calculation_on c.spec ≡ None → new.group ≡ None → new.total ≡ f.total → new.subroutine ≡ f.subroutine
-    → new.bracket ≡ f.bracket → new.begun ≡ f.begun → new.definitions ≡ f.definitions + length (definitions_on c.spec) → IsFlow (before ++ c ∷ []) after new
-flow_past before c after f new was none group total subroutine bracket begun defined =
-    let ends : card_ending c after ≡ None = ap (λ (o : Option CalculationSpec). cond (continues after) None o) none ∙ never None (continues after) in
-    let apart : bracket_on f.group c after ≡ None = ap (λ (o : Option CalculationSpec). option_map (mark c) (option_and_then (λ k. bracket_in (calculation_level f.group k) k) o)) ends in
-    flow_with before c after f new was
-    (group ∙ sym (ap (option_map (calculation_level f.group)) none))
-    (total ∙ sym (ap (λ o. option_or f.total (option_and_then (if_above 0 c) o)) none ∙ or_none f.total))
-    (subroutine ∙ sym (ap (λ o. option_or f.subroutine (option_and_then (if_above 1 c) o)) none ∙ or_none f.subroutine))
-    (bracket ∙ sym (ap (λ b. option_or b f.bracket) apart))
-    (begun ∙ sym (ap (begun_after f.begun) apart))
-    defined
 
 -- ---- the definitions up to a card are the first of all
 

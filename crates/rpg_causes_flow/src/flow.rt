@@ -65,17 +65,13 @@ impl Flow {
         requires flow { flows.IsFlow before.now (card.now ∷ after.now) self.old }
         ensures { flows.IsFlow (before.now ++ card.now ∷ []) after.now self.new }
     {
-        self.definitions += card.definition_count() as u16;
-        if card.calculation().is_none() {
-            self.group = None;
-            return;
-        }
         let bracket = bracket_on(&self.group, card, after);
         note_last(&mut self.bracket, bracket);
         self.begun = begun_after(self.begun, bracket);
         note_first(&mut self.total, 0, card);
         note_first(&mut self.subroutine, 1, card);
         self.group = level_with(&self.group, card);
+        self.definitions += card.definition_count() as u16;
     }
 }
 

@@ -5,7 +5,7 @@ use crate::answer::{Answer, named};
 use rpg_cli_diagnostics::{Draft, FileName};
 use rpg_cli_files::{
     FileFault, FileIdentity, Listener, Opened, Patient, Pending, Reason, Replaces, begins_with,
-    file_bytes, identity, identity_at, input_file, remark_made, tell_made,
+    file_bytes, identity, identity_at, remark_made, tell_made,
 };
 use rpg_cli_text::TextWriter;
 use rpg_cli_words::{
@@ -13,7 +13,7 @@ use rpg_cli_words::{
 };
 use std::alloc::Global;
 use std::fs::OpenFile;
-use std::io::{ErrorKind, Read};
+use std::io::{Error, ErrorKind, Read};
 use std::rt::Files;
 
 /// An argument, and the regular file that it names, if any.
@@ -171,6 +171,14 @@ pub fn report_placed<L: Listener>(
 /// The most bytes of a source.
 const MOST_BYTES: usize = 16_777_216;
 
+fn input_fault(error: &Error) -> FileFault {
+    match error.kind() {
+        ErrorKind::OutOfMemory => FileFault::NoMemory,
+        kind => FileFault::Input(Reason::of(kind)),
+    }
+}
+
+/// Reads all of standard input.
 fn input_bytes<R: Input + AllocGlobal>(rt: &R) -> Result<Vec<u8>, FileFault> {
     let mut bytes = Vec::new(rt.alloc());
     match Patient::new(rt.reader())
@@ -179,11 +187,11 @@ fn input_bytes<R: Input + AllocGlobal>(rt: &R) -> Result<Vec<u8>, FileFault> {
     {
         Ok(_) if bytes.len() <= MOST_BYTES => Ok(bytes),
         Ok(_) => Err(FileFault::TooLarge),
-        Err(error) if error.kind() == ErrorKind::OutOfMemory => Err(FileFault::NoMemory),
-        Err(error) => Err(FileFault::Input(Reason::of(error.kind()))),
+        Err(error) => Err(input_fault(&error)),
     }
 }
 
+/// Reads a source from a file or from standard input.
 pub fn source_bytes<R: Files + Input + AllocGlobal>(
     rt: &R,
     path: &str,
@@ -193,19 +201,6 @@ pub fn source_bytes<R: Files + Input + AllocGlobal>(
     } else {
         file_bytes(rt, path)
     }
-}
-
-/// Opens a file that is read, or standard input.
-pub fn opened_input<R: Files>(
-    rt: &R,
-    request: &Request,
-    argument: FileArgument,
-) -> Result<Opened<R::File>, Answer> {
-    let path = request.file(argument);
-    if is_standard(path) {
-        return Ok(Opened::Standard);
-    }
-    Ok(Opened::File(named(argument, input_file(rt, path))?))
 }
 
 /// Returns the path by which the system knows a source.

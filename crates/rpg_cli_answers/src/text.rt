@@ -31,6 +31,7 @@ fn put_number(text: &mut Text, number: u64)
     put(text, Buffer::new().format(number).as_bytes());
 }
 
+/// Writes a number after a piece.
 fn put_after(text: &mut Text, piece: &[u8], number: u64)
     requires { array_vec_len text.old + length piece.now ≤ 76 }
     ensures items { text.new.items ≡ text.old.items ++ (piece.now ++ decimal number) }
@@ -218,6 +219,7 @@ fn ending_status(ending: JobEnd) -> u8
     }
 }
 
+/// Returns the exit status of an answer.
 fn exit_status(answer: &Answer) -> u8
     ensures { result ≡ answers.exit_status answer.now }
 {
@@ -340,6 +342,7 @@ fn add(text: &mut Object, piece: &[u8])
     text.try_extend_from_slice(piece).unwrap();
 }
 
+/// Adds the name of a member.
 fn add_name(text: &mut Object, name: &[u8])
     requires name { length name.now ≤ 10 }
     requires room { array_vec_len text.old ≤ 230 }
@@ -351,6 +354,7 @@ fn add_name(text: &mut Object, name: &[u8])
     add(text, b"\":");
 }
 
+/// Adds a member with a number.
 fn add_number(text: &mut Object, name: &[u8], number: u64)
     requires name { length name.now ≤ 10 }
     requires room { array_vec_len text.old ≤ 200 }
@@ -425,6 +429,7 @@ fn add_records(text: &mut Object, records: u64, dropped: u64, columns: u64)
     add_number(text, b"columns", columns);
 }
 
+/// Adds the numbers of an answer that counts.
 fn add_counts(text: &mut Object, answer: &Answer)
     requires { array_vec_len text.old ≤ 110 }
     ensures items { text.new.items ≡ text.old.items ++ json.count_members answer.now }
@@ -451,6 +456,7 @@ fn add_counts(text: &mut Object, answer: &Answer)
     }
 }
 
+/// Begins an object with the words of the answer.
 fn begin(answer: &[u8]) -> Object
     requires { length answer.now ≤ 96 }
     ensures items { result.items ≡ json.answer_member answer.now }

@@ -6,8 +6,8 @@ use crate::fields::{
 };
 use crate::files::{write_data, write_file, write_join, write_movement, write_outside};
 use crate::names::{
-    APART, RECURSION, write_nowhere, write_order, write_redefined, write_stray, write_target,
-    write_twice, write_undefined,
+    write_nowhere, write_order, write_redefined, write_stray, write_target, write_twice,
+    write_undefined,
 };
 use crate::spot::{SourceCards, Spot};
 use rpg_cli_text::TextWriter;
@@ -32,8 +32,8 @@ fn write_reported(out: &mut TextWriter, spot: Spot<'_>, cause: &Cause) {
         Cause::Twice(twice) => write_twice(out, &twice.cause),
         Cause::Order(order) => write_order(out, spot, order),
         Cause::Stray(stray) => write_stray(out, *stray),
-        Cause::Apart(target) => write_target(out, APART, target),
-        Cause::Recursion(target) => write_target(out, RECURSION, target),
+        Cause::Apart(target) => write_target(out, target, false),
+        Cause::Recursion(target) => write_target(out, target, true),
         Cause::Rounding(rounding) => write_rounding(out, spot, *rounding),
         Cause::Outside(place) => write_outside(out, spot, place),
         Cause::Join(join) => write_join(out, *join),
@@ -97,11 +97,9 @@ fn text_root(spot: Spot<'_>) -> Option<Root> {
     }
 }
 
-/// Returns the root of a fault that other faults may share: an undefined name, an operand of F4 or F17 that is a text, or a calculation
-/// that comes too early.
-pub fn root_of(source: SourceCards<'_>, line: &[u8], fault: &CardFault) -> Option<Root> {
-    let spot = Spot::of(source, line, fault)?;
-    match fault.cause.as_ref()? {
+/// Returns the root of a cause of F1, F4, F12 or F17; of F4 only if an operand is a text.
+fn root_in(spot: Spot<'_>, cause: &Cause) -> Option<Root> {
+    match cause {
         Cause::UndefinedName(name) => Some(Root::Unknown(padded(name.as_slice()))),
         Cause::Operand(OperandCause::TextOperand { .. } | OperandCause::EditedText(_))
         | Cause::Operand(OperandCause::Unlike { .. })
@@ -109,4 +107,11 @@ pub fn root_of(source: SourceCards<'_>, line: &[u8], fault: &CardFault) -> Optio
         Cause::Order(OrderCause::Early { card, .. }) => Some(Root::Later(*card)),
         _ => None,
     }
+}
+
+/// Returns the root of a fault that other faults may share: an undefined name, a field that is a text, or a calculation that comes too
+/// early.
+pub fn root_of(source: SourceCards<'_>, line: &[u8], fault: &CardFault) -> Option<Root> {
+    let cause = fault.cause.as_ref()?;
+    root_in(Spot::of(source, line, fault)?, cause)
 }

@@ -11,6 +11,10 @@ use rpg_faults::{
 use rpg_program::form::{Class, FieldForm, Kind};
 use rpg_sheet::{ColumnRange, Indicator, Word};
 
+pub(crate) fn noun(count: usize, one: &'static str, more: &'static str) -> &'static str {
+    if count == 1 { one } else { more }
+}
+
 fn write_card(out: &mut TextWriter, card: Option<u16>) {
     if let Some(card) = card {
         out.fill_one(" (card {})", card);
@@ -24,9 +28,13 @@ pub(crate) fn write_form(out: &mut TextWriter, form: FieldForm) {
         Class::Table => out.fill_one("a table of {}, each ", form.entries),
         Class::Plain | Class::Constant | Class::Date => {}
     }
+    let length = form.length;
     match form.kind {
-        Kind::Text => out.fill_one("a text of {} {character|characters}", form.length),
-        Kind::Number => out.fill_two("a number {}.{}", form.length, form.decimals),
+        Kind::Text => {
+            let characters = noun(usize::from(length), "character", "characters");
+            out.fill_two("a text of {} {}", length, characters);
+        }
+        Kind::Number => out.fill_two("a number {}.{}", length, form.decimals),
     }
 }
 
@@ -34,19 +42,22 @@ const LENGTH: &str = "a length of {}: a number has 1 to 15 digits, a text 1 to 2
 
 const DIGITS: &str = "a length of {}: a number has 1 to 15 digits";
 
-const DECIMALS: &str =
-    "{} {decimal|decimals} of {} {digit|digits}: there are at most 9, and no more than digits";
-
 /// F3: the length, or the decimals.
 pub(crate) fn write_size(out: &mut TextWriter, cause: SizeCause) {
     match cause {
         SizeCause::Length(length) => out.fill_one(LENGTH, u64::from(length)),
         SizeCause::Digits(length) => out.fill_one(DIGITS, u64::from(length)),
-        SizeCause::Decimals { decimals, length } => {
-            out.fill_two(DECIMALS, decimals, u64::from(length))
-        }
+        SizeCause::Decimals { decimals, length } => write_decimals(out, decimals, length),
         SizeCause::NoLength => out.write_str("decimals (52) without a length (49-51)"),
     }
+}
+
+fn write_decimals(out: &mut TextWriter, decimals: u8, length: u32) {
+    let of_decimals = noun(usize::from(decimals), "decimal", "decimals");
+    let of_digits = if length == 1 { "digit" } else { "digits" };
+    out.fill_two("{} {} of ", decimals, of_decimals);
+    out.fill_two("{} {}: ", u64::from(length), of_digits);
+    out.write_str("there are at most 9, and no more than digits");
 }
 
 /// Returns the sentence for a limit: how many there are with the card, and how many are allowed.
@@ -77,17 +88,16 @@ const fn limit_sentence(limit: Limit) -> &'static str {
 /// F6: which limit is exceeded, and by which count.
 pub(crate) fn write_limit(out: &mut TextWriter, cause: LimitCause) {
     match cause {
-        LimitCause::Entries(entries) => {
-            out.fill_one("{} entries: a table or an array has 1 to 9,999", entries);
-        }
+        LimitCause::Entries(entries) => out.fill_one(
+            "{} entries: a table or an array has 1 to 9,999",
+            entries,
+        ),
         LimitCause::Passed { limit, count } => out.fill_one(limit_sentence(limit), count),
     }
 }
 
 const NOT_OF_TYPE: &str =
     "{} can't be turned on by a record type: 01 to 99, L1 to L9, LR and H1 to H9 can";
-
-const NEVER_SET: &str = "{} can't be set: results and fields set all but L0, 1P and MR";
 
 const TEXT_FIELD: &str =
     "{} is a text, since column 52 is blank, and only its blanks are tested (69-70)";
@@ -102,7 +112,10 @@ pub(crate) fn write_bad_indicator(out: &mut TextWriter, cause: &IndicatorCause) 
         IndicatorCause::NotOfType(indicator) => {
             out.fill_one(NOT_OF_TYPE, name_of(indicator));
         }
-        IndicatorCause::NeverSet(indicator) => out.fill_one(NEVER_SET, name_of(indicator)),
+        IndicatorCause::NeverSet(indicator) => out.fill_one(
+            "{} can't be set: results and fields set all but L0, 1P and MR",
+            name_of(indicator),
+        ),
         IndicatorCause::TextField(name) => out.fill_one(TEXT_FIELD, name.as_slice()),
         IndicatorCause::FirstPage => out.write_str(
             "calculations can't test 1P: it is on only before the first record",
@@ -198,23 +211,24 @@ pub(crate) fn write_rounding(out: &mut TextWriter, spot: Spot<'_>, cause: Roundi
 
 const MOST_DIGITS: u16 = 15;
 
-/// Writes that a field is a text, why that is wrong, and how to make it a number, if a card defines it and it isn't too long for one.
-fn write_text(out: &mut TextWriter, spot: Spot<'_>, name: &[u8], text: &TextField, why: &str) {
+/// Writes how to make a text a number, if a card defines it and it isn't too long for one.
+fn write_remedy(out: &mut TextWriter, spot: Spot<'_>, text: &TextField) {
+    let Some(card) = text.definer else {
+        return;
+    };
+    if text.length <= MOST_DIGITS {
+        let remedy = if spot.is_extension(card) {
+            "a digit in column 44 or 56"
+        } else {
+            "a digit in column 52"
+        };
+        out.fill_two(": {} of card {} makes it one", remedy, card);
+    }
+}
+
+fn write_text(out: &mut TextWriter, name: &[u8], text: &TextField) {
     out.fill_one("{} is a text", name);
     write_card(out, text.definer);
-    out.fill_one(why, spot.operation());
-    match text.definer {
-        Some(card) if text.length <= MOST_DIGITS => {
-            let is_extension = spot.is_extension(card);
-            let columns = if is_extension { "44 or 56" } else { "52" };
-            out.fill_two(
-                ": a digit in column {} of card {} makes it one",
-                columns,
-                card,
-            );
-        }
-        _ => {}
-    }
 }
 
 /// F4: which operand is of the wrong kind, and which card makes it so.
@@ -230,38 +244,47 @@ pub(crate) fn write_operand(out: &mut TextWriter, spot: Spot<'_>, cause: &Operan
             out.fill_two(sentence, spot.text_in(*at), operation);
         }
         OperandCause::TextOperand { at, text } => {
-            write_text(out, spot, spot.text_in(*at), text, ", and {} takes numbers")
+            write_text(out, spot.text_in(*at), text);
+            out.fill_one(", and {} takes numbers", operation);
+            write_remedy(out, spot, text);
         }
-        OperandCause::Unlike { first, second } => {
-            out.write_str("factor 1 is ");
-            write_form(out, *first);
-            out.write_str(" and factor 2 ");
-            write_form(out, *second);
-            out.fill_one(": {} takes two numbers, or two texts", operation);
-        }
+        OperandCause::Unlike { first, second } => write_unlike(out, operation, *first, *second),
         OperandCause::Unwritable => {
             out.write_str("UDATE is the date, and no calculation can change it");
         }
         OperandCause::TooFew { found, searched } => {
-            let result = spot.text_in(ColumnRange::ResultName);
-            out.fill_three(TOO_FEW, result, *found, *searched)
+            write_entries(out, spot.text_in(ColumnRange::ResultName), *found);
+            out.fill_one(TOO_FEW, *searched);
         }
-        OperandCause::EditedText(text) => {
-            let name = match &text.name {
-                Some(name) => name.as_slice(),
-                None => &[],
-            };
-            write_text(out, spot, name, text, ", and numbers alone are edited")
-        }
-        OperandCause::BlankedDate(name) => out.fill_one(BLANKED_DATE, name.as_slice()),
+        OperandCause::EditedText(text) => write_edited(out, spot, text),
+        OperandCause::BlankedDate(name) => out.fill_one(
+            "{} is the date, and can't be blanked: take B out of column 39",
+            name.as_slice(),
+        ),
     }
 }
 
-const BLANKED_DATE: &str = "{} is the date, and can't be blanked: take B out of column 39";
+fn write_unlike(out: &mut TextWriter, operation: &[u8], first: FieldForm, second: FieldForm) {
+    out.write_str("factor 1 is ");
+    write_form(out, first);
+    out.write_str(" and factor 2 ");
+    write_form(out, second);
+    out.fill_one(": {} takes two numbers, or two texts", operation);
+}
 
-const TOO_FEW: &str =
-    "{} has {} {entry|entries}, and what is searched has {}: the result needs as many";
+const TOO_FEW: &str = "what is searched has {}: the result needs as many";
 
+fn write_edited(out: &mut TextWriter, spot: Spot<'_>, text: &TextField) {
+    let name = match &text.name {
+        Some(name) => name.as_slice(),
+        None => &[],
+    };
+    write_text(out, name, text);
+    out.write_str(", and numbers alone are edited");
+    write_remedy(out, spot, text);
+}
+
+/// Writes what a field is that can't be an index.
 fn write_no_index(out: &mut TextWriter, name: &Word<6>, form: FieldForm, definer: Option<u16>) {
     out.fill_one("{} is ", name.as_slice());
     match form.class {
@@ -272,15 +295,15 @@ fn write_no_index(out: &mut TextWriter, name: &Word<6>, form: FieldForm, definer
     out.write_str(", and an index is a plain number without decimals");
 }
 
+fn write_entries(out: &mut TextWriter, name: &[u8], entries: u16) {
+    let counted = noun(usize::from(entries), "entry", "entries");
+    out.fill_three("{} has {} {}, and ", name, entries, counted);
+}
+
 const NO_INDEX_GIVEN: &str =
-    "{} has {} {entry|entries}, and is written with an index, as {},1: whole arrays stand in XFOOT and LOKUP only (rpg2 fit rewrites it: A13, A14)";
+    "is written with an index, as {},1: whole arrays stand in XFOOT and LOKUP only (rpg2 fit rewrites it: A13, A14)";
 
-const WHOLE: &str = "{} takes the whole array {}, without an index";
-
-const OUT_OF_RANGE: &str = "{} has {} {entry|entries}, and {} is none of them";
-
-const TOO_SHORT: &str =
-    "{} has {} {entry|entries}, and {} has no room for their number, which LOKUP puts there";
+const TOO_SHORT: &str = "{} has no room for their number, which LOKUP puts there";
 
 /// F5: what is wrong with the index of an entry.
 pub(crate) fn write_index(out: &mut TextWriter, spot: Spot<'_>, cause: &IndexCause) {
@@ -293,25 +316,37 @@ pub(crate) fn write_index(out: &mut TextWriter, spot: Spot<'_>, cause: &IndexCau
         IndexCause::NoArray(name) => {
             out.fill_one("{} isn't an array, and takes no index", name.as_slice());
         }
-        IndexCause::Whole(name) => out.fill_two(WHOLE, spot.operation(), name.as_slice()),
+        IndexCause::Whole(name) => out.fill_two(
+            "{} takes the whole array {}, without an index",
+            spot.operation(),
+            name.as_slice(),
+        ),
         IndexCause::Missing { name, entries } => {
-            out.fill_three(NO_INDEX_GIVEN, name.as_slice(), *entries, name.as_slice())
+            write_entries(out, name.as_slice(), *entries);
+            out.fill_one(NO_INDEX_GIVEN, name.as_slice());
         }
         IndexCause::OutOfRange {
             name,
             entries,
             index,
-        } => out.fill_three(OUT_OF_RANGE, name.as_slice(), *entries, *index),
+        } => {
+            write_entries(out, name.as_slice(), *entries);
+            out.fill_one("{} is none of them", *index);
+        }
         IndexCause::TooShort {
             name,
             entries,
             index,
-        } => out.fill_three(TOO_SHORT, name.as_slice(), *entries, index.as_slice()),
+        } => {
+            write_entries(out, name.as_slice(), *entries);
+            out.fill_one(TOO_SHORT, index.as_slice());
+        }
     }
 }
 
 fn write_digits(out: &mut TextWriter, name: &[u8], length: u16, decimals: u8) {
-    out.fill_two("{} has {} {digit|digits}", name, length);
+    let digits = noun(usize::from(length), "digit", "digits");
+    out.fill_three("{} has {} {}", name, length, digits);
     if decimals != 0 {
         out.fill_one(", {} of them decimals", decimals);
     }
@@ -324,7 +359,8 @@ pub(crate) fn write_editing(out: &mut TextWriter, cause: &EditingCause) {
     match cause.mismatch {
         Mismatch::Fill => {}
         Mismatch::Text { length } => {
-            out.fill_two(": {} is a text of {} {character|characters}", name, length)
+            let characters = noun(usize::from(length), "character", "characters");
+            out.fill_three(": {} is a text of {} {}", name, length, characters);
         }
         Mismatch::Date { length, decimals } => {
             out.write_str(": code Y edits 6 digits without decimals, and ");
@@ -338,7 +374,8 @@ pub(crate) fn write_editing(out: &mut TextWriter, cause: &EditingCause) {
             length,
             decimals,
         } => {
-            out.fill_one(": the word has places for {} {digit|digits}, and ", places);
+            let digits = noun(usize::from(places), "digit", "digits");
+            out.fill_two(": the word has places for {} {}, and ", places, digits);
             write_digits(out, name, length, decimals);
             if u16::from(places) > length {
                 out.write_str(" (rpg2 fit rewrites it: A17)");

@@ -1,6 +1,8 @@
 //! Files, and places in their records and lines: F7, F9 of lines, F16; and F18, the data of tables.
 
-use crate::spot::{NameKind, Spot, text_at, write_near};
+use crate::fields::noun;
+use crate::near::{NameKind, write_near};
+use crate::spot::{Spot, text_at};
 use rpg_cards::FileUse;
 use rpg_cli_text::{Piece, TextWriter, is_near, sentence_of};
 use rpg_faults::{
@@ -37,6 +39,7 @@ fn write_printer_rule(out: &mut TextWriter, device: &[u8]) {
     }
 }
 
+/// Writes that a use has a second file, and what to do.
 fn write_second(out: &mut TextWriter, spot: Spot<'_>, name: &[u8], first: &FileOnCard) {
     out.fill_two("{} would be a second {}: ", name, use_name(first.serves_as));
     out.fill_two("{} (card {}) is one", first.name.as_slice(), first.card);
@@ -57,8 +60,6 @@ fn write_second(out: &mut TextWriter, spot: Spot<'_>, name: &[u8], first: &FileO
     }
 }
 
-const TWICE: &str = "{} is on card {} already: each file has one F card";
-
 const LINE_LENGTH: &str = "a printed line of {} places: a line has 1 to 132 (docs/OLD_PROGRAMS.md)";
 
 const RECORD_LENGTH: &str = "a record length of {}: a record has 1 to 9,999 columns";
@@ -74,7 +75,11 @@ const fn user_names(user: FileUser) -> (&'static str, &'static str) {
 
 pub(crate) fn write_file(out: &mut TextWriter, spot: Spot<'_>, cause: &FileCause) {
     match cause {
-        FileCause::Twice(file) => out.fill_two(TWICE, file.name.as_slice(), file.card),
+        FileCause::Twice(file) => out.fill_two(
+            "{} is on card {} already: each file has one F card",
+            file.name.as_slice(),
+            file.card,
+        ),
         FileCause::Second { name, first } => write_second(out, spot, name.as_slice(), first),
         FileCause::Length { serves_as, length } => {
             let sentence = match serves_as {
@@ -179,20 +184,25 @@ fn write_other_length(
     card: u16,
 ) {
     let (length, first) = (u64::from(lengths.0), u64::from(lengths.1));
+    let columns = if length == 1 { "column" } else { "columns" };
     out.fill_two("{}{} has ", letter, level);
-    out.fill_one("{} {column|columns} in this type, ", length);
+    out.fill_two("{} {} in this type, ", length, columns);
     out.fill_two("and {} in the one of card {}", first, card);
 }
-
-const NO_LEVEL: &str = "this type has no M{}, and the one of card {} has it";
-
-const OWN_LEVEL: &str = "this type has M{}, and the one of card {} doesn't";
 
 /// Writes a match field whose length differs from that of an earlier type, or that only one of the two has.
 fn write_other_matches(out: &mut TextWriter, level: u8, lengths: (u32, u32), card: u16) {
     match lengths {
-        (0, _) => out.fill_two(NO_LEVEL, level, card),
-        (_, 0) => out.fill_two(OWN_LEVEL, level, card),
+        (0, _) => out.fill_two(
+            "this type has no M{}, and the one of card {} has it",
+            level,
+            card,
+        ),
+        (_, 0) => out.fill_two(
+            "this type has M{}, and the one of card {} doesn't",
+            level,
+            card,
+        ),
         _ => write_other_length(out, 'M', level, lengths, card),
     }
 }
@@ -204,9 +214,11 @@ pub(crate) fn write_join(out: &mut TextWriter, cause: JoinCause) {
             out.fill_two(LONG_LEVEL, level, u64::from(columns));
         }
         JoinCause::LongMatches { columns } => out.fill_one(LONG_MATCHES, u64::from(columns)),
-        JoinCause::MatchedTwice { level, card } => {
-            out.fill_two("M{} is on card {} of this type already", level, card);
-        }
+        JoinCause::MatchedTwice { level, card } => out.fill_two(
+            "M{} is on card {} of this type already",
+            level,
+            card,
+        ),
         JoinCause::OtherLength {
             level,
             length,
@@ -223,10 +235,13 @@ pub(crate) fn write_join(out: &mut TextWriter, cause: JoinCause) {
 }
 
 fn write_need(out: &mut TextWriter, need: Need) {
-    let (entries, per_card) = (need.entries, need.per_card);
-    let needs = if entries == 1 { "needs" } else { "need" };
-    out.fill_two(": {} {entry|entries}, {} a card, ", entries, per_card);
-    out.fill_two("{} {} {card|cards} of data, and ", needs, need.cards);
+    let (entry, needs) = match need.entries {
+        1 => ("entry", "needs"),
+        _ => ("entries", "need"),
+    };
+    out.fill_three(": {} {}, {} a card, ", need.entries, entry, need.per_card);
+    let card = noun(usize::from(need.cards), "card", "cards");
+    out.fill_three("{} {} {} of data, and ", needs, need.cards, card);
 }
 
 const TOO_WIDE: &str = ": {} entries a card of {} columns take {}, and a card has 80";
@@ -246,7 +261,7 @@ fn write_entry(out: &mut TextWriter, spot: Spot<'_>, cause: &EntryCause) {
     out.fill_two(sentence, text, cause.number.saturating_sub(1));
 }
 
-const SPARE: &str = ": it is ** card {}, and {} {E card needs|E cards need} data";
+const SPARE: &str = ": it is ** card {}, and {} {}";
 
 /// F18: what is wrong with the data of a table.
 pub(crate) fn write_data(out: &mut TextWriter, spot: Spot<'_>, cause: &DataCause) {
@@ -266,9 +281,12 @@ pub(crate) fn write_data(out: &mut TextWriter, spot: Spot<'_>, cause: &DataCause
         }
         DataCause::OtherCards { need, there } => {
             write_need(out, *need);
-            out.fill_one("{} {is|are} there", *there);
+            out.fill_two("{} {} there", *there, noun(*there, "is", "are"));
         }
         DataCause::Entry(entry) => write_entry(out, spot, entry),
-        DataCause::Spare { deck, wanted } => out.fill_two(SPARE, *deck, *wanted),
+        DataCause::Spare { deck, wanted } => {
+            let of_cards = noun(*wanted, "E card needs data", "E cards need data");
+            out.fill_three(SPARE, *deck, *wanted, of_cards);
+        }
     }
 }

@@ -5,7 +5,9 @@ mod cause;
 mod fields;
 mod files;
 mod names;
+mod near;
 mod spot;
 
 pub use cause::{Root, root_of, write_cause};
-pub use spot::{CardLines, NearNames, SourceCards, definer};
+pub use near::NearNames;
+pub use spot::{CardLines, SourceCards, definer};

@@ -2,7 +2,8 @@
 //! unpaired BEGSR and ENDSR, and cards without the card that they continue or belong to.
 
 use crate::fields::write_form;
-use crate::spot::{NameKind, Spot, write_near};
+use crate::near::{NameKind, write_near};
+use crate::spot::Spot;
 use rpg_cards::{Named, SpecCard, defined_name};
 use rpg_cli_text::TextWriter;
 use rpg_faults::{NowhereCause, OrderCause, Redefined, StrayCause, Target, TwiceCause};
@@ -28,21 +29,26 @@ const MOST: usize = 3;
 
 /// Asks whether one of the defined names that are similar to a name is meant.
 fn write_near_names(out: &mut TextWriter, spot: Spot<'_>, name: &[u8]) {
-    let near = spot.source.near;
-    let mut place = near.next(NameKind::Field, name, 0);
-    for count in 1..=MOST {
-        let Some(known) = near.at(place) else {
+    let mut from = 0;
+    let mut is_first = true;
+    let mut waiting: Option<&[u8]> = None;
+    for _ in 0..MOST {
+        let place = spot.source.near.next(NameKind::Field, name, from);
+        let Some(near) = spot.source.near.at(place) else {
             break;
         };
-        place = near.next(NameKind::Field, name, place.saturating_add(1));
-        let is_last = count == MOST || near.at(place).is_none();
-        out.write_str(match (count, is_last) {
-            (1, _) => ": is ",
-            (_, true) => " or ",
-            (_, false) => ", ",
-        });
-        out.write_shown(known.name.as_slice());
-        out.write_str(if is_last { " meant?" } else { "" });
+        if let Some(earlier) = waiting {
+            out.write_str(if is_first { ": is " } else { ", " });
+            out.write_shown(earlier);
+            is_first = false;
+        }
+        waiting = Some(near.name.as_slice());
+        from = place.saturating_add(1);
+    }
+    if let Some(last) = waiting {
+        out.write_str(if is_first { ": is " } else { " or " });
+        out.write_shown(last);
+        out.write_str(" meant?");
     }
 }
 
@@ -100,9 +106,10 @@ pub(crate) fn write_nowhere(out: &mut TextWriter, spot: Spot<'_>, cause: &Nowher
             write_near(out, spot, NameKind::of(wanted), name);
         }
         NowhereCause::Other { name, giver } => {
-            let sentence = match giver.is_subroutine {
-                true => IS_SUBROUTINE,
-                false => IS_LABEL,
+            let sentence = if giver.is_subroutine {
+                IS_SUBROUTINE
+            } else {
+                IS_LABEL
             };
             out.fill_two(sentence, name.as_slice(), giver.card);
         }
@@ -113,29 +120,32 @@ pub(crate) fn write_nowhere(out: &mut TextWriter, spot: Spot<'_>, cause: &Nowher
 pub(crate) fn write_twice(out: &mut TextWriter, cause: &TwiceCause) {
     match cause {
         TwiceCause::Given { name, giver } => {
-            let sentence = match giver.is_subroutine {
-                true => "{} is a subroutine on card {} already",
-                false => "{} is a label on card {} already",
+            let sentence = if giver.is_subroutine {
+                "{} is a subroutine on card {} already"
+            } else {
+                "{} is a label on card {} already"
             };
             out.fill_two(sentence, name.as_slice(), giver.card);
         }
-        TwiceCause::Field { name, card } => {
-            out.fill_two("{} is a field of card {} already", name.as_slice(), *card);
-        }
+        TwiceCause::Field { name, card } => out.fill_two(
+            "{} is a field of card {} already",
+            name.as_slice(),
+            *card,
+        ),
         TwiceCause::EveryProgram(name) => {
             out.fill_one("{} is predefined as a field", name.as_slice());
         }
     }
 }
 
-pub(crate) const APART: &str =
+const APART: &str =
     "{} (card {}) is a label of another section: GOTO stays within the detail calculations, the total calculations, or one subroutine";
 
-pub(crate) const RECURSION: &str =
-    "{} (card {}) is the subroutine that this card is in, or leads back to it";
+const RECURSION: &str = "{} (card {}) is the subroutine that this card is in, or leads back to it";
 
 /// F13 and F14: the label or the subroutine that the card names.
-pub(crate) fn write_target(out: &mut TextWriter, sentence: &str, target: &Target) {
+pub(crate) fn write_target(out: &mut TextWriter, target: &Target, is_recursion: bool) {
+    let sentence = if is_recursion { RECURSION } else { APART };
     out.fill_two(sentence, target.name.as_slice(), target.card);
 }
 
@@ -172,15 +182,14 @@ pub(crate) fn write_order(out: &mut TextWriter, spot: Spot<'_>, cause: &OrderCau
             out.fill_three(EARLY, times.0, times.1, *card);
         }
         OrderCause::Outside(None) => out.write_str("an SR card before the first BEGSR"),
-        OrderCause::Outside(Some(card)) => {
-            out.fill_one(
-                "an SR card after the ENDSR of card {}, in no subroutine",
-                *card,
-            );
-        }
-        OrderCause::OutsideSection { .. } => {
-            out.fill_one("{} is on a card without SR in 7-8", spot.operation());
-        }
+        OrderCause::Outside(Some(card)) => out.fill_one(
+            "an SR card after the ENDSR of card {}, in no subroutine",
+            *card,
+        ),
+        OrderCause::OutsideSection { .. } => out.fill_one(
+            "{} is on a card without SR in 7-8",
+            spot.operation(),
+        ),
         OrderCause::NoBegsr(None) => out.write_str("this ENDSR has no BEGSR"),
         OrderCause::NoBegsr(Some(card)) => out.fill_one(NO_BEGSR, *card),
         OrderCause::NoEndsr { name, next } => write_unended(out, name, *next),

@@ -6,11 +6,8 @@
 //! on, one of which fits; without a pattern any text does. Cards: `/` any, `H`, `F`, `E`, `T` record types, `I` input fields, `C`, `O` lines, `A` AND
 //! and OR cards of lines, `D` output fields, `?` another form type. The first feature that fits is printed.
 
-use crate::ranges::{NO_SHEET, character_at, columns_at, is_at, sheet_of};
-use rpg_sheet::ColumnFault;
-
 /// The features, with a line for each sentence and each place.
-const FEATURES: &str =
+pub(crate) const FEATURES: &str =
     "/TITLE isn't read|put * in column 7, and the card is a comment (rpg2 fit rewrites it: A1)
  / 07-07 /TITLE
 /EJECT isn't read|put * in column 7, and the card is a comment (rpg2 fit rewrites it: A1)
@@ -194,92 +191,3 @@ end positions count from the start of the line, without a sign|a number that end
  D 40-43 + .+ ..+
 packed and binary fields aren't written|rpg2 records --deck moves their digits behind the record, and --to packs them
  D 44-44 P B";
-
-/// The first column of the directives for a listing, whatever column 6 has.
-const DIRECTIVE: ColumnFault = ColumnFault { column: 7, last: 7 };
-
-/// Where the patterns of a place begin in its line, after a blank, the letter of the card and the columns.
-const PATTERN: usize = 9;
-
-/// A feature of RPG II that isn't supported.
-#[derive(Clone, Copy)]
-pub(crate) struct Unread {
-    pub what: &'static str,
-    /// How to do without it; empty if it can't be done.
-    pub way: &'static str,
-    /// The columns that it is about, if it is reported by itself.
-    pub at: Option<ColumnFault>,
-    /// Whether it applies whatever its columns hold.
-    pub is_any: bool,
-}
-
-impl Unread {
-    fn of(line: &'static [u8], is_any: bool) -> Unread {
-        let (at, line) = match line {
-            [b'!', ..] => (Some(columns_at(line, 2)), line.get(7..).unwrap_or(&[])),
-            _ => (None, line),
-        };
-        let text = str::from_utf8(line).unwrap_or("");
-        let (what, way) = text.split_once('|').unwrap_or((text, ""));
-        Unread {
-            what,
-            way,
-            at,
-            is_any,
-        }
-    }
-}
-
-/// Whether rejected columns of a card are those of a place and match one of its patterns.
-fn fits(place: &str, letter: u8, line: &[u8], columns: ColumnFault) -> bool {
-    let ColumnFault { column, last } = columns_at(place.as_bytes(), 4);
-    let mut patterns = place.get(PATTERN..).unwrap_or("").split(' ');
-    character_at(place.as_bytes(), 2) == letter
-        && column <= columns.column
-        && columns.last <= last
-        && patterns.any(|pattern| is_at(line, columns.column.into(), pattern.as_bytes()))
-}
-
-fn first_at(letter: u8, line: &[u8], columns: ColumnFault) -> Option<Unread> {
-    let mut sentence: &'static [u8] = &[];
-    for row in FEATURES.lines() {
-        if !row.starts_with(' ') {
-            sentence = row.as_bytes();
-        } else if fits(row, letter, line, columns) {
-            return Some(Unread::of(sentence, row.len() < PATTERN));
-        }
-    }
-    None
-}
-
-/// Whether columns 1 to 5 hold only blanks and a number, as a card's may.
-pub fn has_card_number(line: &[u8]) -> bool {
-    (1..6).all(|column| matches!(character_at(line, column), b' ' | b'0'..=b'9'))
-}
-
-/// Whether the rejected columns of a card belong to a number that fills columns 73 or 74 to 80, after those that RPG II uses.
-pub(crate) fn has_number_after(line: &[u8], columns: ColumnFault) -> bool {
-    let is_digit = |column: usize| character_at(line, column).is_ascii_digit();
-    columns.column >= 73
-        && (character_at(line, 73) == b' ' || is_digit(73))
-        && (74..=80usize).all(is_digit)
-}
-
-/// Returns which feature of RPG II rejected columns hold, and the workaround; None if they hold no known feature.
-pub(crate) fn feature_at(line: &[u8], columns: ColumnFault) -> Option<Unread> {
-    let (letter, _) = sheet_of(line);
-    match first_at(b'/', line, DIRECTIVE) {
-        // Data and comments may have any character in column 6.
-        None if letter == NO_SHEET && !has_card_number(line) => None,
-        None => first_at(letter, line, columns),
-        directive => directive,
-    }
-}
-
-/// Returns the columns that a diagnostic on rejected columns points at.
-pub fn pointed_at(line: &[u8], columns: ColumnFault) -> ColumnFault {
-    match feature_at(line, columns) {
-        Some(Unread { at: Some(at), .. }) => at,
-        _ => columns,
-    }
-}

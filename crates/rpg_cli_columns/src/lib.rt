@@ -7,7 +7,8 @@ mod features;
 mod ranges;
 mod refused;
 mod shift;
+mod unread;
 
-pub use features::{has_card_number, pointed_at};
 pub use ranges::{begins_range, character_at, text_in};
 pub use refused::{before_comma, capitalised, write_bad_columns, write_form_type};
+pub use unread::{has_card_number, pointed_at};

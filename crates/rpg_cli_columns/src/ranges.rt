@@ -1,5 +1,5 @@
-//! The ranges of the columns of cards, in the order of the columns: names and allowed contents. Columns outside all ranges are blank.
-//! Patterns for the contents of columns.
+//! The kinds of cards, and the ranges of their columns, in the order of the columns: names and allowed contents. Columns outside all ranges
+//! are blank. Patterns for the contents of columns.
 //!
 //! A line of a sheet has the first and the last column, a letter for its allowed contents, and the name of the range; without a letter the allowed
 //! contents follow the name.
@@ -7,6 +7,25 @@
 use rpg_cli_text::TextWriter;
 use rpg_sheet::ColumnFault;
 use rpg_text::{is_blank, trimmed};
+
+/// A card, by the names of its columns.
+#[derive(Clone, Copy)]
+pub(crate) enum CardKind {
+    Header,
+    File,
+    Extension,
+    /// An E card without an alternating table.
+    ExtensionAlone,
+    Form,
+    RecordType,
+    RecordCodes,
+    InputField,
+    Calculation,
+    Line,
+    LineConditions,
+    OutputField,
+    Unknown,
+}
 
 fn columns(line: &[u8], first: usize, last: usize) -> &[u8] {
     line.get(first.saturating_sub(1)..last.min(line.len()))
@@ -16,6 +35,42 @@ fn columns(line: &[u8], first: usize, last: usize) -> &[u8] {
 /// Whether a word begins in column 14, with blanks before it from column 7 on.
 fn begins_with(line: &[u8], word: &[u8]) -> bool {
     is_blank(columns(line, 7, 13)) && columns(line, 14, word.len().saturating_add(13)) == word
+}
+
+fn input_kind(line: &[u8]) -> CardKind {
+    if begins_with(line, b"AND") {
+        CardKind::RecordCodes
+    } else if is_blank(columns(line, 7, 16)) {
+        CardKind::InputField
+    } else {
+        CardKind::RecordType
+    }
+}
+
+fn output_kind(line: &[u8]) -> CardKind {
+    if begins_with(line, b"AND") || begins_with(line, b"OR") {
+        CardKind::LineConditions
+    } else if is_blank(columns(line, 7, 16)) {
+        CardKind::OutputField
+    } else {
+        CardKind::Line
+    }
+}
+
+impl CardKind {
+    pub fn of(line: &[u8]) -> Self {
+        match line.get(5) {
+            Some(b'H') => CardKind::Header,
+            Some(b'F') => CardKind::File,
+            Some(b'E') if is_blank(columns(line, 46, 51)) => CardKind::ExtensionAlone,
+            Some(b'E') => CardKind::Extension,
+            Some(b'L') => CardKind::Form,
+            Some(b'I') => input_kind(line),
+            Some(b'C') => CardKind::Calculation,
+            Some(b'O') => output_kind(line),
+            _ => CardKind::Unknown,
+        }
+    }
 }
 
 const FILE: &str = "07-14 N the file name
@@ -35,6 +90,7 @@ const EXTENSION: &str = "27-32 N the table's name
 44-44 D the decimals
 45-45 : the sequence: A or blank";
 
+/// The ranges of an alternating table.
 const ALTERNATING: &str = "46-51 N the second table's name
 52-54 # the length of its entries
 56-56 D the decimals of its entries
@@ -99,26 +155,22 @@ const OUTPUT_FIELD: &str = "32-37 E the field name
 40-43 # the end position
 45-70 : the constant or edit word: a text between apostrophes from the first column on, or blank";
 
-/// The letter of a card that is on no sheet.
-pub(crate) const NO_SHEET: u8 = b'?';
-
-/// Returns the letter of a card in the table of features, and the ranges of its columns in two parts, one a line.
-pub(crate) fn sheet_of(line: &[u8]) -> (u8, [&'static str; 2]) {
-    match line.get(5) {
-        Some(b'H') => (b'H', ["", ""]),
-        Some(b'F') => (b'F', [FILE, ""]),
-        Some(b'E') if is_blank(columns(line, 46, 51)) => (b'E', [EXTENSION, ""]),
-        Some(b'E') => (b'E', [EXTENSION, ALTERNATING]),
-        Some(b'L') => (b'L', [FORM, ""]),
-        Some(b'I') if begins_with(line, b"AND") => (b'T', [AND_CARD, RECORD_CODES]),
-        Some(b'I') if is_blank(columns(line, 7, 16)) => (b'I', [INPUT_FIELD, ""]),
-        Some(b'I') => (b'T', [RECORD_TYPE, RECORD_CODES]),
-        Some(b'C') => (b'C', [CALCULATION, ""]),
-        Some(b'O') if begins_with(line, b"AND") => (b'A', [CONDITIONS, ""]),
-        Some(b'O') if begins_with(line, b"OR") => (b'A', [CONDITIONS, ""]),
-        Some(b'O') if is_blank(columns(line, 7, 16)) => (b'D', [CONDITIONS, OUTPUT_FIELD]),
-        Some(b'O') => (b'O', [LINE, CONDITIONS]),
-        _ => (NO_SHEET, ["", ""]),
+/// Returns the letter of a kind of card in the table of features, and the ranges of its columns in two parts, one a line.
+pub(crate) fn sheet_of(kind: CardKind) -> (u8, [&'static str; 2]) {
+    match kind {
+        CardKind::Header => (b'H', ["", ""]),
+        CardKind::File => (b'F', [FILE, ""]),
+        CardKind::Extension => (b'E', [EXTENSION, ALTERNATING]),
+        CardKind::ExtensionAlone => (b'E', [EXTENSION, ""]),
+        CardKind::Form => (b'L', [FORM, ""]),
+        CardKind::RecordType => (b'T', [RECORD_TYPE, RECORD_CODES]),
+        CardKind::RecordCodes => (b'T', [AND_CARD, RECORD_CODES]),
+        CardKind::InputField => (b'I', [INPUT_FIELD, ""]),
+        CardKind::Calculation => (b'C', [CALCULATION, ""]),
+        CardKind::Line => (b'O', [LINE, CONDITIONS]),
+        CardKind::LineConditions => (b'A', [CONDITIONS, ""]),
+        CardKind::OutputField => (b'D', [CONDITIONS, OUTPUT_FIELD]),
+        CardKind::Unknown => (b'?', ["", ""]),
     }
 }
 
@@ -134,6 +186,7 @@ F a name with its index if it has one, a number, or a text between apostrophes, 
 E a name, with a comma and its index if it has one, from the first column on
 R a position that ends in the fourth column, N or blank, C, and the character, or the columns are blank";
 
+/// Returns the allowed contents of a range, by its letter.
 fn sentence_of(letter: u8) -> &'static str {
     for line in CONTENTS.lines() {
         if line.as_bytes().first() == Some(&letter) {
@@ -213,15 +266,17 @@ pub(crate) enum WantedRange {
     NameBefore(u8),
 }
 
+/// Returns the letter for the allowed contents of a line's range.
 fn letter_in(row: &str) -> u8 {
     character_at(row.as_bytes(), 7)
 }
 
 fn range_in(row: &'static str) -> Range {
     let text = row.get(8..).unwrap_or("");
-    let (name, wanted) = text
-        .split_once(": ")
-        .unwrap_or((text, sentence_of(letter_in(row))));
+    let (name, wanted) = match text.split_once(": ") {
+        Some(parts) => parts,
+        None => (text, sentence_of(letter_in(row))),
+    };
     Range {
         columns: columns_at(row.as_bytes(), 1),
         name,
@@ -246,12 +301,12 @@ fn range_among(ranges: &'static str, which: WantedRange) -> Option<Range> {
     Some(range_in(row))
 }
 
-pub(crate) fn range_of(line: &[u8], which: WantedRange) -> Option<Range> {
-    let (_, [first, second]) = sheet_of(line);
+pub(crate) fn range_of(kind: CardKind, which: WantedRange) -> Option<Range> {
+    let (_, [first, second]) = sheet_of(kind);
     range_among(first, which).or(range_among(second, which))
 }
 
 /// Whether a range of a card's sheet begins in a column, which is counted from 1.
 pub fn begins_range(line: &[u8], column: usize) -> bool {
-    range_of(line, WantedRange::From(column)).is_some()
+    range_of(CardKind::of(line), WantedRange::From(column)).is_some()
 }

@@ -1,15 +1,17 @@
 //! Messages about columns that are rejected, and operations similar to a misspelt one.
 
-use crate::features::{Unread, feature_at, has_number_after};
-use crate::ranges::{Range, WantedRange, character_at, range_of, sheet_of, text_in, write_columns};
+use crate::ranges::{CardKind, Range, WantedRange, character_at, range_of, text_in, write_columns};
 use crate::shift::{add_card_move, add_moves, is_readable};
+use crate::unread::{Unread, feature_at, has_number_after};
 use rpg_cli_diagnostics::Draft;
 use rpg_cli_text::{TextWriter, is_near};
 use rpg_sheet::{ColumnFault, Operation};
 use rpg_text::trimmed;
 
+/// Whether columns of a card are those of an operation.
 fn is_operation(line: &[u8], columns: ColumnFault) -> bool {
-    matches!((columns.column, columns.last), (28, 32)) && sheet_of(line).0 == b'C'
+    matches!((columns.column, columns.last), (28, 32))
+        && matches!(CardKind::of(line), CardKind::Calculation)
 }
 
 /// Returns the operations whose names are similar to a text; None for the second if there is one, and none if there are more than two.
@@ -48,19 +50,19 @@ fn add_near_operations(draft: &mut Draft<'_>, line: &[u8], columns: ColumnFault)
     match (near_operations(text), meant_by(text)) {
         ((None, _), "") => return,
         ((None, _), word) => remark.fill_one("is {} meant?", word),
-        ((Some(it), other), _) => {
-            remark.fill_one("is {}", trimmed(it.letters()));
-            if let Some(other) = other {
-                remark.fill_one(" or {}", trimmed(other.letters()));
-            }
-            remark.write_str(" meant?");
-        }
+        ((Some(it), None), _) => remark.fill_one("is {} meant?", trimmed(it.letters())),
+        ((Some(first), Some(second)), _) => remark.fill_two(
+            "is {} or {} meant?",
+            trimmed(first.letters()),
+            trimmed(second.letters()),
+        ),
     }
     draft.remark(remark);
 }
 
 const FORM_TYPE: ColumnFault = ColumnFault { column: 6, last: 6 };
 
+/// What is added if there is a small letter.
 const CAPITALS: &str = ", and letters are capitals";
 
 /// Writes what a feature is, with the text of the columns that it is about, and adds how to do without it.
@@ -145,12 +147,14 @@ pub fn capitalised(line: &[u8], columns: ColumnFault) -> Option<[u8; 80]> {
             character.to_ascii_uppercase()
         };
     }
-    is_readable(&card).then_some(card)
+    if is_readable(&card) { Some(card) } else { None }
 }
 
 pub fn before_comma(text: &[u8]) -> &[u8] {
-    let comma = text.iter().position(|byte| *byte == b',');
-    text.get(..comma.unwrap_or(text.len())).unwrap_or(text)
+    match text.iter().position(|byte| *byte == b',') {
+        Some(place) => text.get(..place).unwrap_or(text),
+        None => text,
+    }
 }
 
 /// Returns the length of a name in a factor, up to its index, if that is too long.
@@ -164,7 +168,7 @@ fn long_name(line: &[u8], columns: ColumnFault) -> Option<usize> {
 /// Writes which columns have a bad value: what they hold, and what that is in RPG II or what they may hold. Adds the workaround, and which
 /// text is in the wrong columns.
 pub fn write_bad_columns(draft: &mut Draft<'_>, line: &[u8], columns: ColumnFault) {
-    let range = range_of(line, WantedRange::Columns(columns));
+    let range = range_of(CardKind::of(line), WantedRange::Columns(columns));
     let feature = feature_at(line, columns);
     let text = match feature {
         Some(_) => Text::Other,
@@ -261,14 +265,17 @@ fn write_wanted(out: &mut TextWriter, line: &[u8], columns: ColumnFault, range: 
 
 /// Writes that a name which continues from the columns before these may be too long for its own.
 fn write_overlong(out: &mut TextWriter, line: &[u8], columns: ColumnFault) {
-    let Some(range) = range_of(line, WantedRange::NameBefore(columns.column)) else {
+    let before = range_of(CardKind::of(line), WantedRange::NameBefore(columns.column));
+    let Some(range) = before else {
         return;
     };
     let ColumnFault { column, last } = range.columns;
     let mut filled = column..=columns.column;
     if filled.all(|column| character_at(line, usize::from(column)) != b' ') {
         let length = columns.column.saturating_sub(column);
-        out.fill_three("; or {} ({}-{})", range.name, column, last);
-        out.fill_one(" is longer than its {} columns", length);
+        out.fill(
+            "; or {} ({}-{}) is longer than its {} columns",
+            &[range.name.into(), column.into(), last.into(), length.into()],
+        );
     }
 }

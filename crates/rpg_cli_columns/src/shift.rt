@@ -1,6 +1,6 @@
 //! Texts that are shifted by a column or two from the columns they belong in.
 
-use crate::ranges::{WantedRange, character_at, range_of, write_columns};
+use crate::ranges::{CardKind, WantedRange, character_at, range_of, write_columns};
 use rpg_cli_diagnostics::Draft;
 use rpg_sheet::{Card, ColumnFault};
 use rpg_text::has_only_characters;
@@ -21,33 +21,47 @@ struct Run {
     last: usize,
 }
 
+/// How many columns a text is shifted to the right; to the left if it is negative.
+#[derive(Clone, Copy)]
+struct Move(isize);
+
 impl Run {
     fn has(self, column: usize) -> bool {
         self.first <= column && column <= self.last
     }
 }
 
-/// Returns by how many columns a text is shifted, to the right unless it is negative.
-fn words(by: isize) -> &'static str {
-    match by {
-        1 => "one column to the right",
-        -1 => "one column to the left",
-        2 => "two columns to the right",
-        _ => "two columns to the left",
+impl Move {
+    fn back(self) -> Move {
+        Move(self.0.saturating_neg())
+    }
+
+    fn applied_to(self, column: usize) -> usize {
+        column.saturating_add_signed(self.0)
+    }
+
+    fn words(self) -> &'static str {
+        match self.0 {
+            1 => "one column to the right",
+            -1 => "one column to the left",
+            2 => "two columns to the right",
+            _ => "two columns to the left",
+        }
     }
 }
 
 /// Whether the columns that a text is shifted to are on the card, and blank except for the text's own.
-fn has_room(line: &[u8], run: Run, by: isize) -> bool {
-    let first = run.first.saturating_add_signed(by);
-    let last = run.last.saturating_add_signed(by);
+fn has_room(line: &[u8], run: Run, by: Move) -> bool {
+    let first = by.applied_to(run.first);
+    let last = by.applied_to(run.last);
     let mut columns = first..=last;
     let is_free = columns.all(|column| run.has(column) || character_at(line, column) == b' ');
     is_free && first > 0 && last <= COLUMNS
 }
 
-fn moved_at(line: &[u8], run: Run, by: isize, column: usize) -> u8 {
-    let source = column.saturating_add_signed(by.saturating_neg());
+/// Returns the character in a column after a text is shifted.
+fn moved_at(line: &[u8], run: Run, by: Move, column: usize) -> u8 {
+    let source = by.back().applied_to(column);
     if run.has(source) {
         character_at(line, source)
     } else if run.has(column) {
@@ -58,7 +72,7 @@ fn moved_at(line: &[u8], run: Run, by: isize, column: usize) -> u8 {
 }
 
 /// Whether a card can be read after a text is shifted.
-fn helps(line: &[u8], run: Run, by: isize) -> bool {
+fn helps(line: &[u8], run: Run, by: Move) -> bool {
     if !has_room(line, run, by) {
         return false;
     }
@@ -82,14 +96,14 @@ pub(crate) fn is_readable(line: &[u8; 80]) -> bool {
 }
 
 fn is_in_range(line: &[u8], column: usize) -> bool {
-    range_of(line, WantedRange::Around(column)).is_some()
+    range_of(CardKind::of(line), WantedRange::Around(column)).is_some()
 }
 
 /// Whether shifting a text helps and brings it to columns that sheets use, since unused ones allow any text. If the whole card is shifted,
 /// only its first text has to.
-fn helps_run(line: &[u8], run: Run, by: isize, is_card: bool) -> bool {
-    is_in_range(line, run.first.saturating_add_signed(by))
-        && (is_card || is_in_range(line, run.last.saturating_add_signed(by)))
+fn helps_run(line: &[u8], run: Run, by: Move, is_card: bool) -> bool {
+    is_in_range(line, by.applied_to(run.first))
+        && (is_card || is_in_range(line, by.applied_to(run.last)))
         && helps(line, run, by)
 }
 
@@ -116,7 +130,8 @@ fn rest_from(line: &[u8], first: usize) -> Run {
     Run { first, last }
 }
 
-fn add_move(draft: &mut Draft<'_>, line: &[u8], run: Run, by: isize, is_card: bool) {
+/// Adds that a text is to be moved, or the whole card.
+fn add_move(draft: &mut Draft<'_>, line: &[u8], run: Run, by: Move, is_card: bool) {
     let mut remark = draft.text();
     if is_card {
         remark.write_str("move the card");
@@ -125,23 +140,23 @@ fn add_move(draft: &mut Draft<'_>, line: &[u8], run: Run, by: isize, is_card: bo
         write_columns(&mut remark, line, run.first, run.last);
         remark.write_char('"');
     }
-    remark.fill_one(" {}", words(by));
+    remark.fill_one(" {}", by.words());
     draft.remark(remark);
 }
 
 /// Adds the shift of a text, or of the whole card, that makes the card readable, if exactly one does.
-fn add_run_move(draft: &mut Draft<'_>, line: &[u8], run: Run, by: isize, is_card: bool) -> bool {
+fn add_run_move(draft: &mut Draft<'_>, line: &[u8], run: Run, by: Move, is_card: bool) -> bool {
     let right = helps_run(line, run, by, is_card);
-    if right == helps_run(line, run, by.saturating_neg(), is_card) {
+    if right == helps_run(line, run, by.back(), is_card) {
         return false;
     }
-    let only = if right { by } else { by.saturating_neg() };
+    let only = if right { by } else { by.back() };
     add_move(draft, line, run, only, is_card);
     true
 }
 
 /// Like `add_run_move`, for each text that the rejected columns have a part of.
-fn add_word_move(draft: &mut Draft<'_>, line: &[u8], refused: ColumnFault, by: isize) -> bool {
+fn add_word_move(draft: &mut Draft<'_>, line: &[u8], refused: ColumnFault, by: Move) -> bool {
     let first = usize::from(refused.column);
     let mut before = b' ';
     for column in first..=usize::from(refused.last) {
@@ -160,11 +175,11 @@ fn add_word_move(draft: &mut Draft<'_>, line: &[u8], refused: ColumnFault, by: i
 pub(crate) fn add_moves(draft: &mut Draft<'_>, line: &[u8], refused: ColumnFault, most: isize) {
     let first = (FIRST..=LAST).find(|column| character_at(line, *column) != b' ');
     for by in 1..=most {
-        if add_word_move(draft, line, refused, by) {
+        if add_word_move(draft, line, refused, Move(by)) {
             return;
         }
         if let Some(first) = first {
-            if add_run_move(draft, line, rest_from(line, first), by, true) {
+            if add_run_move(draft, line, rest_from(line, first), Move(by), true) {
                 return;
             }
         }
@@ -172,8 +187,8 @@ pub(crate) fn add_moves(draft: &mut Draft<'_>, line: &[u8], refused: ColumnFault
 }
 
 /// Adds that a card is to be moved, if that brings a form type into its column and makes the card readable.
-fn add_card_move_by(draft: &mut Draft<'_>, line: &[u8], by: isize) -> bool {
-    let column = FORM_TYPE.saturating_add_signed(by.saturating_neg());
+fn add_card_move_by(draft: &mut Draft<'_>, line: &[u8], by: Move) -> bool {
+    let column = by.back().applied_to(FORM_TYPE);
     let run = rest_from(line, column);
     let is_in_word = character_at(line, column.saturating_sub(1)).is_ascii_alphabetic();
     if is_in_word || !helps(line, run, by) {
@@ -183,9 +198,11 @@ fn add_card_move_by(draft: &mut Draft<'_>, line: &[u8], by: isize) -> bool {
     true
 }
 
+/// Adds where a card is to be moved, if it can be read after a shift.
 pub(crate) fn add_card_move(draft: &mut Draft<'_>, line: &[u8]) {
     for by in 1..=2 {
-        if add_card_move_by(draft, line, by) || add_card_move_by(draft, line, by.saturating_neg()) {
+        let by = Move(by);
+        if add_card_move_by(draft, line, by) || add_card_move_by(draft, line, by.back()) {
             return;
         }
     }

@@ -3,5 +3,6 @@
 
 mod messages;
 mod rows;
+mod shown;
 
 pub use rows::{FileRows, convert_rows, file_rows};

@@ -1,7 +1,6 @@
-//! The diagnostics for a deck, a row or a line that is rejected; cells and bytes as they show them.
+//! The diagnostics for a deck, a row or a line that is rejected.
 
-ghost use Rattle.std.specs.Prelude.{◌≤◌, length};
-
+use crate::shown::{write_cell, write_hex};
 use rpg_cli_diagnostics::{Columns, Diagnostic, Draft, FileName, Place};
 use rpg_cli_text::TextWriter;
 use rpg_csv_columns::{
@@ -9,21 +8,9 @@ use rpg_csv_columns::{
 };
 use rpg_csv_rows::{CellFault as RawFault, RowFault};
 use rpg_csv_values::CellFault;
-use rpg_text::is_character;
 use std::alloc::{AllocError, Global};
 
-const TWICE: &str = "{} occurs twice in the {} of card {}: a row has one value for it";
-
-const PARTS: &str = "the array {} has {} entries, and {} columns aren't as many of one width";
-
-const ALIKE: &str =
-    "no constant tells the line of this card from that of card {}: a record doesn't say which it is";
-
-const OVERLAPPING: &str = "what cards {} and {} put there: a record doesn't say which stands there";
-
-const PACKED: &str =
-    "a packed or binary field: --to-csv reads what the job writes, by the deck of records --deck";
-
+/// Returns the diagnostic for the card of a field in a deck.
 pub(crate) fn card_diagnostic(
     alloc: Global,
     file: FileName<'_>,
@@ -33,17 +20,39 @@ pub(crate) fn card_diagnostic(
     let mut draft = Draft::error(alloc, file.line(number.into()));
     let out = &mut draft.message;
     match fault {
-        Fault::Twice { name, card } => out.fill_three(TWICE, name.as_slice(), "type", card),
+        Fault::Twice { name, card } => out.fill_two(
+            "{} occurs twice in the type of card {}: a row has one value for it",
+            name.as_slice(),
+            card,
+        ),
         Fault::Parts {
             name,
             entries,
             columns,
-        } => out.fill_three(PARTS, name.as_slice(), entries, columns),
+        } => out.fill_three(
+            "the array {} has {} entries, and {} columns aren't as many of one width",
+            name.as_slice(),
+            entries,
+            columns,
+        ),
         Fault::LongNumber => out.write_str("a number has at most 15 digits"),
-        Fault::TwiceInLine { name, card } => {
-            out.fill_three(TWICE, name.as_slice(), "line", card)
-        }
-        Fault::Alike { card } => out.fill_one(ALIKE, card),
+        fault => write_line_card_fault(out, fault),
+    }
+    draft.finish()
+}
+
+/// Writes what is wrong with a card of a line that a job writes.
+fn write_line_card_fault(out: &mut TextWriter, fault: Fault) {
+    match fault {
+        Fault::TwiceInLine { name, card } => out.fill_two(
+            "{} occurs twice in the line of card {}: a row has one value for it",
+            name.as_slice(),
+            card,
+        ),
+        Fault::Alike { card } => out.fill_one(
+            "no constant tells the line of this card from that of card {}: a record doesn't say which it is",
+            card,
+        ),
         Fault::Overlapping {
             first,
             last,
@@ -51,46 +60,58 @@ pub(crate) fn card_diagnostic(
             other,
         } => {
             out.fill_two("columns {} to {} have ", first, last);
-            out.fill_two(OVERLAPPING, one, other);
+            out.fill_two(
+                "what cards {} and {} put there: a record doesn't say which stands there",
+                one,
+                other,
+            );
         }
-        _ => out.write_str(PACKED),
+        _ => out.write_str(
+            "a packed or binary field: --to-csv reads what the job writes, by the deck of records --deck",
+        ),
     }
-    draft.finish()
 }
 
-const BOTH: &str = "columns {} and {} are both {}";
-
-const NO_FIELD: &str =
-    ", is no field of {}: --columns names the columns, with nothing for one to leave out";
-
-const NO_CODE: &str = ": the file has {} record types, and a row doesn't say which it is";
-
+/// Writes what is wrong with the names of columns.
 fn write_names_fault(out: &mut TextWriter, file: FieldName, refusal: Refusal) {
     match refusal.fault {
         Fault::NoField { column } => {
             out.fill_one("column {}, ", column);
             write_cell(out, refusal.text.as_slice());
-            out.fill_one(NO_FIELD, file.as_slice());
+            out.fill_one(
+                ", is no field of {}: --columns names the columns, with nothing for one to leave out",
+                file.as_slice(),
+            );
         }
         Fault::Both {
             first,
             second,
             name,
-        } => out.fill_three(BOTH, first, second, name.as_slice()),
+        } => out.fill_three(
+            "columns {} and {} are both {}",
+            first,
+            second,
+            name.as_slice(),
+        ),
         Fault::NoColumn { name, card } => {
             out.fill_two("no column is {} (card {})", name.as_slice(), card)
         }
-        Fault::NoCode { name, card, types } => {
-            out.fill_two("no column is {} (card {})", name.as_slice(), card);
-            out.fill_one(NO_CODE, types);
-        }
-        Fault::Named { columns, named } => {
-            out.fill_two("it has {} columns, and --columns names {}", columns, named);
-        }
+        Fault::NoCode { name, card, types } => out.fill_three(
+            "no column is {} (card {}): the file has {} record types, and a row doesn't say which it is",
+            name.as_slice(),
+            card,
+            types,
+        ),
+        Fault::Named { columns, named } => out.fill_two(
+            "it has {} columns, and --columns names {}",
+            columns,
+            named,
+        ),
         _ => {}
     }
 }
 
+/// Writes what is wrong with the raw cells of a row.
 fn write_raw_fault(out: &mut TextWriter, fault: RowFault) {
     let sentence = match fault.fault {
         RawFault::StrayMark => "cell {} has a quotation mark and doesn't begin with one",
@@ -105,10 +126,11 @@ fn write_raw_fault(out: &mut TextWriter, fault: RowFault) {
 fn write_columns_fault(out: &mut TextWriter, fault: CellFault) {
     match fault {
         CellFault::LongCode => out.write_str(": it is one character"),
-        CellFault::LongText { length, width } => {
-            out.fill_one(": the text has {} characters, ", length);
-            out.fill_one("and the field {}", width);
-        }
+        CellFault::LongText { length, width } => out.fill_two(
+            ": the text has {} characters, and the field {}",
+            length,
+            width,
+        ),
         CellFault::NoNumber => out.write_str(": no number"),
         CellFault::Decimals(decimals) => out.fill_one(": the field has {} decimals", decimals),
         CellFault::Digits(digits) => {
@@ -118,6 +140,7 @@ fn write_columns_fault(out: &mut TextWriter, fault: CellFault) {
     }
 }
 
+/// Writes what is wrong with a cell.
 fn write_cell_fault(out: &mut TextWriter, text: &[u8], fault: TextFault) {
     match fault {
         TextFault::Columns(CellFault::Empty) => {
@@ -148,6 +171,7 @@ fn write_cell_fault(out: &mut TextWriter, text: &[u8], fault: TextFault) {
     }
 }
 
+/// Writes what is wrong with a row.
 fn write_row_fault(out: &mut TextWriter, has_header: bool, refusal: Refusal) {
     match refusal.fault {
         Fault::NoRow => out.write_str("there is no row"),
@@ -162,12 +186,13 @@ fn write_row_fault(out: &mut TextWriter, has_header: bool, refusal: Refusal) {
         Fault::LongRow => out.write_str("it has more than 1,048,576 bytes"),
         Fault::EmptyRow => out.write_str("it is empty"),
         Fault::Cells { cells, columns } => {
-            let named = match has_header {
-                true => "the header {}",
-                false => "{} columns have names",
+            let sentence = match (has_header, cells) {
+                (true, 1) => "it has {} cell, and the header {}",
+                (true, _) => "it has {} cells, and the header {}",
+                (false, 1) => "it has {} cell, and {} columns have names",
+                (false, _) => "it has {} cells, and {} columns have names",
             };
-            out.fill_one("it has {} {cell|cells}, and ", cells);
-            out.fill_one(named, columns);
+            out.fill_two(sentence, cells, columns);
         }
         Fault::NoType => out.write_str("it is of no type"),
         Fault::Shared {
@@ -178,8 +203,12 @@ fn write_row_fault(out: &mut TextWriter, has_header: bool, refusal: Refusal) {
             wants,
         } => {
             let (stands, wants) = (char::from(stands), char::from(wants));
-            out.fill_two("in column {} {} puts ", column, first.as_slice());
-            out.fill_one("\"{}\"", stands);
+            out.fill_three(
+                "in column {} {} puts \"{}\"",
+                column,
+                first.as_slice(),
+                stands,
+            );
             out.fill_two(", and {} \"{}\"", second.as_slice(), wants);
         }
         Fault::TooMany => out.write_str("a file has at most 10,000,000 records"),
@@ -188,11 +217,13 @@ fn write_row_fault(out: &mut TextWriter, has_header: bool, refusal: Refusal) {
     }
 }
 
+/// Writes the columns of a card, and what they have.
 fn write_columns(out: &mut TextWriter, at: CardColumns, text: Sample) {
     out.fill_three("columns {} to {} (card {}): ", at.first, at.last, at.card);
     write_cell(out, text.as_slice());
 }
 
+/// Writes what is wrong with a line that a job writes.
 fn write_written_fault(out: &mut TextWriter, refusal: Refusal) {
     match refusal.fault {
         Fault::NotPrinted { at, code } => {
@@ -203,10 +234,12 @@ fn write_written_fault(out: &mut TextWriter, refusal: Refusal) {
             write_columns(out, at, refusal.text);
             out.write_str(": it isn't the constant");
         }
-        Fault::Stray { column, byte, card } => {
-            out.fill_two("column {}: \"{}\" stands where ", column, char::from(byte));
-            out.fill_one("the line of card {} puts nothing", card);
-        }
+        Fault::Stray { column, byte, card } => out.fill_three(
+            "column {}: \"{}\" stands where the line of card {} puts nothing",
+            column,
+            char::from(byte),
+            card,
+        ),
         _ => write_row_fault(out, true, refusal),
     }
 }
@@ -234,6 +267,7 @@ fn write_line_fault(out: &mut TextWriter, file: &FileFields, refusal: Refusal) {
     }
 }
 
+/// Writes which row is meant, and the column of the cell.
 fn write_row(out: &mut TextWriter, number: u64, fault: Fault) {
     out.fill_one("row {}", number);
     if let Fault::Cell { column, label, .. } = fault {
@@ -245,6 +279,7 @@ fn write_row(out: &mut TextWriter, number: u64, fault: Fault) {
     out.write_str(": ");
 }
 
+/// Returns the columns of a line that a fault is about, if it is about some.
 fn columns_of(fault: Fault) -> Option<Columns> {
     let (first, last) = match fault {
         Fault::NoCharacter { column, .. } | Fault::Stray { column, .. } => (column, column),
@@ -266,6 +301,7 @@ fn place_of(file: FileName<'_>, refusal: Refusal) -> Place<'_> {
     }
 }
 
+/// Returns the diagnostic for a part of the input, which has these fields.
 pub(crate) fn input_diagnostic<'a>(
     alloc: Global,
     file: FileName<'a>,
@@ -288,113 +324,4 @@ pub(crate) fn input_diagnostic<'a>(
         Part::Line(_) => write_line_fault(out, fields, refusal),
     }
     draft.finish()
-}
-
-/// The most characters of a cell that a diagnostic shows.
-const MOST_SHOWN: usize = 30;
-
-#[derive(Drop)]
-struct Shown<'a> {
-    text: &'a mut TextWriter,
-    left: usize,
-    is_cut: bool,
-}
-
-fn hex_digit(digit: u32) -> char {
-    match u8::try_from(digit) {
-        Ok(digit) if digit < 10 => char::from(b'0' + digit),
-        Ok(digit) if digit < 16 => char::from(b'A' - 10 + digit),
-        _ => '?',
-    }
-}
-
-/// Writes a number in hexadecimal digits, at least `least` of them.
-pub(crate) fn write_hex(out: &mut TextWriter, number: u32, least: u32) {
-    let mut shown = Shown {
-        text: out,
-        left: MOST_SHOWN,
-        is_cut: false,
-    };
-    shown.put_hex(number, least);
-}
-
-impl Shown<'_> {
-    fn put(&mut self, character: char) {
-        if self.left == 0 {
-            self.is_cut = true;
-        } else {
-            self.left -= 1;
-            self.text.write_char(character);
-        }
-    }
-
-    fn put_hex(&mut self, number: u32, least: u32) {
-        for place in 0..8u32 {
-            let above = (7 - place) * 4;
-            if place.saturating_add(least) >= 8 || number >> above != 0 {
-                self.put(hex_digit(number >> above & 15));
-            }
-        }
-    }
-
-    /// Puts characters, and the number of one that isn't one of rpg2.
-    fn put_text(&mut self, text: &str) {
-        for character in text.chars() {
-            let byte = u8::try_from(u32::from(character)).unwrap_or(0);
-            if is_character(byte) {
-                self.put(character);
-            } else {
-                self.put('\\');
-                self.put('u');
-                self.put('{');
-                self.put_hex(u32::from(character), 1);
-                self.put('}');
-            }
-        }
-    }
-
-    fn put_byte(&mut self, byte: u8) {
-        self.put('\\');
-        self.put('x');
-        self.put_hex(u32::from(byte), 2);
-    }
-
-    /// Puts the characters before the first byte that is part of none, and that byte. Returns what follows.
-    fn put_some<'a>(&mut self, bytes: &'a [u8]) -> &'a [u8]
-        requires { 1 ≤ length bytes.now }
-    {
-        match str::from_utf8(bytes) {
-            Ok(text) => {
-                self.put_text(text);
-                &[]
-            }
-            Err(error) => {
-                let valid = error.valid_up_to().min(bytes.len() - 1);
-                if let Ok(text) = str::from_utf8(&bytes[..valid]) {
-                    self.put_text(text);
-                }
-                self.put_byte(bytes[valid]);
-                &bytes[valid + 1..]
-            }
-        }
-    }
-}
-
-/// Writes a cell in quotation marks, at most thirty characters of it.
-pub(crate) fn write_cell(out: &mut TextWriter, cell: &[u8]) {
-    out.write_char('"');
-    let mut shown = Shown {
-        text: out,
-        left: MOST_SHOWN,
-        is_cut: false,
-    };
-    let mut rest = cell;
-    for _ in 0..cell.len() {
-        if rest.is_empty() {
-            break;
-        }
-        rest = shown.put_some(rest);
-    }
-    let is_cut = shown.is_cut;
-    out.write_str(if is_cut { "..\"" } else { "\"" });
 }

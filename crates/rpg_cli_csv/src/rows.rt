@@ -8,7 +8,7 @@ use rpg_card_index::IndexedCards;
 use rpg_cli_answers::{Answer, Listener, RefusedRow, file_of, tell_all, tell_made};
 use rpg_cli_files::{FileFault, LineTarget, Reason, RecordSource};
 use rpg_cli_messages::source_diagnostics;
-use rpg_cli_words::{FileArgument, Request, RowArguments};
+use rpg_cli_words::{FileArgument, Request, RowArguments, RowsWay};
 use rpg_csv_columns::{Fault, FileFields, Part, Refusal, file_fields};
 use rpg_csv_lines::{Format, Header, Setting, Stop, lines_to_rows, rows_to_lines};
 use rpg_csv_outputs::written_fields;
@@ -18,11 +18,13 @@ use rpg_files::Counted;
 use rpg_record_lines::{Counts, Layout};
 use rpg_text::trimmed;
 use std::alloc::Global;
-use std::io::{BufWriter, Printer, Read, Write};
-use std::rt::Files;
+use std::fs::OpenFile;
+use std::io::{BufWriter, Read, Write};
 
+/// The most faults of a deck that are reported.
 const MOST_TOLD: u16 = 20;
 
+/// How many bytes of OUT are buffered.
 const WRITE_ROOM: usize = 65_536;
 
 /// How the rows of a file are written, and its fields.
@@ -98,18 +100,26 @@ pub fn file_rows<'a, L: Listener>(
         Some(name) => output_fields(alloc, request, source, layout, &name, listener)?,
         None => file_fields(alloc, source, layout),
     };
-    let refusal = match fields {
-        Ok(fields) => return Ok(Some(FileRows { arguments, fields })),
-        Err(refusal) => refusal,
-    };
-    match (refusal.part, refusal.fault) {
-        (_, Fault::NoMemory) => Err(Answer::NoMemory),
-        (Part::Card(number), fault) => {
+    match fields {
+        Ok(fields) => Ok(Some(FileRows { arguments, fields })),
+        Err(
+            Refusal {
+                fault: Fault::NoMemory,
+                ..
+            },
+        ) => Err(Answer::NoMemory),
+        Err(
+            Refusal {
+                part: Part::Card(number),
+                fault,
+                ..
+            },
+        ) => {
             let file = file_of(request, request.deck_argument());
             tell_made(listener, card_diagnostic(alloc, file, number, fault));
             Err(Answer::DeckRefused { card: Some(number) })
         }
-        _ => Err(Answer::NoMemory),
+        Err(_) => Err(Answer::NoMemory),
     }
 }
 
@@ -148,18 +158,21 @@ impl FileRows<'_> {
         requires write { faults_of writer.old < 2 ^ 64 - 1 }
     {
         let setting = self.setting();
-        let records = match self.arguments.makes_rows {
-            false => rows_to_lines(alloc, setting, reader, writer)?,
-            true => lines_to_rows(alloc, setting, reader, writer)?,
+        let records = match self.arguments.way {
+            RowsWay::ToLines => rows_to_lines(alloc, setting, reader, writer)?,
+            RowsWay::ToRows => lines_to_rows(alloc, setting, reader, writer)?,
         };
-        let dropped = 0;
         match writer.flush() {
-            Ok(()) => Ok(Counts { records, dropped }),
+            Ok(()) => Ok(Counts {
+                records,
+                dropped: 0,
+            }),
             Err(_) => Err(Stop::Write),
         }
     }
 }
 
+/// Returns the answer for a part of the input that is rejected. Reports it.
 fn refused<L: Listener>(
     alloc: Global,
     request: &Request,
@@ -169,8 +182,10 @@ fn refused<L: Listener>(
 ) -> Answer {
     let file = file_of(request, FileArgument::In);
     let has_header = rows.arguments.has_header;
-    let told = input_diagnostic(alloc, file, has_header, &rows.fields, refusal);
-    tell_made(listener, told);
+    tell_made(
+        listener,
+        input_diagnostic(alloc, file, has_header, &rows.fields, refusal),
+    );
     match refusal.part {
         Part::Row { number, .. } => Answer::RowRefused(RefusedRow::Row(number)),
         Part::Line(number) => Answer::RowRefused(RefusedRow::Line(number)),
@@ -179,12 +194,18 @@ fn refused<L: Listener>(
 }
 
 /// Converts rows to lines or lines to rows, for the files of the request. Reports what ends it early.
-pub fn convert_rows<R: Files + Input + Print, L: Listener>(
+pub fn convert_rows<
+    F: Read + Drop,
+    S: Read + Drop,
+    T: Write + OpenFile + Drop,
+    P: Write + Drop,
+    L: Listener,
+>(
     alloc: Global,
     request: &Request,
     rows: &FileRows<'_>,
-    source: RecordSource<R::File, R::Reader>,
-    target: LineTarget<'_, R::File, Printer<'_, R>>,
+    source: RecordSource<F, S>,
+    target: LineTarget<'_, T, P>,
     listener: &mut L,
 ) -> Result<Counts, Answer> {
     let Ok(buffered) = BufWriter::with_capacity(alloc, WRITE_ROOM, target) else {

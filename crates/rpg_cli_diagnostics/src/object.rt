@@ -61,6 +61,7 @@ fn write_at(alloc: Global, out: &mut Writer, at: At<'_>) -> Made<()> {
     }
 }
 
+/// Writes the places: one, or none.
 fn write_spans(alloc: Global, out: &mut Writer, place: Option<Place>) -> Made<()> {
     out.key("spans")?;
     out.begin_array()?;
@@ -117,6 +118,7 @@ fn write_open(
     out.begin_array()
 }
 
+/// Ends an object whose children are complete.
 pub fn end_object(out: &mut Writer) -> Made<()> {
     out.end_array()?;
     out.end_object()

@@ -1,7 +1,7 @@
-//! What a diagnostic says, and where it points; diagnostics under construction.
+//! What a diagnostic says, and where it points.
 
-use rpg_cli_text::{Piece, TextWriter, Topic};
-use std::alloc::{AllocError, Global};
+use rpg_cli_text::Topic;
+use std::alloc::AllocError;
 
 /// What was made, unless memory ran out for it.
 pub type Made<T> = Result<T, AllocError>;
@@ -116,6 +116,7 @@ impl<'a> Place<'a> {
         Place { at, ..self }
     }
 
+    /// Returns the same place, without a picture.
     pub fn without_picture(self) -> Place<'a> {
         self.with_picture(false)
     }
@@ -129,6 +130,7 @@ pub struct Child<'a> {
     pub message: String,
 }
 
+/// What is wrong, where, and what belongs to it.
 #[derive(Drop)]
 pub struct Diagnostic<'a> {
     pub level: Level,
@@ -137,122 +139,4 @@ pub struct Diagnostic<'a> {
     pub code: Option<Topic>,
     pub message: String,
     pub children: Vec<Child<'a>>,
-}
-
-/// A diagnostic under construction. Once an allocation fails, [`Draft::finish`] returns the error, so nothing in between has to.
-#[derive(Drop)]
-pub struct Draft<'a> {
-    alloc: Global,
-    level: Level,
-    place: Option<Place<'a>>,
-    code: Option<Topic>,
-    pub message: TextWriter,
-    children: Vec<Child<'a>>,
-}
-
-impl<'a> Draft<'a> {
-    pub fn new(alloc: Global, level: Level, place: Option<Place<'a>>, code: Option<Topic>) -> Self {
-        Draft {
-            alloc,
-            level,
-            place,
-            code,
-            message: TextWriter::new(alloc),
-            children: Vec::new(alloc),
-        }
-    }
-
-    /// Begins an error at a place, without a code.
-    pub fn error(alloc: Global, place: Place<'a>) -> Self {
-        Draft::new(alloc, Level::Error, Some(place), None)
-    }
-
-    pub fn note(alloc: Global, place: Place<'a>) -> Self {
-        Draft::new(alloc, Level::Note, Some(place), None)
-    }
-
-    pub fn path(&self) -> Option<&'a str> {
-        Some(self.place?.file.path)
-    }
-
-    /// Returns an empty text, for a remark.
-    pub fn text(&self) -> TextWriter {
-        TextWriter::new(self.alloc)
-    }
-
-    pub fn add(&mut self, place: Option<Place<'a>>, message: TextWriter) {
-        let Ok(message) = message.finish() else {
-            return self.message.lose();
-        };
-        if self.children.push(Child { place, message }).is_err() {
-            self.message.lose();
-        }
-    }
-
-    /// Adds a remark about the same place, which isn't shown again.
-    pub fn remark(&mut self, message: TextWriter) {
-        let place = self.place.map(|place| place.without_picture());
-        self.add(place, message);
-    }
-
-    /// Returns the diagnostic, after a sentence with a piece at each of its places.
-    pub fn filled(mut self, sentence: &str, pieces: &[Piece<'_>]) -> Made<Diagnostic<'a>> {
-        self.message.fill(sentence, pieces);
-        self.finish()
-    }
-
-    pub fn finish(self) -> Made<Diagnostic<'a>> {
-        let Draft {
-            level,
-            place,
-            code,
-            message,
-            children,
-            ..
-        } = self;
-        Ok(Diagnostic {
-            level,
-            place,
-            code,
-            message: message.finish()?,
-            children,
-        })
-    }
-}
-
-/// Diagnostics in their order, up to the first that memory ran out for.
-#[derive(Drop)]
-pub struct Diagnostics<'a> {
-    list: Vec<Diagnostic<'a>>,
-    ran_out: bool,
-}
-
-impl<'a> Diagnostics<'a> {
-    pub fn new(alloc: Global) -> Self {
-        let (list, ran_out) = (Vec::new(alloc), false);
-        Diagnostics { list, ran_out }
-    }
-
-    /// Adds a diagnostic. After one that memory ran out for, none is added.
-    pub fn push(&mut self, made: Made<Diagnostic<'a>>) {
-        match made {
-            Ok(diagnostic) if !self.ran_out => {
-                self.ran_out = self.list.push(diagnostic).is_err();
-            }
-            _ => self.ran_out = true,
-        }
-    }
-
-    /// Notes that memory ran out for the next one.
-    pub fn lose(&mut self) {
-        self.ran_out = true;
-    }
-
-    pub fn as_slice(&self) -> &[Diagnostic<'a>] {
-        &self.list
-    }
-
-    pub fn has_lost(&self) -> bool {
-        self.ran_out
-    }
 }

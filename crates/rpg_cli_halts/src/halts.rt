@@ -1,7 +1,8 @@
 //! Halts, and the columns of a record that should be a number but aren't.
 
 use crate::held::{HaltedRecord, Lower};
-use crate::source::{HaltedSource, add_commas, add_types, write_indexed_fields, write_too_long};
+use crate::source::HaltedSource;
+use crate::types::{add_commas, add_types, write_indexed_fields, write_too_long};
 use rpg_cli_diagnostics::{Columns, Diagnostic, Draft, FileName, Level, Made, Place as FilePlace};
 use rpg_cli_messages::write_byte_cause;
 use rpg_cli_refusals::write_instruction_at;
@@ -44,12 +45,20 @@ impl HaltedCycle {
         }
     }
 
+    /// Whether the text of a record shows what was wrong with it.
+    fn is_of_text(self) -> bool {
+        self.place.is_none()
+            && matches!(
+                self.halt,
+                Halt::NoRecordType | Halt::BadDigit | Halt::BadRecord | Halt::OutOfSequence
+            )
+    }
+
     /// Whether it takes the record to report the halt in full; for one file, only if the record's text is needed.
     pub fn needs_record(self, program: &Verified) -> bool {
-        let shows_in_text = self.place.is_none() && !matches!(self.halt, Halt::IndicatorOn);
         match self.cycles_of_records() {
             None | Some(0) => false,
-            Some(_) => has_two_files(program) || shows_in_text,
+            Some(_) => has_two_files(program) || self.is_of_text(),
         }
     }
 }
@@ -99,12 +108,8 @@ enum RecordProblem<'a> {
 }
 
 impl<'a> RecordProblem<'a> {
-    fn of(
-        program: &'a Verified,
-        halted: HaltedCycle,
-        record: Option<&'a HaltedRecord>,
-    ) -> Option<Self> {
-        let (record, rows) = (record?, program.program().rows());
+    fn of(program: &'a Verified, halted: HaltedCycle, record: &'a HaltedRecord) -> Option<Self> {
+        let rows = program.program().rows();
         match (halted.place, halted.halt) {
             (None, Halt::BadRecord) => {
                 let text = record.text;
@@ -124,6 +129,7 @@ impl<'a> RecordProblem<'a> {
         }
     }
 
+    /// Returns the columns that it is about, and the text of the record.
     fn columns(self) -> Option<(Columns, &'a [u8])> {
         let (first, last, text) = match self {
             RecordProblem::Nothing => return None,
@@ -145,9 +151,13 @@ fn write_columns(out: &mut TextWriter, bad: BadInput, text: &[u8]) {
     let BadInput { input, column, .. } = bad;
     let character = text.get(column.saturating_sub(1)..column).unwrap_or(&[]);
     let columns = columns_of(text, input);
-    out.fill_two(": columns {} to {} are ", input.from, input.to);
-    out.fill_two("\"{}\", and {} in ", columns, character);
-    out.fill_one("column {} isn't a digit", column);
+    out.fill_three(
+        ": columns {} to {} are \"{}\"",
+        input.from,
+        input.to,
+        columns,
+    );
+    out.fill_two(", and {} in column {} isn't a digit", character, column);
 }
 
 const LOWER: &str = "match value \"{}\" is lower than \"{}\" of ";
@@ -156,6 +166,7 @@ const LOWER: &str = "match value \"{}\" is lower than \"{}\" of ";
 const BETWEEN: &str =
     "it was cycle {}, which writes the detail lines of record {} and then reads record {}, or reaches the end of the input";
 
+/// Writes which match value is lower than that of an earlier record.
 fn write_lower(out: &mut TextWriter, lower: Lower<'_>) {
     out.fill(LOWER, &[lower.value.into(), lower.before.into()]);
     match lower.follows {
@@ -173,6 +184,7 @@ impl<'a> HaltContext<'a> {
         }
     }
 
+    /// Returns where it halted: the record and its columns, if they are known.
     fn place(self) -> FilePlace<'a> {
         match (self.record, self.found.columns()) {
             (None, _) => self.file().whole(),
@@ -238,7 +250,8 @@ impl<'a> HaltContext<'a> {
         let before = self.halted.cycles.saturating_sub(1);
         let end = match before {
             0 => "; there was no cycle before it",
-            _ => "; the output of the {} {cycle|cycles} before it is kept",
+            1 => "; the output of the 1 cycle before it is kept",
+            _ => "; the output of the {} cycles before it is kept",
         };
         out.fill_one(end, before);
     }
@@ -267,7 +280,12 @@ pub fn halt_diagnostic<'a>(
     record: Option<&'a HaltedRecord<'_>>,
     source: Option<HaltedSource<'a>>,
 ) -> Made<Diagnostic<'a>> {
-    let found = RecordProblem::of(program, halted, record).unwrap_or(RecordProblem::Nothing);
+    let found = match record {
+        Some(record) => RecordProblem::of(program, halted, record).unwrap_or(
+            RecordProblem::Nothing,
+        ),
+        None => RecordProblem::Nothing,
+    };
     let context = HaltContext {
         names,
         program,

@@ -36,6 +36,7 @@ pub struct HaltedRecord<'a> {
     follows: Option<u64>,
 }
 
+/// A record whose match value is lower than that of an earlier one.
 #[derive(Clone, Copy)]
 pub(crate) struct Lower<'a> {
     /// The column in which its first match field begins, from 1.
@@ -91,15 +92,21 @@ impl Taken {
     }
 }
 
+/// Returns the first line of some bytes without its end, and the bytes after it.
+fn line_of(bytes: &[u8]) -> (&[u8], &[u8]) {
+    if bytes.is_empty() {
+        (bytes, bytes)
+    } else {
+        first_line(bytes)
+    }
+}
+
 impl<'a> LastRead<'a> {
     /// Returns what was read before the last line, and that line without its end.
     fn parted(self) -> (&'a [u8], &'a [u8]) {
         let at = self.bytes.len().saturating_sub(self.left);
         let (before, line) = self.bytes.split_at(at);
-        if line.is_empty() {
-            return (before, line);
-        }
-        (before, first_line(line).0)
+        (before, line_of(line).0)
     }
 }
 

@@ -4,6 +4,7 @@
 mod halts;
 mod held;
 mod source;
+mod types;
 
 pub use halts::{HaltedCycle, InputNames, halt_diagnostic};
 pub use held::{HaltedRecord, LastRead};

@@ -2,8 +2,8 @@
 use Rattle.std.specs.Prelude.{◌≡◌, ◌⊎◌, Result, Ok, Err, IsErrAnd, ⊤}
 use Rattle.rpg_cli_answers.specs.declared.answer.Answer.{Answer}
 use Rattle.rpg_cli_answers.specs.declared.answer.Answer.TheVariants as answers
-use Rattle.rpg_cli_answers.specs.declared.answer.CommandStop.{CommandStop}
-use Rattle.rpg_cli_answers.specs.declared.answer.CommandStop.TheVariants as stops
+use Rattle.rpg_cli_answers.specs.declared.stop.CommandStop.{CommandStop}
+use Rattle.rpg_cli_answers.specs.declared.stop.CommandStop.TheVariants as stops
 use Rattle.rpg_cli_jobs.specs.declared.keeping.Disposition.{Disposition}
 use Rattle.rpg_cli_jobs.specs.declared.keeping.Disposition.TheVariants as dispositions
 use Rattle.rpg_engine.specs.JobEnd.{JobEnd}

@@ -19,7 +19,7 @@ use std::alloc::{AllocError, Global};
 const MARGIN: usize = 6;
 
 fn write_card(out: &mut TextWriter, number: usize, line: &[u8]) {
-    out.fill_one("{:>5}", number);
+    out.fill("{:>5}", &[number.into()]);
     let text = trimmed(line);
     if !text.is_empty() {
         out.write_char(' ');
@@ -87,34 +87,44 @@ pub(crate) fn write_cards(
     Ok(())
 }
 
+fn counted(count: usize) -> &'static str {
+    if count == 1 { "" } else { "s" }
+}
+
 /// Writes how many of the cards can't be read, which ones the tables cover, and whether other faults are looked for later.
 fn write_unread(out: &mut TextWriter, cards: usize, unread: usize, others: usize, is_later: bool) {
-    out.fill_one("{} {card|cards} that can't be read", unread);
+    out.fill_two("{} card{} that can't be read", unread, counted(unread));
     if others > 0 {
-        out.fill_one(", {} {fault|faults}", others);
+        out.fill_two(", {} fault{}", others, counted(others));
     }
-    let covered = cards.saturating_sub(unread);
-    out.write_str(match covered {
-        0 => "\n",
-        1 => "\nthe tables below cover the other card",
-        _ => "\nthe tables below cover the other cards",
-    });
-    out.write_str(match (is_later, covered) {
-        (false, _) => "\n",
-        (true, 0) => "other checks run once all cards can be read\n",
-        (true, _) => "; other checks run once all cards can be read\n",
-    });
+    let covered = match cards.saturating_sub(unread) {
+        0 => "",
+        1 => "the tables below cover the other card",
+        _ => "the tables below cover the other cards",
+    };
+    let later = match (is_later, covered) {
+        (false, _) => "",
+        (true, "") => "other checks run once all cards can be read",
+        (true, _) => "; other checks run once all cards can be read",
+    };
+    out.fill_two("\n{}{}\n", covered, later);
 }
 
 fn write_head(out: &mut TextWriter, path: &str, cards: usize, faults: &[&CardFault], left: Unread) {
     out.write_shown(path.as_bytes());
-    out.fill_one(": {} {card|cards}, ", cards);
+    out.fill_two(": {} card{}, ", cards, counted(cards));
     let unread = count_unread(faults);
     match (unread, faults.len().saturating_sub(unread)) {
         (0, 0) => out.write_str("no fault\n"),
-        (0, count) => out.fill_one("{} {fault|faults}\n", count),
+        (0, count) => out.fill_two("{} fault{}\n", count, counted(count)),
         (_, others) => write_unread(out, cards, unread, others, !left.leaves_all()),
     }
+}
+
+fn write_fields(alloc: Global, out: &mut TextWriter, source: &IndexedCards) -> Done {
+    let mut names = Names::of(alloc, source.as_slice())?;
+    names.write(out, source)?;
+    write_constants(alloc, out, source.as_slice(), names.count())
 }
 
 fn write_contents(
@@ -128,23 +138,14 @@ fn write_contents(
     write_tables(out, cards, has_all_tables);
     write_records(out, source);
     write_order(alloc, out, source)?;
-    let mut names = Names::of(alloc, cards)?;
-    names.write(out, source)?;
-    write_constants(alloc, out, cards, names.count())?;
+    write_fields(alloc, out, source)?;
     Labels::of(alloc, cards)?.write(out);
     Indicators::of(alloc, cards)?.write(out);
     write_lines(out, source);
     Ok(())
 }
 
-/// Returns the whole listing of a source, with or without faults: its cards, each with its faults; its files, tables, record types with
-/// their fields; names, constants, labels and indicators with the cards that use them; and its lines as they are printed. For cards that
-/// can't be read the listing has only the faults. `path` is the name of the source.
-pub fn source_listing(alloc: Global, path: &str, text: &[u8]) -> Made<String> {
-    let Ok(judged) = source_faults(alloc, text) else {
-        return Err(AllocError);
-    };
-    let known = KnownFaults::of(alloc, text, &judged)?;
+fn cards_text(alloc: Global, path: &str, text: &[u8], known: &KnownFaults<'_>) -> Made<String> {
     let lines = lines_of(alloc, text)?;
     let faults = known.faults(alloc)?;
     let source = IndexedCards::new(alloc, known.cards())?;
@@ -155,4 +156,15 @@ pub fn source_listing(alloc: Global, path: &str, text: &[u8]) -> Made<String> {
     write_cards(alloc, &mut out, &lines, cards, &faults)?;
     write_contents(alloc, &mut out, &source, known.unread.leaves_tables())?;
     out.finish()
+}
+
+/// Returns the whole listing of a source, with or without faults: its cards, each with its faults; its files, tables, record types with
+/// their fields; names, constants, labels and indicators with the cards that use them; and its lines as they are printed. For cards that
+/// can't be read the listing has only the faults. `path` is the name of the source.
+pub fn source_listing(alloc: Global, path: &str, source: &[u8]) -> Result<String, AllocError> {
+    let Ok(judged) = source_faults(alloc, source) else {
+        return Err(AllocError);
+    };
+    let known = KnownFaults::of(alloc, source, &judged)?;
+    cards_text(alloc, path, source, &known)
 }

@@ -24,12 +24,12 @@ pub(crate) fn write_heading(
     file: Option<&FileSpec>,
     counted: &str,
 ) {
-    out.fill_one("\n{}", rows);
+    out.fill("\n{}", &[rows.into()]);
     if let Some(name) = name {
-        out.fill_one(" OF {}", name_text(name.as_slice()));
+        out.fill(" OF {}", &[name_text(name.as_slice()).into()]);
     }
     if let Some(file) = file {
-        out.fill_two(", {} {}", file.record_length, counted);
+        out.fill(", {} {}", &[file.record_length.into(), counted.into()]);
     }
     out.write_char('\n');
 }
@@ -100,21 +100,23 @@ fn write_table(
     table: &TableSpec,
     beginning: Option<u16>,
 ) {
-    let is_table = is_table(&table.name);
-    let kind = if is_table { "table" } else { "array" };
-    let name = name_text(table.name.as_slice());
-    out.fill_three("  {:>4}  {:<6}  {}", card, name, kind);
+    let row = if is_table(&table.name) {
+        "  {:>4}  {:<6}  table"
+    } else {
+        "  {:>4}  {:<6}  array"
+    };
+    out.fill_two(row, card, name_text(table.name.as_slice()));
     out.fill_two("  {:>7}  {:>6}  ", extension.entries, table.length);
     write_decimals(out, table.decimals);
     let order = if table.ascending { "ascending" } else { "" };
     out.fill_one("  {:<9}  ", order);
     match (extension.entries_per_card, &extension.alternating) {
         (None, _) => out.write_str("no data"),
-        (Some(count), None) => out.fill_one("{} on a card", count),
-        (Some(count), Some(_)) => out.fill_one("{} pairs on a card", count),
+        (Some(count), None) => out.fill("{} on a card", &[count.into()]),
+        (Some(count), Some(_)) => out.fill("{} pairs on a card", &[count.into()]),
     }
     if let Some(beginning) = beginning {
-        out.fill_one(", after card {}", beginning);
+        out.fill(", after card {}", &[beginning.into()]);
     }
     out.end_line();
 }
@@ -130,6 +132,7 @@ fn next_deck(rest: &mut &[SpecCard]) -> Option<u16> {
     None
 }
 
+/// Writes decimals in their column, for tables and fields.
 pub(crate) fn write_decimals(out: &mut TextWriter, decimals: Option<u8>) {
     match decimals {
         Some(decimals) => out.fill("{:>8}", &[decimals.into()]),

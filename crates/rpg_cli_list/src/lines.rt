@@ -25,20 +25,22 @@ fn lines_in<const FIRST: u8, const LAST: u8>(column: Option<Within<FIRST, LAST>>
 
 /// Returns how the form moves: if all four columns are blank, it spaces one line after.
 fn spacing_of(movement: Movement) -> Spacing {
-    let is_blank = movement.space_before.is_none()
-        && movement.space_after.is_none()
-        && movement.skip_before.is_none()
-        && movement.skip_after.is_none();
-    Spacing {
+    let mut spacing = Spacing {
         skip_before: lines_in(movement.skip_before),
         space_before: lines_in(movement.space_before),
         skip_after: lines_in(movement.skip_after),
-        space_after: if is_blank {
-            1
-        } else {
-            lines_in(movement.space_after)
-        },
+        space_after: lines_in(movement.space_after),
+    };
+    if let Movement {
+        space_before: None,
+        space_after: None,
+        skip_before: None,
+        skip_after: None,
+    } = movement
+    {
+        spacing.space_after = 1;
     }
+    spacing
 }
 
 fn write_head(
@@ -46,10 +48,10 @@ fn write_head(
     card: u16,
     record: &OutputRecord,
     file: Option<&FileSpec>,
-    own: &[SpecCard],
+    after: &[SpecCard],
 ) {
     let time = time_word(time_of(record.time));
-    out.fill_two("  line, card {}: {}", card, time);
+    out.fill("  line, card {}: {}", &[card.into(), time.into()]);
     match file {
         Some(file) if use_of(file) == FileUse::Printer => {
             write_spacing(out, spacing_of(record.movement));
@@ -57,21 +59,24 @@ fn write_head(
         _ => {}
     }
     write_when(out, ", when", in_places(record.conditions));
-    for card in own {
+    for card in after {
         match card.output() {
+            Some(OutputSpec::Record(_)) => break,
             Some(OutputSpec::And(conditions)) => write_when(out, " and", in_places(*conditions)),
             Some(OutputSpec::Or(conditions)) => write_when(out, ", or", in_places(*conditions)),
-            _ => {}
+            Some(OutputSpec::Field(_)) | None => {}
         }
     }
     out.write_char('\n');
 }
 
-fn write_chart(out: &mut TextWriter, source: &IndexedCards, length: u16, own: &[SpecCard]) {
+fn write_chart(out: &mut TextWriter, source: &IndexedCards, length: u16, after: &[SpecCard]) {
     let mut chart = Chart::new(length, b' ');
-    for card in own {
-        if let Some(field) = card.output_field() {
-            draw_field(&mut chart, source, field);
+    for card in after {
+        match card.output() {
+            Some(OutputSpec::Record(_)) => break,
+            Some(OutputSpec::Field(field)) => draw_field(&mut chart, source, field),
+            Some(OutputSpec::And(_) | OutputSpec::Or(_)) | None => {}
         }
     }
     chart.write(out);
@@ -94,8 +99,8 @@ fn write_places(out: &mut TextWriter, source: &IndexedCards, field: &OutputField
         None => None,
     };
     match first {
-        Some(first) => out.fill_two("{:>4}-{:<4}", first, end),
-        None => out.fill_one("    -{:<4}", end),
+        Some(first) => out.fill("{:>4}-{:<4}", &[first.into(), end.into()]),
+        None => out.fill("    -{:<4}", &[end.into()]),
     }
 }
 
@@ -103,11 +108,12 @@ fn write_entry(out: &mut TextWriter, entry: &Entry) {
     out.write_str(name_text(entry.name.as_slice()));
     match &entry.index {
         None => {}
-        Some(EntryIndex::Literal(index)) => out.fill_one(",{}", *index),
-        Some(EntryIndex::Name(index)) => out.fill_one(",{}", name_text(index.as_slice())),
+        Some(EntryIndex::Literal(index)) => out.fill(",{}", &[(*index).into()]),
+        Some(EntryIndex::Name(index)) => out.fill(",{}", &[name_text(index.as_slice()).into()]),
     }
 }
 
+/// Writes the field or the constant, and how it is edited.
 fn write_printed(out: &mut TextWriter, field: &OutputField) {
     if let Some(entry) = &field.operand {
         write_entry(out, entry);
@@ -138,29 +144,23 @@ fn write_line(
     out: &mut TextWriter,
     source: &IndexedCards,
     file: Option<&FileSpec>,
-    own: &[SpecCard],
+    after: &[SpecCard],
 ) {
     if let Some(file) = file {
-        write_chart(out, source, file.record_length, own);
+        write_chart(out, source, file.record_length, after);
     }
     let mut heading = "    card  places     printed\n";
-    for card in own {
-        if let Some(field) = card.output_field() {
-            out.write_str(heading);
-            heading = "";
-            write_field(out, source, card.number, field);
+    for card in after {
+        match card.output() {
+            Some(OutputSpec::Record(_)) => break,
+            Some(OutputSpec::Field(field)) => {
+                out.write_str(heading);
+                heading = "";
+                write_field(out, source, card.number, field);
+            }
+            Some(OutputSpec::And(_) | OutputSpec::Or(_)) | None => {}
         }
     }
-}
-
-/// Returns the cards of a line or a record type: those up to the next one.
-pub(crate) fn own_cards(after: &[SpecCard]) -> &[SpecCard] {
-    for (count, card) in after.iter().enumerate() {
-        if card.line().is_some() || card.record_type().is_some() {
-            return after.get(..count).unwrap_or(after);
-        }
-    }
-    after
 }
 
 pub(crate) fn write_lines(out: &mut TextWriter, source: &IndexedCards) {
@@ -183,9 +183,8 @@ pub(crate) fn write_lines(out: &mut TextWriter, source: &IndexedCards) {
             write_heading(out, "LINES", record.file.as_ref(), file, counted);
         }
         is_first = false;
-        let own = own_cards(after);
-        write_head(out, card.number, record, file, own);
-        write_line(out, source, file, own);
+        write_head(out, card.number, record, file, after);
+        write_line(out, source, file, after);
     }
 }
 

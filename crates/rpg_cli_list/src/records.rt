@@ -1,7 +1,7 @@
 //! Record types with their codes and fields, and the `sort` command for each input file with control or match fields.
 
 use crate::files::{write_decimals, write_heading};
-use crate::lines::{Chart, MOST_DRAWN, own_cards};
+use crate::lines::{Chart, MOST_DRAWN};
 use rpg_card_index::IndexedCards;
 use rpg_cards::{SpecCard, number_of, shows_of};
 use rpg_cli_list_names::Done;
@@ -10,9 +10,10 @@ use rpg_cli_text::TextWriter;
 use rpg_sheet_specs::{FileSpec, InputFieldSpec, InputSpec, RecordCode, RecordType, Three, Word};
 use std::alloc::{AllocError, Global};
 
+/// Writes which type it is, and which indicator it turns on.
 fn write_head(out: &mut TextWriter, card: u16, record_type: &RecordType) {
     let sequence = name_text(record_type.sequence.as_slice());
-    out.fill_two("  type {}, card {}", sequence, card);
+    out.fill("  type {}, card {}", &[sequence.into(), card.into()]);
     write_named(out, ", turns on {}", number_of(record_type.indicator));
     out.write_char('\n');
 }
@@ -35,13 +36,17 @@ fn write_all_codes(
     out: &mut TextWriter,
     card: u16,
     codes: &Three<Option<RecordCode>>,
-    own: &[SpecCard],
+    after: &[SpecCard],
 ) {
     let mut is_any = write_codes(out, card, codes) == 0;
-    for card in own {
-        if let Some(InputSpec::And(codes)) = card.input() {
-            write_codes(out, card.number, codes);
-            is_any = false;
+    for card in after {
+        match card.input() {
+            Some(InputSpec::Type(_)) => break,
+            Some(InputSpec::And(codes)) => {
+                write_codes(out, card.number, codes);
+                is_any = false;
+            }
+            Some(InputSpec::Field(_)) | None => {}
         }
     }
     if is_any {
@@ -56,15 +61,15 @@ fn write_field(out: &mut TextWriter, card: u16, field: &InputFieldSpec) {
     if from > to {
         out.write_str("     -");
     } else {
-        out.fill_one("{:>6}", usize::from(to - from) + 1);
+        out.fill("{:>6}", &[(usize::from(to - from) + 1).into()]);
     }
     out.write_str("  ");
     write_decimals(out, field.decimals);
     if let Some(level) = field.level {
-        out.fill_one("  L{}", level.number());
+        out.fill("  L{}", &[level.number().into()]);
     }
     if let Some(level) = field.match_level {
-        out.fill_one("  M{}", level.number());
+        out.fill("  M{}", &[level.number().into()]);
     }
     let sentences = ["  plus {}", "  minus {}", "  zero or blank {}"];
     write_shows(out, sentences, shows_of(field.indicators));
@@ -73,36 +78,47 @@ fn write_field(out: &mut TextWriter, card: u16, field: &InputFieldSpec) {
 
 /// Draws the record: an X for each character of a text, a 9 for each digit, a point outside all
 /// fields.
-fn write_layout(out: &mut TextWriter, length: u16, own: &[SpecCard]) {
+fn write_layout(out: &mut TextWriter, length: u16, after: &[SpecCard]) {
     let mut chart = Chart::new(length, b'.');
-    for card in own {
-        if let Some(field) = card.input_field() {
-            let letter = if field.decimals.is_some() { b'9' } else { b'X' };
-            chart.fill(field.from, field.to, letter);
+    for card in after {
+        match card.input() {
+            Some(InputSpec::Type(_)) => break,
+            Some(InputSpec::Field(field)) => {
+                let letter = if field.decimals.is_some() { b'9' } else { b'X' };
+                chart.fill(field.from, field.to, letter);
+            }
+            Some(InputSpec::And(_)) | None => {}
         }
     }
     chart.write(out);
 }
 
-/// Draws a short record, and writes the fields of a type below a heading, if there are any.
-fn write_fields(out: &mut TextWriter, file: Option<&FileSpec>, own: &[SpecCard]) {
+/// Writes the fields of a type below a heading, if there are any.
+fn write_fields(out: &mut TextWriter, file: Option<&FileSpec>, after: &[SpecCard]) {
     let mut is_first = true;
-    for card in own {
-        let Some(field) = card.input_field() else {
-            continue;
+    for card in after {
+        let field = match card.input() {
+            Some(InputSpec::Type(_)) => break,
+            Some(InputSpec::Field(field)) => field,
+            Some(InputSpec::And(_)) | None => continue,
         };
-        match file {
-            Some(file) if is_first && file.record_length <= MOST_DRAWN => {
-                write_layout(out, file.record_length, own);
-            }
-            _ => {}
-        }
         if is_first {
-            out.write_str("    card  columns    field   length  decimals\n");
+            write_field_heading(out, file, after);
         }
         is_first = false;
         write_field(out, card.number, field);
     }
+}
+
+/// Draws a short record, and writes the heading of its fields.
+fn write_field_heading(out: &mut TextWriter, file: Option<&FileSpec>, after: &[SpecCard]) {
+    match file {
+        Some(file) if file.record_length <= MOST_DRAWN => {
+            write_layout(out, file.record_length, after);
+        }
+        _ => {}
+    }
+    out.write_str("    card  columns    field   length  decimals\n");
 }
 
 pub(crate) fn write_records(out: &mut TextWriter, source: &IndexedCards) {
@@ -121,19 +137,26 @@ pub(crate) fn write_records(out: &mut TextWriter, source: &IndexedCards) {
             write_heading(out, "RECORDS", record_type.file.as_ref(), file, "columns");
         }
         is_first = false;
-        let own = own_cards(after);
         write_head(out, card.number, record_type);
-        write_all_codes(out, card.number, &record_type.codes, own);
-        write_fields(out, file, own);
+        write_all_codes(out, card.number, &record_type.codes, after);
+        write_fields(out, file, after);
     }
 }
 
-/// Returns the level of a field among the match fields of its type, or among its control fields.
-fn level_of(field: &InputFieldSpec, is_match: bool) -> Option<u8> {
-    if is_match {
-        Some(field.match_level?.number())
-    } else {
-        Some(field.level?.number())
+/// The fields by which records are in sequence.
+#[derive(Clone, Copy, PartialEq, Eq)]
+enum Keys {
+    Match,
+    Control,
+}
+
+impl Keys {
+    /// Returns the level that a field has among these.
+    fn level_of(self, field: &InputFieldSpec) -> Option<u8> {
+        match self {
+            Keys::Match => Some(field.match_level?.number()),
+            Keys::Control => Some(field.level?.number()),
+        }
     }
 }
 
@@ -147,18 +170,20 @@ struct TypeKeys {
 
 impl TypeKeys {
     /// Returns the keys of the type whose cards follow: the highest level first.
-    fn of(alloc: Global, after: &[SpecCard], are_matches: bool) -> Result<Self, AllocError> {
+    fn of(alloc: Global, keys: Keys, after: &[SpecCard]) -> Result<Self, AllocError> {
         let mut out = TextWriter::new(alloc);
         let (mut has_numbers, mut has_texts) = (false, false);
         for below in 0..9u8 {
-            for card in own_cards(after) {
-                let Some(field) = card.input_field() else {
-                    continue;
+            for card in after {
+                let field = match card.input() {
+                    Some(InputSpec::Type(_)) => break,
+                    Some(InputSpec::Field(field)) => field,
+                    Some(InputSpec::And(_)) | None => continue,
                 };
-                if level_of(field, are_matches) == Some(9 - below) {
+                if keys.level_of(field) == Some(9 - below) {
                     let is_number = field.decimals.is_some();
-                    let letter = if is_number { "n" } else { "" };
-                    out.fill_three(" -k1.{},1.{}{}", field.from, field.to, letter);
+                    out.fill(" -k1.{},1.{}", &[field.from.into(), field.to.into()]);
+                    out.write_str(if is_number { "n" } else { "" });
                     has_numbers |= is_number;
                     has_texts |= !is_number;
                 }
@@ -173,9 +198,9 @@ impl TypeKeys {
 
     /// Returns the match fields of a type, or its control fields if it has none.
     fn of_type(alloc: Global, after: &[SpecCard]) -> Result<Self, AllocError> {
-        let keys = TypeKeys::of(alloc, after, true)?;
+        let keys = TypeKeys::of(alloc, Keys::Match, after)?;
         if keys.options.is_empty() {
-            return TypeKeys::of(alloc, after, false);
+            return TypeKeys::of(alloc, Keys::Control, after);
         }
         Ok(keys)
     }
@@ -216,12 +241,9 @@ fn any_has_keys(after: &[SpecCard]) -> bool {
     false
 }
 
-const LETTERS: &str =
-    "    unless a column of a text has letters and digits: letters come first here\n";
-
 /// Writes the command for a file, given the cards after that of its first type.
 fn write_command(alloc: Global, out: &mut TextWriter, file: &Word<8>, after: &[SpecCard]) -> Done {
-    out.fill_one("  {}: ", name_text(file.as_slice()));
+    out.fill("  {}: ", &[name_text(file.as_slice()).into()]);
     let first = TypeKeys::of_type(alloc, after)?;
     if !are_alike(alloc, &first, after)? {
         out.write_str("no sort does: its types don't have these fields in the same columns\n");
@@ -234,7 +256,9 @@ fn write_command(alloc: Global, out: &mut TextWriter, file: &Word<8>, after: &[S
         out.write_str("    unless a number has a sign: no sort ignores it\n");
     }
     if first.has_texts {
-        out.write_str(LETTERS);
+        out.write_str(
+            "    unless a column of a text has letters and digits: letters come first here\n",
+        );
     }
     Ok(())
 }
@@ -245,11 +269,13 @@ pub(crate) fn write_order(alloc: Global, out: &mut TextWriter, source: &IndexedC
     let mut rest = source.as_slice();
     while let Some((card, after)) = rest.split_first() {
         rest = after;
-        let Some(record_type) = card.record_type() else {
-            continue;
-        };
-        match &record_type.file {
-            Some(file) if any_has_keys(after) => {
+        match card.record_type() {
+            Some(
+                RecordType {
+                    file: Some(file),
+                    ..
+                },
+            ) if any_has_keys(after) => {
                 out.write_str(heading);
                 heading = "";
                 write_command(alloc, out, file, after)?;

@@ -1,6 +1,6 @@
 //! The indicators of a source: what turns them on and off, and which cards test them.
 
-use crate::names::Done;
+use crate::mentions::Done;
 use rpg_cards::{SpecCard, level, line_conditions_on, number_of};
 use rpg_cli_show_fields::Indicator;
 use rpg_cli_text::{Piece, TextWriter};
@@ -17,6 +17,7 @@ const MATCHING: u8 = 129;
 const HEADING: &str =
     "\nINDICATORS\n      turned on by                              tested on (N: where it's off)\n";
 
+/// The width of the column of what turns an indicator on.
 const TURNED: usize = 40;
 
 /// How many cards that test an indicator go on a line.
@@ -33,6 +34,7 @@ pub fn overflow_of(file: &FileSpec) -> Option<u8> {
     Some(file.overflow?.number())
 }
 
+/// A card that tests an indicator.
 #[derive(Clone, Copy)]
 struct Testing {
     card: u16,
@@ -54,8 +56,10 @@ pub struct Indicators {
 fn unused(alloc: Global) -> Result<Indicators, AllocError> {
     let mut uses = Vec::with_capacity(alloc, AFTER)?;
     for _ in 0..AFTER {
-        let (turned, tested) = (Vec::new(alloc), Vec::new(alloc));
-        uses.push(IndicatorUses { turned, tested })?;
+        uses.push(IndicatorUses {
+            turned: Vec::new(alloc),
+            tested: Vec::new(alloc),
+        })?;
     }
     Ok(Indicators { uses })
 }
@@ -83,8 +87,9 @@ impl Indicators {
         let Some(uses) = self.uses.get_mut(usize::from(number)) else {
             return Ok(());
         };
+        let Testing { card, is_negated } = testing;
         match uses.tested.last() {
-            Some(last) if last.card == testing.card && last.is_negated == testing.is_negated => {}
+            Some(last) if last.card == card && last.is_negated == is_negated => {}
             _ => uses.tested.push(testing)?,
         }
         Ok(())
@@ -167,12 +172,16 @@ impl Indicators {
 }
 
 impl IndicatorUses {
-    /// Writes what turns the indicator on or off, cards and then the machine, or that nothing does, and which cards test it.
-    fn write(&self, out: &mut TextWriter, number: usize) {
-        let last = match machine_words(number) {
+    /// Returns the line below the cards that turn it on or off: that the machine does, or that nothing does.
+    fn last_words(&self, number: usize) -> Option<&'static str> {
+        match machine_words(number) {
             None if self.turned.is_empty() => Some("nothing"),
             words => words,
-        };
+        }
+    }
+
+    fn write(&self, out: &mut TextWriter, number: usize) {
+        let last = self.last_words(number);
         let turned = self.turned.len().saturating_add(last.is_some().into());
         let tested = self.tested.len().saturating_add(ON_A_LINE - 1) / ON_A_LINE;
         for line in 0..tested.max(turned) {
@@ -193,7 +202,7 @@ impl IndicatorUses {
 
 fn write_name(out: &mut TextWriter, number: usize, line: usize) {
     match u8::try_from(number) {
-        Ok(number) if line == 0 => out.fill_one("  {}  ", Indicator(number).name()),
+        Ok(number) if line == 0 => out.fill("  {}  ", &[Indicator(number).name().into()]),
         _ => out.write_str("      "),
     }
 }
@@ -205,7 +214,7 @@ fn write_tested(out: &mut TextWriter, line: usize, tested: &[Testing]) {
     let before = line.saturating_mul(ON_A_LINE);
     for testing in tested.iter().skip(before).take(ON_A_LINE) {
         let Testing { card, is_negated } = *testing;
-        out.fill_one(if is_negated { "{}N " } else { "{} " }, card);
+        out.fill(if is_negated { "{}N " } else { "{} " }, &[card.into()]);
     }
 }
 

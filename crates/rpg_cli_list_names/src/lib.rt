@@ -3,7 +3,9 @@
 #![tactic(auto)]
 
 mod indicators;
+mod mentions;
 mod names;
 
 pub use indicators::{Indicators, overflow_of};
-pub use names::{By, Done, Labels, Mentions, Names, write_constants};
+pub use mentions::{By, Done, Mentions};
+pub use names::{Labels, Names, write_constants};

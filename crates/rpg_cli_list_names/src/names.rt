@@ -1,5 +1,6 @@
 //! The names of a source, with the cards that define, set and use them; labels and subroutines; constants and edit words.
 
+use crate::mentions::{By, Done, Mentions};
 use indexmap::{IndexMap, IndexSet};
 use rpg_card_index::IndexedCards;
 use rpg_cards::{
@@ -13,84 +14,6 @@ use rpg_sheet_specs::{
     CalculationSpec, Entry, EntryIndex, Factor, Operation, OutputField, OutputSpec, Spec, Word,
 };
 use std::alloc::{AllocError, Global};
-
-/// Nothing, unless memory ran out.
-pub type Done = Result<(), AllocError>;
-
-/// How many numbers go on a line of the listing.
-const ON_A_LINE: usize = 12;
-
-const COLUMN: usize = 10;
-
-#[derive(Clone, Copy, PartialEq, Eq)]
-pub enum By {
-    Giving,
-    Setting,
-    Using,
-}
-
-#[derive(Clone, Copy)]
-struct Mention {
-    by: By,
-    card: u16,
-}
-
-/// The cards that name something, in order, and how each uses it.
-#[derive(Drop)]
-pub struct Mentions {
-    list: Vec<Mention>,
-}
-
-impl Mentions {
-    pub fn new(alloc: Global) -> Self {
-        let list = Vec::new(alloc);
-        Mentions { list }
-    }
-
-    /// Notes a card, whose number isn't less than that of the last one.
-    pub fn note(&mut self, by: By, card: u16) -> Done {
-        Ok(self.list.push(Mention { by, card })?)
-    }
-
-    /// Writes the numbers of the cards with this use into a column, or a dash if there are none.
-    pub fn write_column(&self, out: &mut TextWriter, by: By) {
-        let end = out.len().saturating_add(COLUMN);
-        self.write_lines(out, by, 0);
-        out.pad_to(end);
-        out.write_str("  ");
-    }
-
-    /// Writes the numbers of the cards with this use, each once, or a dash if there are none. With a margin, twelve go on a line, and
-    /// further lines begin after `margin` blanks.
-    pub fn write_lines(&self, out: &mut TextWriter, by: By, margin: usize) {
-        let mut last: u16 = 0;
-        let mut count: usize = 0;
-        for mention in &self.list {
-            if mention.by == by && mention.card != last {
-                write_gap(out, count, margin);
-                out.fill_one("{}", mention.card);
-                last = mention.card;
-                count = count.saturating_add(1);
-            }
-        }
-        if count == 0 {
-            out.write_char('-');
-        }
-    }
-}
-
-/// Writes what goes between `count` numbers and the next one.
-fn write_gap(out: &mut TextWriter, count: usize, margin: usize) {
-    if count == 0 {
-        return;
-    }
-    if margin > 0 && count % ON_A_LINE == 0 {
-        out.write_char('\n');
-        out.pad_to(out.len().saturating_add(margin));
-    } else {
-        out.write_char(' ');
-    }
-}
 
 const FORM: usize = 24;
 
@@ -116,6 +39,22 @@ fn entry_in(column: Column, factor: &Option<Factor>) -> Option<&Entry> {
         (_, Some(Factor::Entry(entry))) => Some(entry),
         _ => None,
     }
+}
+
+/// Returns the columns of factor 1 and factor 2. On a card without an operation both are for fields.
+fn factor_columns(operation: Option<Operation>) -> (Column, Column) {
+    match operation {
+        Some(operation) => {
+            let columns = columns(operation);
+            (columns.factor_1, columns.factor_2)
+        }
+        None => (Column::Blank, Column::Blank),
+    }
+}
+
+/// Whether a field is the page number, which each printing increments.
+fn is_page(entry: &Entry) -> bool {
+    entry.name.as_slice() == b"PAGE".as_slice()
 }
 
 impl Names {
@@ -174,11 +113,7 @@ impl Names {
     }
 
     fn note_calculation(&mut self, card: u16, calculation: &CalculationSpec) -> Done {
-        // On a card without an operation both factors are for fields.
-        let (first, second) = match calculation.operation {
-            Some(operation) => (columns(operation).factor_1, columns(operation).factor_2),
-            None => (Column::Blank, Column::Blank),
-        };
+        let (first, second) = factor_columns(calculation.operation);
         let searched = entry_in(second, &calculation.factor_2);
         self.note_entry(card, entry_in(first, &calculation.factor_1), By::Using)?;
         self.note_entry(card, searched, By::Using)?;
@@ -217,8 +152,7 @@ impl Names {
     fn note_output(&mut self, card: u16, field: &OutputField) -> Done {
         self.note_entry(card, field.operand.as_ref(), By::Using)?;
         match &field.operand {
-            // Each printing increments the page number.
-            Some(entry) if field.blank_after || entry.name.as_slice() == b"PAGE".as_slice() => {
+            Some(entry) if field.blank_after || is_page(entry) => {
                 self.note(&entry.name, card, By::Setting)
             }
             _ => Ok(()),
@@ -231,9 +165,9 @@ impl Names {
             .sort_by(|a, _, b, _| a.as_slice().cmp(b.as_slice()))?;
         out.write_str(HEADING);
         for (name, cards) in &self.names {
-            out.fill_one("  {:<6}  ", name_text(name.as_slice()));
+            out.fill("  {:<6}  ", &[name_text(name.as_slice()).into()]);
             match self.fields.get_index_of(name) {
-                Some(place) => out.fill_one("#{:<4}  ", place.saturating_add(1)),
+                Some(place) => out.fill("#{:<4}  ", &[place.saturating_add(1).into()]),
                 None => out.write_str("-      "),
             }
             write_defined(out, source.form_of_name(name));
@@ -293,19 +227,21 @@ impl Labels {
     }
 
     fn note(&mut self, named: Option<Named>, by: By, card: u16) -> Done {
-        let Some(named) = named else {
+        let Some(
+            Named {
+                name,
+                is_subroutine,
+            },
+        ) = named
+        else {
             return Ok(());
         };
-        let (is_subroutine, cards) = (named.is_subroutine, Mentions::new(self.alloc));
-        let unused = LabelUses {
+        let alloc = self.alloc;
+        let label = self.labels.entry(name)?.or_insert(LabelUses {
             is_subroutine,
-            cards,
-        };
-        self.labels
-            .entry(named.name)?
-            .or_insert(unused)
-            .cards
-            .note(by, card)
+            cards: Mentions::new(alloc),
+        });
+        label.cards.note(by, card)
     }
 
     pub fn write(&self, out: &mut TextWriter) {
@@ -313,11 +249,13 @@ impl Labels {
             out.write_str(LABELS_HEADING);
         }
         for (name, label) in &self.labels {
-            out.fill_one("  {:<6}  ", name_text(name.as_slice()));
-            out.write_str(match label.is_subroutine {
-                true => "subroutine  ",
-                false => "label       ",
-            });
+            let is = if label.is_subroutine {
+                "subroutine"
+            } else {
+                "label"
+            };
+            let name = name_text(name.as_slice());
+            out.fill("  {:<6}  {:<10}  ", &[name.into(), is.into()]);
             label.cards.write_column(out, By::Giving);
             label.cards.write_lines(out, By::Using, WANTED);
             out.write_char('\n');
@@ -348,6 +286,7 @@ fn note_constants(alloc: Global, constants: &mut Constants, card: &SpecCard) -> 
     Ok(())
 }
 
+/// Returns the constants without duplicates, in the order of the cards.
 fn constants_of(alloc: Global, cards: &[SpecCard]) -> Result<Constants, AllocError> {
     let mut constants = IndexMap::new(alloc);
     for card in cards {
@@ -357,7 +296,7 @@ fn constants_of(alloc: Global, cards: &[SpecCard]) -> Result<Constants, AllocErr
 }
 
 fn write_constant(out: &mut TextWriter, field: usize, constant: &Constant) {
-    out.fill_one("  #{:<4}  ", field);
+    out.fill("  #{:<4}  ", &[field.into()]);
     let end = out.len().saturating_add(CONSTANT_FORM);
     write_form(out, constant.form());
     out.pad_to(end);

@@ -1,13 +1,14 @@
 //! The probable causes of bytes that aren't characters, and of lines that are too long.
 
 use rpg_cli_diagnostics::Draft;
-use rpg_cli_text::{Piece, TextWriter};
+use rpg_cli_text::TextWriter;
 use rpg_text::{is_blank, is_character};
 
 const LOOKED_AT: usize = 80;
 
 const EBCDIC: &str = "this looks like EBCDIC: docs/OLD_PROGRAMS.md converts it";
 
+/// Returns what a text begins with, and how to fix it.
 fn cause_of(text: &[u8]) -> Option<&'static str> {
     match text {
         [b'\t', ..] => Some("a tab: `expand` turns tabs into blanks"),
@@ -69,6 +70,8 @@ pub fn is_object(bytes: &[u8]) -> bool {
     bytes.starts_with(OBJECT_NAME)
 }
 
+const HEX: &[u8; 16] = b"0123456789abcdef";
+
 const BAD_EBCDIC: &str = "byte {} isn't a character; {}";
 
 /// How to write a file without such letters.
@@ -77,19 +80,27 @@ const IN_ASCII: &str =
 
 const BAD_BYTE: &str = "byte {} isn't a character: characters run from blank to ~";
 
+fn write_digits(out: &mut TextWriter, bytes: &[u8]) {
+    for byte in bytes {
+        out.write_char(' ');
+        out.write_char(char::from(HEX[usize::from(byte / 16)]));
+        out.write_char(char::from(HEX[usize::from(byte % 16)]));
+    }
+}
+
 /// Writes that a letter of UTF-8 isn't ASCII, and adds the command that writes others in the file.
 fn write_letter(draft: &mut Draft<'_>, letter: &[u8]) {
-    let out = &mut draft.message;
-    out.write_str("bytes");
-    for byte in letter {
-        out.fill(" {}", &[Piece::Byte(*byte)]);
-    }
-    out.write_str(" are a letter of UTF-8 that isn't ASCII");
-    let path = draft.path().unwrap_or("-");
-    if path != "-" {
-        let mut remark = draft.text();
-        remark.fill_one(IN_ASCII, path.as_bytes());
-        draft.remark(remark);
+    draft.message.write_str("bytes");
+    write_digits(&mut draft.message, letter);
+    draft
+        .message
+        .write_str(" are a letter of UTF-8 that isn't ASCII");
+    if let Some(path) = draft.path() {
+        if path != "-" {
+            let mut remark = draft.text();
+            remark.fill_one(IN_ASCII, path.as_bytes());
+            draft.remark(remark);
+        }
     }
 }
 
@@ -97,16 +108,25 @@ fn write_letter(draft: &mut Draft<'_>, letter: &[u8]) {
 pub fn write_byte_cause(draft: &mut Draft<'_>, line: &[u8], place: usize) {
     let rest = line.get(place..).unwrap_or(&[]);
     let byte = rest.first().copied().unwrap_or(0);
-    let is_cut = byte == b'\r' && !is_text(line);
-    let sentence = match (cause_of(rest), letter_of(rest)) {
-        _ if looks_like_ebcdic(line) => BAD_EBCDIC,
-        (Some(cause), _) if !is_cut => cause,
-        (None, Some(letter)) => return write_letter(draft, letter),
-        _ => BAD_BYTE,
+    let sentence = if looks_like_ebcdic(line) {
+        BAD_EBCDIC
+    } else if byte == b'\r' && !is_text(line) {
+        BAD_BYTE
+    } else if let Some(cause) = cause_of(rest) {
+        cause
+    } else if let Some(letter) = letter_of(rest) {
+        write_letter(draft, letter);
+        return;
+    } else {
+        BAD_BYTE
     };
-    let out = &mut draft.message;
-    out.fill(sentence, &[Piece::Byte(byte), EBCDIC.into()]);
+    let digits = [HEX[usize::from(byte / 16)], HEX[usize::from(byte % 16)]];
+    draft
+        .message
+        .fill(sentence, &[digits.as_slice().into(), EBCDIC.into()]);
 }
+
+const TOO_LONG: &str = "the line has {} characters, and a card has 80";
 
 const RETURNS: &str =
     "; it has carriage returns: if they end its lines, `tr '\\r' '\\n'` makes them line feeds";
@@ -120,13 +140,13 @@ const NUMBERED: &str =
 pub(crate) fn write_long_line(out: &mut TextWriter, line: &[u8]) {
     let count = line.len();
     let rest = line.get(LOOKED_AT..).unwrap_or(&[]);
-    out.fill_one("the line has {} characters, and a card has 80", count);
+    out.fill(TOO_LONG, &[count.into()]);
     if looks_like_ebcdic(line) {
-        out.fill_one("; {}", EBCDIC);
+        out.fill("; {}", &[EBCDIC.into()]);
     } else if line.contains(&b'\r') && is_text(line) {
         out.write_str(RETURNS);
     } else if is_blank(rest) {
-        out.fill_one(BLANK, count);
+        out.fill(BLANK, &[count.into()]);
     } else if count == 96 {
         out.write_str(NUMBERED);
     }

@@ -13,7 +13,7 @@ use rpg_cli_columns::{
     write_form_type,
 };
 use rpg_cli_diagnostics::{
-    Columns, Diagnostic, Diagnostics, Draft, FileName, Level, Made, Place, write_times,
+    Columns, Diagnostic, Diagnostics, Draft, FileName, Level, Made, write_times,
 };
 use rpg_cli_text::{TextWriter, Topic};
 use rpg_faults::{CardFault, SourceCode, SourceFaults};
@@ -56,7 +56,11 @@ pub fn card_diagnostic<'a>(
     let near = NearNames::of(alloc, &[], &[])?;
     let known = SourceCards::of(&cards, &near, source);
     let line = CardLines::of(source).line_of(fault.card);
-    let at = FaultAt::of(line, known, fault);
+    let at = FaultAt {
+        line,
+        source: known,
+        fault,
+    };
     Told::of(alloc, file, source).fault(line, at).finish()
 }
 
@@ -66,16 +70,6 @@ pub(crate) struct FaultAt<'a> {
     pub line: &'a [u8],
     pub source: SourceCards<'a>,
     pub fault: &'a CardFault,
-}
-
-impl<'a> FaultAt<'a> {
-    fn of(line: &'a [u8], source: SourceCards<'a>, fault: &'a CardFault) -> Self {
-        FaultAt {
-            line,
-            source,
-            fault,
-        }
-    }
 }
 
 /// A source whose faults are reported: its name and its text.
@@ -120,14 +114,17 @@ impl<'a> Told<'a> {
         let is_one = is_object(self.source);
         let most = if is_one { most.min(1) } else { most };
         let shown = faults.len().min(usize::from(most));
-        let near = NearNames::of(self.alloc, known.cards(), &faults[..shown])?;
-        let cards = IndexedCards::new(self.alloc, known.cards())?;
-        let source = SourceCards::of(&cards, &near, self.source);
-        self.add_faults(source, &faults[..shown])?;
+        self.add_listed(known.cards(), &faults[..shown])?;
         let mut draft = Draft::note(self.alloc, self.file.whole());
         write_count(&mut draft.message, &faults, known.unread, most);
         self.out.push(draft.finish());
         Ok(())
+    }
+
+    fn add_listed(&mut self, cards: &[SpecCard], listed: &[&CardFault]) -> Made<()> {
+        let near = NearNames::of(self.alloc, cards, listed)?;
+        let cards = IndexedCards::new(self.alloc, cards)?;
+        self.add_faults(SourceCards::of(&cards, &near, self.source), listed)
     }
 
     /// Adds faults in the order of their cards, and notes the mistakes that caused them.
@@ -136,7 +133,11 @@ impl<'a> Told<'a> {
         let mut lines = CardLines::of(self.source);
         for fault in faults {
             let line = lines.line_of(fault.card);
-            let at = FaultAt::of(line, source, fault);
+            let at = FaultAt {
+                line,
+                source,
+                fault,
+            };
             let Some(mistake) = mistake_of(at) else {
                 let draft = self.fault(line, at);
                 self.out.push(draft.finish());
@@ -145,8 +146,7 @@ impl<'a> Told<'a> {
             let first = mistakes.get(&mistake).copied();
             let draft = match first {
                 Some(first) => {
-                    let place = self.place(line, fault).without_picture();
-                    let mut draft = self.begin(place, fault);
+                    let mut draft = self.begin(line, fault, false);
                     write_follower(&mut draft.message, mistake, first);
                     draft
                 }
@@ -160,18 +160,19 @@ impl<'a> Told<'a> {
         Ok(())
     }
 
-    fn place(&self, line: &'a [u8], fault: &CardFault) -> Place<'a> {
-        self.file
-            .card(fault.card, marked(columns_of(line, fault)), line)
-    }
-
-    fn begin(&self, place: Place<'a>, fault: &CardFault) -> Draft<'a> {
-        let topic = Some(topic_of(fault.code));
-        Draft::new(self.alloc, Level::Error, Some(place), topic)
+    /// Begins a fault: its place, with the card and a mark under its columns, and its code.
+    fn begin(&self, line: &'a [u8], fault: &CardFault, is_shown: bool) -> Draft<'a> {
+        let columns = marked(columns_of(line, fault));
+        let mut place = self.file.card(fault.card, columns, line);
+        if !is_shown {
+            place = place.without_picture();
+        }
+        let topic = topic_of(fault.code);
+        Draft::new(self.alloc, Level::Error, Some(place), Some(topic))
     }
 
     fn fault(&self, line: &'a [u8], at: FaultAt<'_>) -> Draft<'a> {
-        let mut draft = self.begin(self.place(line, at.fault), at.fault);
+        let mut draft = self.begin(line, at.fault, true);
         write_sentence(&mut draft, at);
         draft
     }
@@ -304,11 +305,7 @@ fn write_unread(draft: &mut Draft<'_>, at: FaultAt<'_>, code: SheetCode) {
     let (line, text, card) = (at.line, at.source.text, at.fault.card);
     match (code, at.fault.columns) {
         (SheetCode::S1, _) => write_long_line(&mut draft.message, line),
-        (SheetCode::S2, _) => {
-            if let Some(column) = first_bad(line) {
-                write_byte_cause(draft, line, usize::from(column.saturating_sub(1)));
-            }
-        }
+        (SheetCode::S2, _) => write_bad_byte(draft, line),
         (SheetCode::S3, _) => {
             write_form_type(draft, line);
             write_shorthand(&mut draft.message, text, card, line);
@@ -347,6 +344,12 @@ fn add_capitals(draft: &mut Draft<'_>, at: FaultAt<'_>, columns: ColumnFault) {
     }
 }
 
+fn write_bad_byte(draft: &mut Draft<'_>, line: &[u8]) {
+    if let Some(column) = first_bad(line) {
+        write_byte_cause(draft, line, usize::from(column.saturating_sub(1)));
+    }
+}
+
 /// Writes how many cards can't be read and how many faults there are, how many of them are shown, and which faults aren't known.
 fn write_count(out: &mut TextWriter, faults: &[&CardFault], left: Unread, most: u16) {
     let unread = count_unread(faults);
@@ -354,11 +357,16 @@ fn write_count(out: &mut TextWriter, faults: &[&CardFault], left: Unread, most: 
     match (unread, others) {
         (0, _) => {}
         (1, 0) if most > 0 => out.write_str("this card can't be read"),
-        _ => out.fill_one("{} {card|cards} can't be read", unread),
+        (1, _) => out.write_str("1 card can't be read"),
+        _ => out.fill_one("{} cards can't be read", unread),
     }
-    if unread == 0 || others > 0 {
-        out.write_str(if unread > 0 { ", " } else { "" });
-        out.fill_one("{} {fault|faults}", others);
+    if unread > 0 && others > 0 {
+        out.write_str(", ");
+    }
+    match (unread, others) {
+        (_, 1) => out.write_str("1 fault"),
+        (0, _) | (_, 2..) => out.fill_one("{} faults", others),
+        _ => {}
     }
     if faults.len() > usize::from(most) {
         write_reported(out, most);
@@ -370,14 +378,28 @@ fn write_count(out: &mut TextWriter, faults: &[&CardFault], left: Unread, most: 
 
 /// Writes how many of the faults are listed.
 pub fn write_reported(out: &mut TextWriter, most: u16) {
-    match most {
-        0 => out.write_str(", none shown"),
-        _ => out.fill_one(", {} of them shown", most),
+    let sentence = match most {
+        0 => ", none shown",
+        _ => ", {} of them shown",
+    };
+    out.fill(sentence, &[most.into()]);
+}
+
+/// Writes what is wrong, and what belongs to it, on one line.
+fn write_fault(alloc: Global, out: &mut TextWriter, at: FaultAt<'_>) -> Made<()> {
+    let mut draft = Draft::new(alloc, Level::Error, None, None);
+    write_sentence(&mut draft, at);
+    let told = draft.finish()?;
+    out.write_str(told.message.as_str());
+    for child in &told.children {
+        out.fill_one("; {}", child.message.as_str());
     }
+    out.write_char('\n');
+    Ok(())
 }
 
 /// Writes a fault of a card, which begins after `margin` blanks: a mark under the columns that the fault points at, if its code says which,
-/// and after the code what is wrong, and what belongs to it, on one line.
+/// and after the code what is wrong.
 pub fn write_note(
     alloc: Global,
     out: &mut TextWriter,
@@ -396,13 +418,10 @@ pub fn write_note(
     let blanks = margin.saturating_sub(code.len().saturating_add(1));
     write_times(out, ' ', blanks);
     out.fill_one("{} ", code);
-    let mut draft = Draft::new(alloc, Level::Error, None, None);
-    write_sentence(&mut draft, FaultAt::of(line, source, fault));
-    let told = draft.finish()?;
-    out.write_str(told.message.as_str());
-    for child in &told.children {
-        out.fill_one("; {}", child.message.as_str());
-    }
-    out.write_char('\n');
-    Ok(())
+    let at = FaultAt {
+        line,
+        source,
+        fault,
+    };
+    write_fault(alloc, out, at)
 }

@@ -78,7 +78,8 @@ impl Unread {
 
     /// Writes which faults aren't known yet, if there may be some.
     pub(crate) fn write_left_out(self, out: &mut TextWriter, is_one: bool) {
-        let (mut count, mut last) = (0usize, "");
+        let mut count = 0usize;
+        let mut last = "";
         for sheet in ["F", "E", "L", "I", "C"] {
             if self.has_any(sheet) {
                 count = count.saturating_add(1);
@@ -226,15 +227,19 @@ fn readable(
 /// Takes the next fault of two lists, by card.
 fn next_of<'a>(first: &mut &'a [CardFault], second: &mut &'a [CardFault]) -> Option<&'a CardFault> {
     match (*first, *second) {
-        (_, [other, after @ ..]) if !matches!(*first, [one, ..] if one.card < other.card) => {
-            *second = after;
-            Some(other)
-        }
-        ([one, after @ ..], _) => {
+        ([one, after @ ..], [other, ..]) if one.card < other.card => {
             *first = after;
             Some(one)
         }
-        _ => None,
+        (_, [other, after @ ..]) => {
+            *second = after;
+            Some(other)
+        }
+        ([one, after @ ..], []) => {
+            *first = after;
+            Some(one)
+        }
+        ([], []) => None,
     }
 }
 

@@ -3,7 +3,7 @@
 
 use rpg_cli_causes::CardLines;
 use rpg_cli_columns::{character_at, has_card_number};
-use rpg_cli_diagnostics::{Draft, write_times};
+use rpg_cli_diagnostics::Draft;
 use rpg_cli_shorthand::{begins_data, ends_source, is_shorthand};
 use rpg_cli_text::TextWriter;
 use rpg_faults::{CardFault, SourceCode};
@@ -125,6 +125,7 @@ pub(crate) fn later_card(text: &[u8], number: u16, line: &[u8]) -> Option<LaterC
     None
 }
 
+/// Writes that a card comes after one of a later sheet.
 pub(crate) fn write_order(out: &mut TextWriter, later: Option<LaterCard>) {
     match later {
         Some(LaterCard { card, form }) => {
@@ -152,6 +153,7 @@ pub(crate) enum Slip {
     Free,
 }
 
+/// A slip, the first card that has it, and how many have it.
 #[derive(Clone, Copy)]
 pub(crate) struct DeckSlip {
     pub slip: Slip,
@@ -188,6 +190,7 @@ impl Slip {
     }
 }
 
+/// Returns the slip that all cards before the data have.
 fn common_slip(source: &[u8]) -> Option<DeckSlip> {
     let mut found: Option<DeckSlip> = None;
     let mut lines = CardLines::of(source);
@@ -214,8 +217,6 @@ fn common_slip(source: &[u8]) -> Option<DeckSlip> {
     }
     found
 }
-
-const CAPITALS: &str = "tr a-z A-Z < {} > new.rpg makes capitals, of texts between apostrophes too";
 
 impl DeckSlip {
     fn at(slip: Slip, first: u16) -> Self {
@@ -249,22 +250,28 @@ impl DeckSlip {
             Slip::SmallLetters => "all {} cards are in small letters: rpg2 reads capitals",
             Slip::Free => "this is RPG IV (**FREE), which rpg2 doesn't read: it reads RPG II",
         };
-        let out = &mut draft.message;
-        out.fill_two(sentence, self.cards, self.slip.column());
+        draft
+            .message
+            .fill_two(sentence, self.cards, self.slip.column());
         let path = draft.path().unwrap_or("-").as_bytes();
         let mut remark = draft.text();
         match self.slip {
             _ if path == b"-".as_slice() => return,
             Slip::Moved { column } if column < FORM_TYPE => {
                 remark.write_str("sed 's/^/");
-                write_times(&mut remark, ' ', FORM_TYPE.saturating_sub(column));
+                for _ in column..FORM_TYPE {
+                    remark.write_char(' ');
+                }
                 remark.fill_one("/' {} > new.rpg moves them", path);
             }
             Slip::Moved { column } => {
                 let first = column.saturating_sub(FORM_TYPE).saturating_add(1);
                 remark.fill_two("cut -c{}- {} > new.rpg moves them", first, path);
             }
-            Slip::SmallLetters => remark.fill_one(CAPITALS, path),
+            Slip::SmallLetters => remark.fill_one(
+                "tr a-z A-Z < {} > new.rpg makes capitals, of texts between apostrophes too",
+                path,
+            ),
             Slip::Free => return,
         }
         draft.remark(remark);

@@ -2,5 +2,6 @@
 #![tactic(auto)]
 
 mod printing;
+mod refused;
 
 pub use printing::paper_file;

@@ -1,28 +1,40 @@
-//! The command that puts a print on sheets, and the diagnostics for a print that isn't put on them.
+//! The command that puts a print on sheets.
 
+use crate::refused::print_diagnostic;
 use rpg_cli_answers::{
-    Answer, CommandStop, Listener, NamedFile, file_of, named, opened_input, refuse_replacing,
-    refuse_same_file, report_in_place, tell_made,
+    Answer, CommandStop, Listener, NamedFile, file_of, named, refuse_replacing, refuse_same_file,
+    report_in_place, tell_made,
 };
-use rpg_cli_diagnostics::{Diagnostic, Draft, FileName};
-use rpg_cli_files::{FileFault, KeptFile, Opened, Pending, Reason, kept_file, lines, records};
-use rpg_cli_words::{FileArgument, PaperArguments, Request};
-use rpg_pdf::{PageFault, PaperFault, PaperForm, Press, Settings};
-use std::alloc::{AllocError, Global};
+use rpg_cli_files::{
+    FileFault, KeptFile, Opened, Pending, Reason, input_file, kept_file, lines, records,
+};
+use rpg_cli_words::{FileArgument, PaperArgument, PaperArguments, Request, is_standard};
+use rpg_pdf::{PaperFault, PaperForm, Press, Settings};
+use std::alloc::Global;
 use std::rt::Files;
 
 /// The number of a page after the most that a print may have.
 const PAGE_TOO_MANY: u32 = 100_000;
 
 /// Returns the settings of the arguments. The values that clap accepts are all in range.
-fn settings_of(arguments: PaperArguments<'_>) -> Option<Settings> {
+fn settings_of(arguments: PaperArguments) -> Option<Settings> {
     let form = match arguments.form {
-        "letter" => PaperForm::Letter,
-        "fanfold" => PaperForm::Fanfold,
-        _ => PaperForm::A4,
+        PaperArgument::A4 => PaperForm::A4,
+        PaperArgument::Letter => PaperForm::Letter,
+        PaperArgument::Fanfold => PaperForm::Fanfold,
     };
     let (length, columns) = (arguments.length.into(), arguments.columns.into());
     Settings::of(form, length, columns, arguments.has_bars)
+}
+
+/// Opens the print.
+fn opened_print<R: Files>(rt: &R, request: &Request) -> Result<Opened<R::File>, Answer> {
+    let path = request.file(FileArgument::Printed);
+    if is_standard(path) {
+        return Ok(Opened::Standard);
+    }
+    let file = named(FileArgument::Printed, input_file(rt, path))?;
+    Ok(Opened::File(file))
 }
 
 /// Refuses to write the PDF over the print, or over what isn't replaced.
@@ -108,7 +120,7 @@ pub fn paper_file<R: Files + Input + Print + AllocGlobal, L: Listener>(
     request: &Request,
     listener: &mut L,
 ) -> Result<Answer, CommandStop> {
-    let print = opened_input(rt, request, FileArgument::Printed)?;
+    let print = opened_print(rt, request)?;
     let place = request.file(FileArgument::Pdf);
     let KeptFile { opened, pending } = named(FileArgument::Pdf, kept_file(rt, place, listener))?;
     let answer = write_opened(rt, request, print, opened, &pending, listener);
@@ -116,52 +128,4 @@ pub fn paper_file<R: Files + Input + Print + AllocGlobal, L: Listener>(
         new.discard(rt, listener);
     }
     answer
-}
-
-const HEX: &[u8; 16] = b"0123456789ABCDEF";
-
-/// Returns the diagnostic for a print that isn't put on sheets, if that is a fault of its own.
-pub(crate) fn print_diagnostic<'a>(
-    alloc: Global,
-    file: FileName<'a>,
-    settings: PaperArguments<'_>,
-    fault: PaperFault,
-) -> Result<Diagnostic<'a>, AllocError> {
-    let draft = Draft::error(alloc, file.whole());
-    let PaperFault::Page { number, fault } = fault else {
-        return draft.filled("it has more than 99,999 pages", &[]);
-    };
-    let page = u64::from(number).into();
-    match fault {
-        PageFault::Bytes => {
-            let text = "page {} has more than 1,048,576 bytes: a form feed ends a page";
-            draft.filled(text, &[page])
-        }
-        PageFault::Lines { count } => {
-            let text = if count > 112 {
-                "page {} has {} lines, and 112 are the most"
-            } else {
-                "page {} has {} lines, and a form has {}: give --length"
-            };
-            draft.filled(text, &[page, count.into(), settings.length.into()])
-        }
-        PageFault::Columns { line, count } => {
-            let text = if count > 198 {
-                "page {} line {} has {} columns, and 198 are the most"
-            } else {
-                "page {} line {} has {} columns, and a form has {}: give --columns"
-            };
-            let (line, columns) = (u64::from(line).into(), settings.columns.into());
-            draft.filled(text, &[page, line, count.into(), columns])
-        }
-        PageFault::Character { line, column, byte } => {
-            let text = "page {} line {} column {}: byte {}{} is no character";
-            let high = char::from(HEX[usize::from(byte / 16)]).into();
-            let low = char::from(HEX[usize::from(byte % 16)]).into();
-            draft.filled(
-                text,
-                &[page, u64::from(line).into(), column.into(), high, low],
-            )
-        }
-    }
 }

@@ -18,6 +18,7 @@ use rpg_object::encode;
 use rpg_object::laws::a_spelling_is_read_again;
 use std::alloc::Global;
 
+/// Compiles a source to an object program.
 pub fn compiled(alloc: Global, source: &[u8], allowance: u16) -> Result<CompiledObject, Answer>
     requires { 0 < allowance }
     ensures compiled { IfOk result (λ object. CompilesTo source.now allowance object.bytes.items) }
@@ -81,6 +82,7 @@ pub struct CompiledObject {
     pub bytes: Vec<u8>,
 }
 
+/// Compiles a source to an object program.
 pub(crate) fn compile_to_object(
     alloc: Global,
     text: &[u8],

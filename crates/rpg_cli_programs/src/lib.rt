@@ -3,8 +3,11 @@
 //! with the source that the arguments name.
 #![tactic(auto)]
 
+mod compiling;
 mod judging;
 mod session;
+mod sources;
 
 pub use judging::{CompiledObject, compiled, verified};
-pub use session::{OwnSource, Session, own_source, report_faults, report_object};
+pub use session::Session;
+pub use sources::{OwnSource, own_source, report_faults, report_object};

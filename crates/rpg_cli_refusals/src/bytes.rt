@@ -1,8 +1,9 @@
 //! Bytes that aren't an object program, and what an object program has at an offset: the parts of rows, in the order of their bytes, with how
 //! many bytes each has, and its name. The counts before the offset aren't checked.
 
+use crate::rules::counted;
 use rpg_cli_diagnostics::{At, Diagnostic, Draft, FileName, Level, Place};
-use rpg_cli_text::{Piece, TextWriter, Topic, topic_of};
+use rpg_cli_text::{TextWriter, Topic, topic_of};
 use rpg_object_format::fault::Code;
 use rpg_program::rows::Version;
 use rpg_text::first_line;
@@ -12,6 +13,8 @@ const SOURCE: &str =
     ": this is a source: compile it first with rpg2 compile, or run it with rpg2 go";
 
 const MOST_SHOWN: usize = 32;
+
+const HEX: &[u8; 16] = b"0123456789abcdef";
 
 /// Whether the first line is one that sources begin with: a comment, an H card, or an F card of an input or an output file. Columns 1 to 5
 /// may have the number of the card.
@@ -34,7 +37,11 @@ fn begins_source(bytes: &[u8]) -> bool {
 fn write_found(out: &mut TextWriter, bytes: &[u8], offset: usize, count: usize) {
     let size = bytes.len();
     let (bytes_stand, stand) = match size.saturating_sub(offset).min(count) {
-        0 => return out.fill_one(", and the file has {} {byte|bytes}", size),
+        0 => {
+            let unit = counted(size, "byte", "bytes");
+            out.fill(", and the file has {} {}", &[size.into(), unit.into()]);
+            return;
+        }
         1 => (", and byte", " was found"),
         found if found <= MOST_SHOWN => (", and bytes", " were found"),
         _ => (", and bytes", " .. were found"),
@@ -42,23 +49,32 @@ fn write_found(out: &mut TextWriter, bytes: &[u8], offset: usize, count: usize) 
     out.write_str(bytes_stand);
     let rest = bytes.get(offset..).unwrap_or(&[]);
     for byte in rest.get(..count.min(MOST_SHOWN)).unwrap_or(rest) {
-        out.fill(" {}", &[Piece::Byte(*byte)]);
+        let digits = [
+            b' ',
+            HEX[usize::from(*byte / 16)],
+            HEX[usize::from(*byte % 16)],
+        ];
+        out.write_shown(digits.as_slice());
     }
     out.write_str(stand);
 }
 
 fn write_spot(out: &mut TextWriter, bytes: &[u8], offset: usize) {
     out.fill_one(": offset {}: ", offset);
-    let Some(spot) = spot_at(bytes, offset) else {
-        out.write_str("the object program ends there");
-        return write_found(out, bytes, offset, 1);
-    };
-    out.write_str(spot.name);
-    if let Some(row) = spot.row.number {
-        out.fill_two(" of {} {}", spot.row.table, row);
+    match spot_at(bytes, offset) {
+        Some(spot) => {
+            out.write_str(spot.name);
+            if let Some(row) = spot.row.number {
+                out.fill_two(" of {} {}", spot.row.table, row);
+            }
+            out.write_str(" was expected");
+            write_found(out, bytes, offset, spot.bytes);
+        }
+        None => {
+            out.write_str("the object program ends there");
+            write_found(out, bytes, offset, 1);
+        }
     }
-    out.write_str(" was expected");
-    write_found(out, bytes, offset, spot.bytes);
 }
 
 /// Returns the diagnostic for bytes that aren't an object program: the code's sentence, what was expected at the offset, and what is there;
@@ -138,14 +154,20 @@ impl Walk<'_> {
         }
     }
 
-    /// Passes equal parts of a row, or stops in one.
+    /// Passes a part of a row, or stops in it.
+    fn pass(&mut self, name: &'static str, bytes: usize, row: TableRow) {
+        let end = self.at.saturating_add(bytes);
+        if self.offset < end {
+            self.found = Some(Spot { name, bytes, row });
+        } else {
+            self.at = end;
+        }
+    }
+
     fn pass_equal(&mut self, count: usize, name: &'static str, bytes: usize, row: TableRow) {
         for _ in 0..count {
-            let end = self.at.saturating_add(bytes);
-            if self.found.is_none() && self.offset < end {
-                self.found = Some(Spot { name, bytes, row });
-            } else if self.found.is_none() {
-                self.at = end;
+            if self.found.is_none() {
+                self.pass(name, bytes, row);
             }
         }
     }

@@ -52,8 +52,9 @@ fn write_line(out: &mut TextWriter, rows: &Rows, row: usize) {
         File::Printer => "of the printer",
         File::Disk => "of the disk file",
     };
+    let length = usize::from(rows.file_length(line.file));
     out.fill_three(": line {}, {} {}", row, time, file);
-    out.fill_one(", of {} {place|places}", rows.file_length(line.file));
+    out.fill_two(", of {} {}", length, counted(length, "place", "places"));
 }
 
 /// Writes the instruction at a place, counted through the whole program.
@@ -72,6 +73,7 @@ pub fn write_instruction_at(out: &mut TextWriter, program: &Program, place: usiz
     }
 }
 
+/// Writes a subroutine by number, with its level and how it ends.
 fn write_subroutine(out: &mut TextWriter, rows: &Rows, row: usize) {
     let Some(subroutine) = rows.subroutines.get(row) else {
         return;
@@ -82,11 +84,9 @@ fn write_subroutine(out: &mut TextWriter, rows: &Rows, row: usize) {
         out.write_str(", without instructions");
         return;
     };
-    out.fill_one(
-        ", of {} {instruction|instructions}",
-        subroutine.instructions.len(),
-    );
-    out.fill_one(", the last {}", last.name());
+    let count = subroutine.instructions.len();
+    let unit = counted(count, "instruction", "instructions");
+    out.fill_three(", of {} {}, the last {}", count, unit, last.name());
     if let Instruction::Return { subroutine } = *last {
         out.fill(" of subroutine {}", &[subroutine.into()]);
     }
@@ -130,8 +130,10 @@ fn length(columns: u128) -> u64 {
 
 fn write_control(out: &mut TextWriter, sentence: &str, at: usize, field: ControlField, most: u16) {
     let (from, to) = (field.from.into(), field.to.into());
-    let (at, level) = (at.into(), field.level.into());
-    out.fill(sentence, &[at, level, from, to, most.into()]);
+    out.fill(
+        sentence,
+        &[at.into(), field.level.into(), from, to, most.into()],
+    );
 }
 
 /// Writes which levels of a record type break V5 or V26.
@@ -215,6 +217,7 @@ fn write_tested(out: &mut TextWriter, conditions: Conditions) {
     write_indicators(out, [tested_by(first), tested_by(second), tested_by(third)]);
 }
 
+/// Writes the subroutine that is called, with its level, or the subroutines that exist.
 fn write_called(out: &mut TextWriter, rows: &Rows, subroutine: u16, level: Option<u16>) {
     out.fill_one("; it calls subroutine {}", subroutine);
     match (level, rows.subroutines.len()) {
@@ -236,8 +239,6 @@ fn write_line_field(out: &mut TextWriter, rows: &Rows, at: usize, field: LineFie
 }
 
 const SPACES: &str = "; it spaces {} before and {} after, ";
-
-const TARGET: &str = "; it leads to {}; they begin at {} and end at {}";
 
 const SKIPS: &str = "and skips to {} before and {} after";
 
@@ -273,7 +274,12 @@ fn write_cause(out: &mut TextWriter, rows: &Rows, row: usize, cause: Cause) {
         }
         Cause::Alternative { at } => out.fill_one("; its alternative {} tests MR", at),
         Cause::Field { at, field } => write_line_field(out, rows, at, field),
-        Cause::Target { target, first, end } => out.fill_three(TARGET, target, first, end),
+        Cause::Target { target, first, end } => out.fill_three(
+            "; it leads to {}; they begin at {} and end at {}",
+            target,
+            first,
+            end,
+        ),
         Cause::Called { subroutine, level } => write_called(out, rows, subroutine, level),
         Cause::StrayReturn { place } => {
             out.fill_one(": the RET at place {} is in no subroutine", place);
@@ -283,6 +289,10 @@ fn write_cause(out: &mut TextWriter, rows: &Rows, row: usize, cause: Cause) {
         }
         _ => write_columns(out, rows, cause),
     }
+}
+
+pub(crate) fn counted(count: usize, one: &'static str, more: &'static str) -> &'static str {
+    if count == 1 { one } else { more }
 }
 
 fn write_indicator(out: &mut TextWriter, indicator: u8) {
@@ -314,21 +324,24 @@ fn write_form(out: &mut TextWriter, form: FieldForm) {
         Class::Plain => "a ",
         Class::Constant => "a constant, a ",
         Class::Date => "the date, a ",
-        Class::Array => "an array of {} {entry|entries}, each a ",
-        Class::Table => "a table of {} {entry|entries}, each a ",
+        Class::Array => "an array of {} {}, each a ",
+        Class::Table => "a table of {} {}, each a ",
     };
-    out.fill_one(class, form.entries);
-    let kind = match form.kind {
-        Kind::Text => "text of {} {character|characters}",
-        Kind::Number => "number of {} {digit|digits}",
+    let unit = counted(usize::from(form.entries), "entry", "entries");
+    out.fill(class, &[form.entries.into(), unit.into()]);
+    let length = usize::from(form.length);
+    let (kind, unit) = match form.kind {
+        Kind::Text => ("text of {} {}", counted(length, "character", "characters")),
+        Kind::Number => ("number of {} {}", counted(length, "digit", "digits")),
     };
-    out.fill_one(kind, form.length);
-    let decimals = match (form.kind, form.length, form.decimals) {
+    out.fill(kind, &[length.into(), unit.into()]);
+    let decimals = match (form.kind, length, form.decimals) {
         (Kind::Text, _, _) | (_, _, 0) => "",
         (_, 1, _) => ", a decimal",
-        _ => ", {} of them {a decimal|decimals}",
+        (_, _, 1) => ", 1 of them a decimal",
+        _ => ", {} of them decimals",
     };
-    out.fill_one(decimals, form.decimals);
+    out.fill(decimals, &[form.decimals.into()]);
 }
 
 /// Writes a field by number, and what it is; if it doesn't exist, the numbers that fields have.

@@ -3,7 +3,7 @@
 
 ghost use Rattle.std.specs.Prelude.{◌≤◌, IfSome};
 
-use rpg_cli_columns::{begins_range, character_at};
+use rpg_cli_columns::begins_range;
 use rpg_cli_diagnostics::{Diagnostic, Draft, FileName, Made};
 use rpg_cli_text::TextWriter;
 use rpg_faults::{SourceCode, SourceFault};
@@ -31,6 +31,7 @@ fn is_between(text: &[u8], place: usize, character: u8, item: Item) -> bool {
     character == b' ' && !is_inside
 }
 
+/// Writes a character of an item, with its column if it begins one.
 fn write_character(out: &mut TextWriter, text: &[u8], place: usize, character: u8, item: Item) {
     let column = place.saturating_add(1);
     if !item.is_open || (!item.has_blanks && begins_range(text, column)) {
@@ -44,8 +45,9 @@ fn write_shorthand(out: &mut TextWriter, line: &[u8]) {
     if text.is_empty() {
         return;
     }
-    out.write_char(char::from(character_at(text, 6)));
-    let is_comment = character_at(text, 7) == b'*';
+    let form = text.get(FORM_TYPE).copied().unwrap_or(b' ');
+    out.write_char(char::from(form));
+    let is_comment = text.get(FORM_TYPE.saturating_add(1)) == Some(&b'*');
     let first = Item {
         is_open: false,
         has_blanks: is_comment,
@@ -86,8 +88,8 @@ fn refused(card: u16, code: SheetCode) -> SourceFault {
 
 /// Writes a card, below a ruler if it is of another sheet than the cards before it. Returns its sheet.
 fn write_ruled(out: &mut TextWriter, line: &[u8], before: u8) -> u8 {
-    let form = character_at(line, 6);
-    let is_comment = character_at(line, 7) == b'*';
+    let form = line.get(FORM_TYPE).copied().unwrap_or(b' ');
+    let is_comment = line.get(FORM_TYPE.saturating_add(1)) == Some(&b'*');
     let is_other = form != before && !is_comment && !is_blank(line);
     if is_other {
         out.write_str(RULER);
@@ -128,13 +130,19 @@ fn write_cards(out: &mut TextWriter, source: &[u8], is_ruled: bool) -> Result<()
     }
 }
 
-/// Returns the cards of a source as lines of shorthand, up to the card `/*`, which isn't included. An item begins after a blank and where
-/// a range of the card's sheet begins; a text between apostrophes is one item, including its blanks. Or, with `is_ruled`, the cards with a
-/// ruler above the first one and above each of another sheet. The error is the first card that has more than 80 characters or a byte that
-/// isn't a character, or card 2,001. The cards may break any other rule.
-pub fn shorthand_of(alloc: Global, source: &[u8], is_ruled: bool) -> Result<String, SourceFault> {
+/// Converts the cards of a source to lines of shorthand, up to the card `/*`, which isn't included. An item begins after a blank and where
+/// a range of the card's sheet begins; a text between apostrophes is one item, including its blanks. The error is the first card that has
+/// more than 80 characters or a byte that isn't a character, or card 2,001. The cards may break any other rule.
+pub fn shorthand_of(alloc: Global, source: &[u8]) -> Result<String, SourceFault> {
     let mut out = TextWriter::new(alloc);
-    write_cards(&mut out, source, is_ruled)?;
+    write_cards(&mut out, source, false)?;
+    Ok(out.finish()?)
+}
+
+/// Returns the cards of a source, with a ruler above the first card and above each of another sheet. The error is as for `shorthand_of`.
+pub fn ruled_of(alloc: Global, source: &[u8]) -> Result<String, SourceFault> {
+    let mut out = TextWriter::new(alloc);
+    write_cards(&mut out, source, true)?;
     Ok(out.finish()?)
 }
 
@@ -155,7 +163,8 @@ pub fn are_cards(source: &[u8]) -> bool {
     false
 }
 
-/// A ruler over 80 columns, which is itself a card: a comment, by the asterisk in column 7.
+/// A ruler over 80 columns, which is itself a card: a comment, by the asterisk in column
+/// 7.
 pub const RULER: &str =
     "....+.*..1....+....2....+....3....+....4....+....5....+....6....+....7....+....8\n";
 
@@ -231,6 +240,7 @@ pub fn ends_source(line: &[u8]) -> bool {
     matches!(line, [b'/', b'*'] | [b'/', b'*', b' ', ..])
 }
 
+/// The column of the form type.
 const FORM_COLUMN: u8 = 6;
 
 /// Whether a text opens or closes one between apostrophes: it has an odd number of them after the form type.
@@ -449,6 +459,7 @@ impl From<AllocError> for ShorthandFault {
     }
 }
 
+/// Returns the diagnostic for a line of a file.
 pub fn line_diagnostic(
     alloc: Global,
     file: FileName<'_>,

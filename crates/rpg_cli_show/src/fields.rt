@@ -1,15 +1,15 @@
 //! Fields with their forms, their first values, and what uses them.
 
-use crate::program::{Shown, write_offset};
+use crate::shown::{Shown, write_offset};
 use rpg_cli_show_fields::{is_empty, name_text, write_form, write_value};
 use rpg_cli_text::TextWriter;
 use rpg_program::Program;
 use rpg_program::columns::columns_of;
 use rpg_program::form::{Class, FieldForm};
 use rpg_program::line::Editing;
-use rpg_program::operation::{Index, Operand};
+use rpg_program::operation::{Index, Instruction, Operand};
 use rpg_program::row::Use;
-use rpg_program::rows::{Line, RecordType};
+use rpg_program::rows::{Line, RecordType, Rows};
 use rpg_program::value::Value;
 use rpg_refusal_causes::placed_at;
 use std::alloc::{AllocError, Global};
@@ -35,6 +35,7 @@ fn write_first(out: &mut TextWriter, form: FieldForm, values: &[Value]) {
     }
 }
 
+/// Writes the row of a field without its uses.
 fn write_row(out: &mut TextWriter, shown: Shown, number: u16, form: FieldForm, values: &[Value]) {
     out.fill_one("  #{:<5}", number);
     if shown.is_named {
@@ -176,15 +177,19 @@ impl Uses {
         }
     }
 
+    fn note_instruction(&mut self, rows: &Rows, place: usize, instruction: Instruction<u16>) {
+        let row = columns_of(rows, instruction);
+        self.note_used(row.factor1, By::Using, place);
+        self.note_used(row.factor2, By::Using, place);
+        self.note_used(row.result, By::Setting, place);
+    }
+
     fn note_places(&mut self, program: &Program) {
         for place in 0..usize::from(u16::MAX) {
             let Some(placed) = placed_at(program, place) else {
                 break;
             };
-            let row = columns_of(program.rows(), placed.instruction);
-            self.note_used(row.factor1, By::Using, place);
-            self.note_used(row.factor2, By::Using, place);
-            self.note_used(row.result, By::Setting, place);
+            self.note_instruction(program.rows(), place, placed.instruction);
         }
     }
 
@@ -193,6 +198,12 @@ impl Uses {
             for input in &record_type.inputs {
                 self.note(input.field, By::Type, row);
             }
+        }
+    }
+
+    fn note_lines(&mut self, lines: &[Line]) {
+        for (row, line) in lines.iter().enumerate() {
+            self.note_line(row, line);
         }
     }
 
@@ -214,9 +225,7 @@ impl Uses {
             self.ran_out |= self.fields.push(Vec::new(alloc)).is_err();
         }
         self.note_types(&rows.types);
-        for (row, line) in rows.lines.iter().enumerate() {
-            self.note_line(row, line);
-        }
+        self.note_lines(&rows.lines);
         self.note_places(program);
     }
 

@@ -4,5 +4,6 @@
 mod fields;
 mod program;
 mod rows;
+mod shown;
 
 pub use program::{program_overview, program_text};

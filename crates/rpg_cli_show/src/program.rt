@@ -1,24 +1,24 @@
 //! A program as text, and what it reads, writes and needs, in words: its files, the sizes of its tables, and the bound of an accepted program,
-//! with its parts; what the rows of a program are printed from, and what they share.
+//! with its parts.
 
 use crate::fields::{Uses, write_fields, write_first_values};
 use crate::rows::{write_lines, write_sections, write_types};
-use rpg_cli_show_fields::{
-    SourceRows, constant_of, name_text, uses_date, write_card_operand, write_named, write_value,
-};
-use rpg_cli_text::{TextWriter, Topic};
+use crate::shown::{Judged, Shown, Table, write_refusal};
+use rpg_cli_show_fields::{SourceRows, uses_date, write_named};
+use rpg_cli_text::TextWriter;
 use rpg_object::encode;
 use rpg_paper::Page;
 use rpg_program::Program;
 use rpg_program::input::InputFile;
 use rpg_program::line::Time;
-use rpg_program::operation::{Index, Instruction, Operand};
+use rpg_program::operation::Instruction;
 use rpg_program::rows::{Overflow, Rows};
-use rpg_verify::{BrokenRule, Rule, Verified, VerifyFault, verify};
+use rpg_verify::Verified;
 use std::alloc::{AllocError, Global};
 
 type Text = Result<String, AllocError>;
 
+/// Returns the text of a program, with its bound if it is accepted.
 fn shown_text(alloc: Global, program: &Program, shown: Shown, bound: Option<u64>) -> Text {
     let bytes = encode(alloc, program)?.len();
     let uses = Uses::of(alloc, program)?;
@@ -99,10 +99,10 @@ fn write_levels(out: &mut TextWriter, rows: &Rows) {
 
 /// Writes the files, the date, control levels, the form and the file that ends the job alone.
 fn write_rows(out: &mut TextWriter, rows: &Rows, uses_date: bool) {
-    let secondary = "           records of {} {column|columns} from --secondary FILE\n";
-    let disk = "  writes   records of {} {column|columns} to --disk FILE\n";
-    let printer = "  prints   lines of {} {place|places} to PRINT\n";
-    let input = "  reads    records of {} {column|columns} from INPUT\n";
+    let secondary = "           records of {} column{} from --secondary FILE\n";
+    let disk = "  writes   records of {} column{} to --disk FILE\n";
+    let printer = "  prints   lines of {} place{} to PRINT\n";
+    let input = "  reads    records of {} column{} from INPUT\n";
     write_length(out, input, rows.record_length, "");
     write_length(out, secondary, rows.secondary_length, "");
     write_length(out, printer, rows.printer_length, "  prints   nothing\n");
@@ -159,7 +159,8 @@ const ALLOWANCE: &str = "  limit    {} backward branches and calls a cycle\n";
 /// Writes a sentence with the record or line length of a file, or that there is no such file.
 fn write_length(out: &mut TextWriter, sentence: &str, length: u16, none: &str) {
     if length > 0 {
-        out.fill_one(sentence, length);
+        let plural = if length == 1 { "" } else { "s" };
+        out.fill_two(sentence, length, plural);
     } else {
         out.write_str(none);
     }
@@ -193,9 +194,9 @@ pub(crate) fn write_form(out: &mut TextWriter, rows: &Rows, standard: &str) {
 
 fn write_header(out: &mut TextWriter, shown: Shown<'_>) {
     let rows = shown.rows;
-    let input = "  input    records of {} {column|columns}";
-    let printer = "  printer  lines of {} {place|places}";
-    let disk = "  disk     records of {} {column|columns}\n";
+    let input = "  input    records of {} column{}";
+    let printer = "  printer  lines of {} place{}";
+    let disk = "  disk     records of {} column{}\n";
     let (fields, types, lines) = (rows.fields.len(), rows.types.len(), rows.lines.len());
     let subroutines = rows.subroutines.len();
     write_length(out, input, rows.record_length, "");
@@ -246,7 +247,7 @@ const BOUND: &str = "  accepted, bound {}: a cycle takes at most so many steps, 
 
 const TYPES: &str = "for codes, control fields and input fields of all record types";
 
-const MATCHED_TYPES: &str =
+const TYPES_WITH_MATCHES: &str =
     "for codes, control fields, input fields and match fields of all record types";
 
 const LINES: &str = "for heading, detail and total lines and their fields";
@@ -254,8 +255,6 @@ const LINES: &str = "for heading, detail and total lines and their fields";
 const DETAIL: &str = "for detail calculations, not counting loops and calls";
 
 const TOTAL: &str = "for total calculations, not counting loops and calls";
-
-const REST: &str = "for all that branches back and calls lead to";
 
 /// Writes the steps of a part, if it has some, but no more than are left of the bound.
 fn write_part(out: &mut TextWriter, left: &mut u64, steps: u64, words: &str) {
@@ -268,8 +267,11 @@ fn write_part(out: &mut TextWriter, left: &mut u64, steps: u64, words: &str) {
 
 fn write_bound(out: &mut TextWriter, rows: &Rows, bound: u64, costs: &[u64]) {
     let (mut left, lines) = (bound, lines_weight(rows));
-    let has_matches = rows.version.has_secondary();
-    let types = if has_matches { MATCHED_TYPES } else { TYPES };
+    let types = if rows.version.has_secondary() {
+        TYPES_WITH_MATCHES
+    } else {
+        TYPES
+    };
     out.fill_one(BOUND, bound);
     write_part(out, &mut left, types_weight(rows), types);
     write_part(out, &mut left, lines, LINES);
@@ -280,116 +282,10 @@ fn write_bound(out: &mut TextWriter, rows: &Rows, bound: u64, costs: &[u64]) {
     let total = first_cost(costs, rows.detail.len(), &rows.total);
     write_part(out, &mut left, total, TOTAL);
     let rest = left;
-    write_part(out, &mut left, rest, REST);
-}
-
-/// A program's rows, and what else is known about them.
-#[derive(Clone, Copy)]
-pub(crate) struct Shown<'a> {
-    pub rows: &'a Rows,
-    /// The cards of the program's source; empty if that isn't known.
-    pub source: &'a SourceRows,
-    pub is_named: bool,
-    /// The path costs of the places; empty for a rejected program.
-    pub costs: &'a [u64],
-    pub broken: Option<BrokenRule>,
-}
-
-#[derive(Clone, Copy, PartialEq, Eq)]
-pub(crate) enum Table {
-    Header,
-    Types,
-    Lines,
-    Places,
-    Subroutines,
-}
-
-fn table_of(rule: Rule) -> Table {
-    match rule {
-        Rule::Overflow => Table::Header,
-        Rule::Type(_) => Table::Types,
-        Rule::Line(_) => Table::Lines,
-        Rule::Place(_) => Table::Places,
-        Rule::Subroutine(_) => Table::Subroutines,
-    }
-}
-
-fn write_rule(out: &mut TextWriter, rule: Rule) {
-    let topic = Topic::Rule(usize::from(rule.number()));
-    out.fill_two("V{}: {}\n", rule.number(), topic.sentence());
-}
-
-pub(crate) fn write_refusal(out: &mut TextWriter, broken: BrokenRule) {
-    out.fill_one("  refused  row {} by ", broken.row);
-    write_rule(out, broken.rule);
-}
-
-#[derive(Drop)]
-pub(crate) enum Judged {
-    Accepted(Verified),
-    Refused(Program, BrokenRule),
-}
-
-impl Judged {
-    pub fn of(alloc: Global, program: Program) -> Result<Judged, AllocError> {
-        match verify(alloc, program) {
-            Ok(verified) => Ok(Judged::Accepted(verified)),
-            Err((program, VerifyFault::Refused { rule, row })) => {
-                Ok(Judged::Refused(program, BrokenRule { rule, row }))
-            }
-            Err((_, VerifyFault::NoMemory)) => Err(AllocError),
-        }
-    }
-
-    pub fn program(&self) -> &Program {
-        match self {
-            Judged::Accepted(verified) => verified.program(),
-            Judged::Refused(program, _) => program,
-        }
-    }
-}
-
-/// Writes the offset of a row of this many bytes, and moves past it.
-pub(crate) fn write_offset(out: &mut TextWriter, at: &mut usize, bytes: usize) {
-    out.fill_one("{:>6}", *at);
-    *at = (*at).saturating_add(bytes);
-}
-
-impl Shown<'_> {
-    /// Writes the rule that is broken after the row that breaks it.
-    pub fn write_broken(self, out: &mut TextWriter, table: Table, row: usize) {
-        match self.broken {
-            Some(broken) if broken.row == row && table_of(broken.rule) == table => {
-                out.write_str("        ^ ");
-                write_rule(out, broken.rule);
-            }
-            _ => {}
-        }
-    }
-
-    /// Writes a blank and the name of a field; nothing if it has none or the source isn't known.
-    pub fn write_name(self, out: &mut TextWriter, field: u16) {
-        if let Some(name) = self.source.field_name(field) {
-            out.fill_one(" {}", name_text(name));
-        }
-    }
-
-    /// Writes a field with its index, if it has one, and a constant with its value. If the source is known, what its cards have follows.
-    pub fn write_operand(self, out: &mut TextWriter, operand: Operand<u16>) {
-        let constant = constant_of(self.rows, operand.field);
-        out.fill_one("#{}", operand.field);
-        if let Some((value, decimals)) = constant {
-            out.write_char('=');
-            write_value(out, value, decimals);
-        }
-        match operand.index {
-            Index::Blank => {}
-            Index::Literal(entry) => out.fill_one(",{}", entry),
-            Index::Field(field) => out.fill_one(",#{}", field),
-        }
-        if self.is_named && constant.is_none() {
-            out.write_char(' ');
-            write_card_operand(out, self.rows, self.source, operand);
-        }
-    }
+    write_part(
+        out,
+        &mut left,
+        rest,
+        "for all that branches back and calls lead to",
+    );
 }

@@ -1,7 +1,7 @@
 //! Record types, with their codes, control fields, input fields and match fields; output lines, with their conditions and their fields;
 //! instructions, as the calculation sheet has them: factor 1, operation, factor 2, result and indicators.
 
-use crate::program::{Shown, Table, write_offset};
+use crate::shown::{Shown, Table, write_offset};
 use rpg_cli_show_fields::{
     time_word, write_card, write_code, write_condition, write_named, write_quoted, write_shows,
     write_spacing, write_when,
@@ -16,7 +16,9 @@ use rpg_program::row::{Marks, Use};
 use rpg_program::rows::RecordType;
 
 fn write_alternative(out: &mut TextWriter, conditions: &[Condition]) {
-    out.write_str(if conditions.is_empty() { " always" } else { "" });
+    if conditions.is_empty() {
+        out.write_str(" always");
+    }
     for condition in conditions {
         write_condition(out, *condition);
     }
@@ -87,6 +89,7 @@ pub(crate) fn write_lines(out: &mut TextWriter, at: &mut usize, shown: Shown<'_>
     }
 }
 
+/// Writes which records are of the type, and which indicator it turns on.
 fn write_head(out: &mut TextWriter, number: usize, record_type: &RecordType) {
     let of_file = match record_type.file {
         InputFile::Primary => "",
@@ -145,8 +148,11 @@ pub(crate) fn write_types(out: &mut TextWriter, at: &mut usize, shown: Shown<'_>
     let control = "    columns {}-{} are a control field of L{}";
     let matched = "    columns {}-{} are a match field of M{}";
     out.write_str("\n    at  RECORD TYPES\n");
-    let has_matches = shown.rows.version.has_secondary();
-    let head = if has_matches { 10 } else { 8 };
+    let head = if shown.rows.version.has_secondary() {
+        10
+    } else {
+        8
+    };
     for (number, record_type) in shown.rows.types.iter().enumerate() {
         write_offset(out, at, head);
         write_head(out, number, record_type);
@@ -160,6 +166,7 @@ pub(crate) fn write_types(out: &mut TextWriter, at: &mut usize, shown: Shown<'_>
     }
 }
 
+/// The bytes of an instruction.
 const INSTRUCTION: usize = 20;
 
 /// The bytes of a subroutine before its instructions.
@@ -231,6 +238,7 @@ fn write_instruction(out: &mut TextWriter, shown: Shown<'_>, instruction: Instru
     }
 }
 
+/// Writes the instructions of a section, the first at this place.
 fn write_section(
     out: &mut TextWriter,
     at: &mut usize,

@@ -3,13 +3,14 @@
 #![tactic(auto)]
 
 mod date_use;
+mod operands;
 mod source_rows;
 mod words;
 
 pub use date_use::uses_date;
+pub use operands::{constant_of, write_card_operand};
 pub use source_rows::SourceRows;
 pub use words::{
-    Indicator, constant_of, is_empty, name_text, time_word, write_card, write_card_operand,
-    write_code, write_condition, write_form, write_named, write_quoted, write_shows, write_spacing,
-    write_value, write_when,
+    Indicator, is_empty, name_text, time_word, write_card, write_code, write_condition, write_form,
+    write_named, write_quoted, write_shows, write_spacing, write_value, write_when,
 };

@@ -1,15 +1,12 @@
 //! Names, indicators, conditions, values and forms of fields, edit codes, the times of lines, and the movements of the form, as cards and
-//! listings have them; the contents of factors, results and output fields.
+//! listings have them.
 
-use crate::source_rows::SourceRows;
 use rpg_cli_text::{TextWriter, indicator_name};
 use rpg_edit_marks::{EditCode, Fill};
 use rpg_program::condition::{Condition, Conditions, has_conditions};
-use rpg_program::form::{Class, FieldForm, Kind, is_constant};
-use rpg_program::forms::form_at;
+use rpg_program::form::{Class, FieldForm, Kind};
 use rpg_program::line::{Spacing, Time};
-use rpg_program::operation::{Index, Operand, Shows};
-use rpg_program::rows::Rows;
+use rpg_program::operation::Shows;
 use rpg_program::value::Value;
 use rpg_text::{shown, trimmed};
 
@@ -62,6 +59,7 @@ pub fn write_shows(out: &mut TextWriter, sentences: [&str; 3], shows: Shows) {
     write_named(out, zero, shows.zero);
 }
 
+/// Writes the card of a row, if it is known.
 pub fn write_card(out: &mut TextWriter, card: Option<u16>) {
     if let Some(card) = card {
         out.fill_one(" (card {})", card);
@@ -162,42 +160,5 @@ pub fn write_form(out: &mut TextWriter, form: FieldForm) {
     out.fill_two(kind, form.length, form.decimals);
     if form.is_ascending {
         out.write_str(", ascending");
-    }
-}
-
-pub fn constant_of(rows: &Rows, field: u16) -> Option<(&Value, u8)> {
-    let form = form_at(rows, field)?;
-    if !is_constant(form.class) {
-        return None;
-    }
-    let values = rows.values.get(usize::from(field).checked_sub(1)?)?;
-    Some((values.as_slice().first()?, form.decimals))
-}
-
-fn write_name(out: &mut TextWriter, source: &SourceRows, field: u16) {
-    match source.field_name(field) {
-        Some(name) => out.write_str(name_text(name)),
-        None => out.fill_one("#{}", field),
-    }
-}
-
-/// Writes a field with its index as on cards: by name, or for a constant by its value.
-pub fn write_card_operand(
-    out: &mut TextWriter,
-    rows: &Rows,
-    source: &SourceRows,
-    operand: Operand<u16>,
-) {
-    match constant_of(rows, operand.field) {
-        Some((value, decimals)) => write_value(out, value, decimals),
-        None => write_name(out, source, operand.field),
-    }
-    match operand.index {
-        Index::Blank => {}
-        Index::Literal(entry) => out.fill_one(",{}", entry),
-        Index::Field(field) => {
-            out.write_char(',');
-            write_name(out, source, field);
-        }
     }
 }

@@ -2,13 +2,16 @@
 //! and what happens then.
 #![tactic(auto)]
 
+mod indicators;
 mod near;
+mod page;
 mod pages;
 mod text;
 mod topic;
 mod writer;
 
-pub use near::{indicator_name, is_near};
+pub use indicators::indicator_name;
+pub use near::is_near;
 pub use text::{all_pages, list_text, pages_text};
 pub use topic::{HALTS, Topic, sentence_of, topic_of};
 pub use writer::{Piece, TextWriter};

@@ -1,9 +1,7 @@
-//! The pages of codes: a text for each family, in the order of its codes, after what happens then; each page as [`Page`] reads it.
+//! The pages of codes: a text for each family, in the order of its codes, each page as [`crate::page::Page`] reads it.
 
 pub(crate) const SHEETS: &str = "\
-    F codes of other cards are reported too, unless they depend on its sheet. Nothing is written;\n\
-    status 3\
-    @S1%the card has more than 80 characters%\
+    S1%the card has more than 80 characters%\
     %- a line of 81 characters; a blank in column 81 counts too\
     %- a line of 80 characters, with its line feed after it, or carriage return and line feed\
     %cut off what is after column 80: `cut -c1-80`. Many editors show blanks at the end of a\nline only on request\
@@ -43,9 +41,7 @@ pub(crate) const SHEETS: &str = "\
     %remove comments, or make two programs of it";
 
 pub(crate) const FAULTS: &str = "\
-    the line has the first card and its lowest code; standard error has all. Beside a card with an S\n\
-    code only those are reported that don't depend on its sheet. Nothing is written; status 3\
-    @F1%a name is used that no card defines%cards\
+    F1%a name is used that no card defines%cards\
     %     C                     Z-ADDAMMT      TOT\n     O                         NONE      10\
     %     C                     Z-ADDAMT       TOT\n     O                         TOT       10\
     %a name is defined by an E card, by an input field, or by a calculation with a length\n(49-51) and that result field, wherever these are. Look for a letter that differs, a name a\ncolumn too far left or right, and decimals (52) without a length\
@@ -120,9 +116,7 @@ pub(crate) const FAULTS: &str = "\
     %the message shows how many cards of data are needed and how many there are, or\nwhich entry is wrong. The data come after the sheets, each table's after a ** card, in the\norder of the E cards. Only their cards are counted: entries that a card doesn't fill are blank,\nin a number 0, and what comes after the last entry is ignored";
 
 pub(crate) const WARNINGS: &str = "\
-    reported on standard error for a source without a fault. The object program is written, and the\n\
-    line is as without it; status 0. With --deny nothing is written, and the line has the code; status 3\
-    @W1%an indicator is tested, and nothing turns it on%cards\
+    W1%an indicator is tested, and nothing turns it on%cards\
     %- where no card turns on 02, a line that is never output:\n\n     OPRINT   D        02\
     %- an indicator that a record type, an input field, a result, SETON or a full page turns on:\n\n     IINPUT   AA  01\n     OPRINT   D        01\n\n- L0 to L9, LR and 1P, which the machine turns on\
     %look for the card that should turn it on: a record type (19-20), an input field\n(65-70), a result (54-59), or the F card of the printer (33-34). SETOF turns none on\
@@ -184,8 +178,7 @@ pub(crate) const WARNINGS: &str = "\
     %look for the L card, or write L into 39. Without an L card a page has 66 lines, and\noverflow is at line 60; an L card counts, whatever 39 has";
 
 pub(crate) const HALTS: &str = "\
-    the job ends at once, and its output so far stays; status 5\
-    @halt 1%a calculation divides by zero%\
+    halt 1%a calculation divides by zero%\
     %- DIV by a field that is 0\
     %- a COMP of the divisor with 0 before, and the DIV under its indicator\
     %look at the field in factor 2 of each DIV that is executed; the line has the cycle, and\nrpg2 run with --source SRC the card\
@@ -219,9 +212,7 @@ pub(crate) const HALTS: &str = "\
     %sort the file by its match fields, M9 before M8 and so on, in the order that\ndocs/format/MACHINE.md has for characters. The message has both match values, each from M9 down to\nM1, and the number of the record that the lower one comes after";
 
 pub(crate) const RULES: &str = "\
-    nothing is run. The lowest rule that a row breaks is reported, with the first row that breaks\n\
-    it, counted from 0; status 4\
-    @V1%there is an overflow indicator, but no printer%rows\
+    V1%there is an overflow indicator, but no printer%rows\
     %- overflow indicator OA, and printer length 0\
     %- overflow indicator OA, and printer length 1\
     @V2%a line is for a file that the program doesn't have%rows\
@@ -301,9 +292,7 @@ pub(crate) const RULES: &str = "\
     %- M1 in columns 2 to 6 there; a type without match fields";
 
 pub(crate) const BYTES: &str = "\
-    nothing is run. The first number that is wrong is reported, with the offset of its first byte,\n\
-    counted from 0; the rules, V1 to V26, come after; status 4\
-    @B1%the first six bytes aren't RPGOBJ, or are missing%\
+    B1%the first six bytes aren't RPGOBJ, or are missing%\
     %- a source in place of an object; an empty file\
     %- 52 50 47 4f 42 4a\
     %see whether SRC and OBJ, or OBJ and INPUT, were confused\
@@ -327,9 +316,7 @@ pub(crate) const BYTES: &str = "\
     %- 4,000 fields; 8,192 instructions";
 
 pub(crate) const REWRITINGS: &str = "\
-    rpg2 fit reports each change with its card; status 0. If the rule can't rewrite a card to the same\n\
-    meaning, this is reported with the reason, and no NEW is written; status 3\
-    @A1%directives for the listing and DEBUG become comments%\
+    A1%directives for the listing and DEBUG become comments%\
     %     I/EJECT\n     C   01                DEBUG\
     %     I*EJECT\n     C*  01                DEBUG\
     %nothing. The lines of DEBUG aren't printed\

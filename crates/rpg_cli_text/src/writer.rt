@@ -10,13 +10,10 @@ pub enum Piece<'a> {
     Number(u64),
     Character(char),
     Word(&'a str),
-    /// A text from outside, with a question mark for each byte that isn't a character.
+    /// A text from outside, with a question mark for each byte that isn't a
+    /// character.
     Outside(&'a [u8]),
-    /// A byte, as two hexadecimal digits.
-    Byte(u8),
 }
-
-const HEX: &[u8; 16] = b"0123456789abcdef";
 
 impl From<u8> for Piece<'_> {
     fn from(number: u8) -> Self {
@@ -71,8 +68,10 @@ pub struct TextWriter {
 impl TextWriter {
     /// Returns an empty text, which allocates from `alloc` as it grows.
     pub fn new(alloc: Global) -> TextWriter {
-        let (text, ran_out) = (String::new(alloc), false);
-        TextWriter { text, ran_out }
+        TextWriter {
+            text: String::new(alloc),
+            ran_out: false,
+        }
     }
 
     pub fn write_str(&mut self, piece: &str) {
@@ -103,23 +102,19 @@ impl TextWriter {
     }
 
     /// Appends a sentence, with a piece at each of its places: `{}` takes it unchanged, `{:<8}` pads it with blanks on the right to eight
-    /// columns, and `{:>8}` on the left. `{one|more}` takes none: the first word if the number before it is 1, and else the second.
+    /// columns, and `{:>8}` on the left.
     pub fn fill(&mut self, sentence: &str, pieces: &[Piece<'_>]) {
-        let (mut rest, mut left, mut is_one) = (sentence, pieces, false);
-        for _ in 0..sentence.len() {
+        let mut rest = sentence;
+        for piece in pieces {
             let Some((before, place)) = rest.split_once('{') else {
                 break;
             };
-            let (layout, after) = place.split_once('}').unwrap_or((place, ""));
+            let Some((layout, after)) = place.split_once('}') else {
+                break;
+            };
             self.write_str(before);
+            self.write_laid_out(layout, *piece);
             rest = after;
-            if let Some((one, more)) = layout.split_once('|') {
-                self.write_str(if is_one { one } else { more });
-            } else if let [piece, following @ ..] = left {
-                self.write_laid_out(layout, *piece);
-                is_one = matches!(piece, Piece::Number(1));
-                left = following;
-            }
         }
         self.write_str(rest);
     }
@@ -171,7 +166,6 @@ impl TextWriter {
                 self.pad_to(self.len().saturating_add(blanks));
                 self.write_shown(text);
             }
-            Piece::Byte(_) => self.write_piece(piece),
         }
     }
 
@@ -181,10 +175,6 @@ impl TextWriter {
             Piece::Character(character) => self.write_char(character),
             Piece::Word(word) => self.write_str(word),
             Piece::Outside(text) => self.write_shown(text),
-            Piece::Byte(byte) => {
-                self.write_char(char::from(HEX[usize::from(byte / 16)]));
-                self.write_char(char::from(HEX[usize::from(byte % 16)]));
-            }
         }
     }
 
@@ -222,10 +212,6 @@ impl TextWriter {
     pub fn clear(&mut self) {
         self.text.clear();
         self.ran_out = false;
-    }
-
-    pub fn lose(&mut self) {
-        self.ran_out = true;
     }
 
     /// Returns the text. The error is as for `so_far`.

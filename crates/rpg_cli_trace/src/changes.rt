@@ -1,6 +1,6 @@
 //! The fields that a cycle changed.
 
-use crate::tracing::Told;
+use crate::told::Told;
 use rpg_cli_files::Listener;
 use rpg_cli_show_fields::{write_quoted, write_value};
 use rpg_memory::memory::Memory;
@@ -57,6 +57,7 @@ fn text_at<'m, S: Store + Drop>(
     }
 }
 
+/// Returns the values of a field, one for each entry.
 fn values_of<S: Store + Drop>(
     alloc: Global,
     memory: &Memory<'_, S>,
@@ -85,6 +86,7 @@ fn keep<S: Store + Drop>(memory: &Memory<'_, S>, field: u16, position: u16, valu
 }
 
 impl<L: Listener> Told<'_, '_, L> {
+    /// Begins the line of an entry, up to its new value.
     fn begin_entry(&mut self, at: EntryAt, old: &Value) {
         let names = self.names;
         self.out.fill("cycle {}: ", &[self.cycle.into()]);

@@ -1,7 +1,8 @@
 //! Counts over all cycles of a job; the lines that are due at detail output, by the indicators that are on before it; and control fields that
 //! descend.
 
-use crate::tracing::{Cycle, JobNames, Selected, Told, lines_in};
+use crate::told::{JobNames, Told, lines_in, records_in};
+use crate::tracing::{Cycle, Selected};
 use rpg_cli_diagnostics::{Diagnostic, Diagnostics, Draft, Level as Severity};
 use rpg_cli_files::Listener;
 use rpg_cycle_records::LastBytes;
@@ -64,8 +65,7 @@ impl Counts {
     pub fn go_on<S: Store + Drop>(&mut self, job: &Job<'_, S>, cycle: Cycle) {
         let output = job.output();
         self.printed = self.printed.saturating_add(lines_in(&output.print));
-        let stored = output.disk.iter().filter(|byte| **byte == b'\n').count();
-        self.stored = self.stored.saturating_add(stored as u64);
+        self.stored = self.stored.saturating_add(records_in(&output.disk));
         if let Some(JobEnd::Halt(_)) = cycle.ended {
             return;
         }
@@ -161,14 +161,20 @@ const LONGEST_LEVEL: usize = 256;
 
 const WENT_DOWN: &str = "control field L{} goes down: \"{}\" after \"{}\"";
 
-/// A control level after the last cycle, how often it went down, at which record first, and from which bytes to which.
+/// Where a control level first went down.
 #[derive(Drop)]
-struct Level {
-    last: LastBytes,
-    falls: u64,
+struct Fall {
     record: Option<Selected>,
     before: Vec<u8>,
     after: Vec<u8>,
+}
+
+/// A control level after the last cycle, and how often it went down.
+#[derive(Drop)]
+struct Level {
+    last: LastBytes,
+    first: Fall,
+    falls: u64,
 }
 
 fn keep(place: &mut Vec<u8>, bytes: &[u8]) {
@@ -183,10 +189,12 @@ impl Level {
                 is_known: false,
                 bytes: Vec::with_capacity(alloc, LONGEST_LEVEL)?,
             },
+            first: Fall {
+                record: None,
+                before: Vec::with_capacity(alloc, LONGEST_LEVEL)?,
+                after: Vec::with_capacity(alloc, LONGEST_LEVEL)?,
+            },
             falls: 0,
-            record: None,
-            before: Vec::with_capacity(alloc, LONGEST_LEVEL)?,
-            after: Vec::with_capacity(alloc, LONGEST_LEVEL)?,
         })
     }
 
@@ -196,17 +204,22 @@ impl Level {
             return false;
         }
         if self.falls == 0 {
-            self.record = Some(record);
-            keep(&mut self.before, &self.last.bytes);
-            keep(&mut self.after, &now.bytes);
+            self.first.record = Some(record);
+            keep(&mut self.first.before, &self.last.bytes);
+            keep(&mut self.first.after, &now.bytes);
         }
         self.falls = self.falls.saturating_add(1);
         true
     }
 
+    fn renew(&mut self, now: &LastBytes) {
+        self.last.is_known = now.is_known;
+        keep(&mut self.last.bytes, &now.bytes);
+    }
+
     /// Returns the diagnostic for a level with this number that went down at a record.
     fn fall<'f>(&self, mut draft: Draft<'f>, number: usize) -> Result<Diagnostic<'f>, AllocError> {
-        let (after, before) = (self.after.as_slice(), self.before.as_slice());
+        let (after, before) = (self.first.after.as_slice(), self.first.before.as_slice());
         draft.message.fill_three(WENT_DOWN, number, after, before);
         if self.falls > 1 {
             draft.message.fill_one(" ({} more)", self.falls - 1);
@@ -219,7 +232,7 @@ impl Level {
 #[derive(Drop)]
 pub(crate) struct Levels {
     levels: Vec<Level>,
-    pub fallen: Option<Selected>,
+    fallen: Option<Selected>,
 }
 
 impl Levels {
@@ -232,6 +245,10 @@ impl Levels {
             levels,
             fallen: None,
         })
+    }
+
+    pub fn fallen(&self) -> Option<Selected> {
+        self.fallen
     }
 
     /// Returns the place of the highest level that a cycle changed.
@@ -248,8 +265,7 @@ impl Levels {
 
     fn renew(&mut self, now: &[LastBytes]) {
         for (level, last) in self.levels.iter_mut().zip(now) {
-            level.last.is_known = last.is_known;
-            keep(&mut level.last.bytes, &last.bytes);
+            level.renew(last);
         }
     }
 
@@ -276,7 +292,7 @@ impl Levels {
     ) -> Diagnostics<'a> {
         let mut out = Diagnostics::new(alloc);
         for (place, level) in self.levels.iter().enumerate() {
-            if let Some(record) = level.record {
+            if let Some(record) = level.first.record {
                 let draft = Draft::new(alloc, severity, Some(names.place(record)), None);
                 out.push(level.fall(draft, place.saturating_add(1)));
             }

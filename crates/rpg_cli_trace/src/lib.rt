@@ -4,7 +4,8 @@
 mod changes;
 mod counts;
 mod looking;
+mod told;
 mod tracing;
 
 pub use looking::{HaltedFile, Looking};
-pub use tracing::JobNames;
+pub use told::JobNames;

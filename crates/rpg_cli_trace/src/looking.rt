@@ -1,7 +1,8 @@
 //! Looks at a job between its cycles, and reports what it did.
 
 use crate::counts::Counts;
-use crate::tracing::{Cycle, JobNames, Records, Reported, Told};
+use crate::told::{JobNames, Told};
+use crate::tracing::{Cycle, Records, Reported};
 use rpg_cli_diagnostics::Level;
 use rpg_cli_files::{Listener, tell_all};
 use rpg_cli_words::LookArguments;
@@ -107,17 +108,20 @@ impl<'a, 'l, L: Listener> Looking<'a, 'l, L> {
 
     /// Reports the counts after the job, and the control fields that went down. Returns the number of the first record at which one did.
     pub fn finish(&mut self) -> Option<u64> {
-        let counts = self.counts.as_ref()?;
-        let level = match self.words.is_sorted {
-            true => Level::Error,
-            false => Level::Warning,
+        let Some(counts) = &self.counts else {
+            return None;
+        };
+        let level = if self.words.is_sorted {
+            Level::Error
+        } else {
+            Level::Warning
         };
         let falls = counts.levels.falls(self.alloc, level, &self.names);
         tell_all(self.listener, &falls);
         if self.words.watches {
             counts.report(&mut Told::new(self.alloc, self.names, self.listener));
         }
-        Some(counts.levels.fallen?.number)
+        Some(counts.levels.fallen()?.number)
     }
 
     /// Returns the file whose record the job had when it halted, if it did.

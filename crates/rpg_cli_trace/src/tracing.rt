@@ -1,148 +1,17 @@
-//! A text about what a cycle did, reported line by line, so that no more of it is in memory than a line: the names of a job's records,
-//! record types and fields; lines of the printer and records of the disk file in the bytes of the output; the record that the cycle
-//! selected, found from its files before and after, and which indicators it turned on or off.
+//! A text about what a cycle did: the record that it selected, found from its files before and after, and which indicators it turned on or
+//! off.
 
-use crate::changes::{EntryAt, Values};
-use rpg_cli_diagnostics::{FileName, Place};
+use crate::changes::Values;
+use crate::told::Told;
 use rpg_cli_files::Listener;
-use rpg_cli_show_fields::{SourceRows, name_text, write_card};
 use rpg_cli_text::{TextWriter, indicator_name};
 use rpg_cycle_records::{Kept, KeptFile, identify, input_length};
 use rpg_engine::{Job, JobEnd};
 use rpg_memory::indicators::Indicators;
-use rpg_program::form::Class;
 use rpg_program::input::InputFile;
 use rpg_store::Store;
-use rpg_text::shown;
 use rpg_verify::Verified;
 use std::alloc::{AllocError, Global};
-
-/// A line that isn't reported yet, the names for it, and who takes it.
-#[derive(Drop)]
-pub(crate) struct Told<'a, 'l, L> {
-    pub out: TextWriter,
-    pub names: JobNames<'a>,
-    /// The cycle that is reported.
-    pub cycle: u64,
-    listener: &'l mut L,
-}
-
-impl<'a, 'l, L: Listener> Told<'a, 'l, L> {
-    pub fn new(alloc: Global, names: JobNames<'a>, listener: &'l mut L) -> Self {
-        Told {
-            out: TextWriter::new(alloc),
-            names,
-            cycle: 0,
-            listener,
-        }
-    }
-
-    pub fn end_line_of(&mut self, record: Option<Place<'_>>) {
-        match self.out.so_far() {
-            Ok(line) => self.listener.line(record, line),
-            Err(_) => self.listener.lose(),
-        }
-        self.out.clear();
-    }
-
-    pub fn end_line(&mut self) {
-        self.end_line_of(None);
-    }
-
-    fn end_quoted(&mut self) {
-        self.out.write_char('"');
-        self.end_line();
-    }
-
-    /// Reports each line that has text on a line of its own, in quotes, after the given words.
-    pub fn report_lines(&mut self, begin: &str, bytes: &[u8]) {
-        let mut is_in_line = false;
-        for byte in bytes {
-            let is_text = !is_movement(*byte);
-            if is_text && !is_in_line {
-                self.out.fill(begin, &[self.cycle.into()]);
-            }
-            if is_text {
-                self.out.write_char(shown(*byte) as char);
-            } else if is_in_line {
-                self.end_quoted();
-            }
-            is_in_line = is_text;
-        }
-        if is_in_line {
-            self.end_quoted();
-        }
-    }
-
-    pub fn pass_on(&mut self) {
-        self.listener.pass_on();
-    }
-}
-
-/// A program that runs, the names of its input files, and the cards of its source, if that is known.
-#[derive(Clone, Copy)]
-pub struct JobNames<'a> {
-    pub program: &'a Verified,
-    pub primary: FileName<'a>,
-    pub secondary: Option<FileName<'a>>,
-    pub source: Option<&'a SourceRows>,
-}
-
-impl<'a> JobNames<'a> {
-    fn file(&self, file: InputFile) -> FileName<'a> {
-        match (file, self.secondary) {
-            (InputFile::Secondary, Some(secondary)) => secondary,
-            (InputFile::Primary, _) | (InputFile::Secondary, None) => self.primary,
-        }
-    }
-
-    pub(crate) fn place(&self, record: Selected) -> Place<'a> {
-        self.file(record.file).line(record.number)
-    }
-
-    pub(crate) fn write_type(&self, out: &mut TextWriter, row: usize) {
-        out.fill("type {}", &[row.into()]);
-        if let Some(source) = self.source {
-            write_card(out, source.type_card(row));
-        }
-    }
-
-    /// Writes an entry of a field: the field's name, or its number if the name isn't known, and the index if it has several entries.
-    pub(crate) fn write_entry(&self, out: &mut TextWriter, at: EntryAt) {
-        match self.name_of(at.field) {
-            Some(name) => out.write_str(name_text(name)),
-            None => out.fill("#{}", &[at.field.into()]),
-        }
-        if matches!(at.form.class, Class::Array | Class::Table) {
-            out.fill(",{}", &[at.position.into()]);
-        }
-    }
-
-    fn name_of(&self, field: u16) -> Option<&[u8]> {
-        self.source?.field_name(field)
-    }
-}
-
-const FORM_FEED: u8 = 12;
-
-/// Whether a byte moves the form, or ends a record of the disk file.
-fn is_movement(byte: u8) -> bool {
-    matches!(byte, b'\n' | b'\r' | FORM_FEED)
-}
-
-/// Counts the lines that have text. Each begins where the form was moved.
-pub(crate) fn lines_in(bytes: &[u8]) -> u64 {
-    let mut count = 0u64;
-    let mut is_in_line = false;
-    for byte in bytes {
-        let is_text = !is_movement(*byte);
-        if is_text && !is_in_line {
-            count = count.saturating_add(1);
-        }
-        is_in_line = is_text;
-    }
-    count
-}
 
 const LAST_RECORD: u8 = 110;
 
@@ -187,6 +56,7 @@ pub(crate) struct Records {
     is_last: bool,
 }
 
+/// Returns the row of a record's type, counted from 0.
 fn row_of(program: &Verified, file: InputFile, text: &[u8]) -> Option<usize> {
     if text.len() != input_length(program, file) {
         return None;
@@ -279,6 +149,7 @@ impl Reported {
         })
     }
 
+    /// Reports the indicators that turned on, or off, if any did.
     fn report_turned<L: Listener>(&self, told: &mut Told<'_, '_, L>, on: &Indicators, to_on: bool) {
         if self.lights.write_turned(&mut told.out, on, to_on) {
             told.end_line();
@@ -318,7 +189,7 @@ const NUMBERS_END: u8 = 130;
 
 /// Which indicators were on after the last cycle, by number.
 #[derive(Drop)]
-struct Lights {
+pub(crate) struct Lights {
     on: Vec<bool>,
 }
 

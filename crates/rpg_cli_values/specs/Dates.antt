@@ -1,8 +1,8 @@
 -- Dates of six digits: a day in each order, and what may be a date.
 use Rattle.std.specs.Prelude.{ℕ, ◌+◌, ◌/◌, ◌%◌, Bool, ◌&&◌, ◌||◌, ◌==◌, nat_le, if◌then◌else◌, List, [], ◌∷◌}
-use Rattle.rpg_cli_values.specs.declared.date.DateOrder.{DateOrder}
-use Rattle.rpg_cli_values.specs.declared.date.DateOrder.TheVariants.{MonthFirst, DayFirst, YearFirst}
-use Rattle.rpg_cli_values.specs.declared.date.Day.{Day}
+use Rattle.rpg_cli_values.specs.declared.day.DateOrder.{DateOrder}
+use Rattle.rpg_cli_values.specs.declared.day.DateOrder.TheVariants.{MonthFirst, DayFirst, YearFirst}
+use Rattle.rpg_cli_values.specs.declared.day.Day.{Day}
 
 -- the characters of a number below 100
 abbrev pub tens : ℕ → ℕ

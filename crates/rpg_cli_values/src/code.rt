@@ -24,6 +24,7 @@ pub enum WarningCode {
 }
 
 impl WarningCode {
+    /// Returns its number, counted from 0.
     pub const fn number(self) -> usize
         ensures value { result ≡ code_number self }
         ensures within { result < 15 }
@@ -69,6 +70,7 @@ impl WarningCode {
         }
     }
 
+    /// Returns the code with this text.
     pub fn named(text: &str) -> Option<WarningCode> {
         match text {
             "W1" => Some(WarningCode::W1),

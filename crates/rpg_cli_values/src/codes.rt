@@ -17,12 +17,14 @@ impl WarningCodes {
 
     pub const ALL: WarningCodes = WarningCodes { marks: [true; 15] };
 
+    /// Whether a code is in the set.
     pub const fn has(self, code: WarningCode) -> bool
         ensures { result ≡ has self code }
     {
         self.marks[code.number()]
     }
 
+    /// Returns the set with one more code.
     pub fn with(self, code: WarningCode) -> WarningCodes
         ensures { result ≡ with self code }
     {
@@ -31,6 +33,7 @@ impl WarningCodes {
         WarningCodes { marks }
     }
 
+    /// Whether no code is in the set.
     pub fn is_empty(self) -> bool {
         self.marks.iter().all(|is_marked| !*is_marked)
     }

@@ -2,8 +2,8 @@
 use Rattle.std.specs.Prelude.{Bool, true, false}
 use Rattle.rpg_cli_words.specs.declared.files.FileArgument.{FileArgument}
 use Rattle.rpg_cli_words.specs.declared.files.FileArgument.TheVariants as arguments
-use Rattle.rpg_cli_words.specs.declared.files.Existing.{Existing}
-use Rattle.rpg_cli_words.specs.declared.files.Existing.TheVariants as places
+use Rattle.rpg_cli_words.specs.declared.outputs.Existing.{Existing}
+use Rattle.rpg_cli_words.specs.declared.outputs.Existing.TheVariants as places
 
 -- A new object program replaces an object program, the new form of an old deck what it is forced to, and another output what is no program. Where
 -- nothing is lost, anything is written.

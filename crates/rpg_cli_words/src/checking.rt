@@ -32,6 +32,7 @@ fn bad_file(command: &str, given: &ArgMatches<'_>) -> Option<&'static str> {
     None
 }
 
+/// Whether one of these arguments names a table file by this name.
 fn have_table(texts: &[&str], name: &str) -> bool {
     let mut tables = texts.iter().copied().filter_map(TableArgument::of);
     tables.any(|table| table.name == name)
@@ -39,13 +40,13 @@ fn have_table(texts: &[&str], name: &str) -> bool {
 
 const NO_TABLE: &str = "'--table <NAME=FILE>' needs a file's name from the cards, =, and a path";
 
-const TABLE_TWICE: &str = "'--table <NAME=FILE>' can be given only once for each name";
-
 fn bad_table(texts: &[&str]) -> Option<&'static str> {
     for i in 0..texts.len() {
         match TableArgument::of(texts[i]) {
             None => return Some(NO_TABLE),
-            Some(table) if have_table(&texts[i + 1..], table.name) => return Some(TABLE_TWICE),
+            Some(table) if have_table(&texts[i + 1..], table.name) => {
+                return Some("'--table <NAME=FILE>' can be given only once for each name");
+            }
             Some(_) => {}
         }
     }
@@ -140,6 +141,7 @@ fn has_other(given: &ArgMatches<'_>) -> bool {
     OTHERS.split(' ').any(|name| is_given(given, name))
 }
 
+/// Returns what is wrong with a file that is merged, given those after it.
 fn bad_merged(text: &str, others: &[&str]) -> Option<&'static str> {
     match TableArgument::of(text) {
         None => Some(MERGED),
@@ -193,11 +195,16 @@ fn bad_lines(given: &ArgMatches<'_>) -> Option<&'static str> {
     }
 }
 
+#[derive(Clone, Copy, PartialEq, Eq)]
+pub enum RowsWay {
+    ToLines,
+    ToRows,
+}
+
 /// How rows of comma-separated values are written.
 #[derive(Clone, Copy)]
 pub struct RowArguments<'a> {
-    /// Whether lines become rows, and not rows lines.
-    pub makes_rows: bool,
+    pub way: RowsWay,
     pub columns: Option<&'a str>,
     /// Whether the first row names the columns.
     pub has_header: bool,
@@ -247,25 +254,30 @@ fn character(given: &ArgMatches<'_>, name: &str) -> Result<Option<u8>, &'static 
     }
 }
 
+fn decimal(text: Option<&str>) -> Result<u8, &'static str> {
+    match text {
+        None | Some(".") => Ok(b'.'),
+        Some(",") => Ok(b','),
+        Some(_) => Err("'--decimal <C>' needs . or ,"),
+    }
+}
+
 impl<'a> RowArguments<'a> {
     /// Reads the arguments, if rows are converted. The error is what is wrong with one of them.
     pub(crate) fn read(given: &ArgMatches<'a>) -> Result<Option<Self>, &'static str> {
-        let makes_rows = given.get_flag("to-csv");
-        if !makes_rows && !given.get_flag("csv") {
-            return Ok(None);
-        }
+        let way = match (given.get_flag("csv"), given.get_flag("to-csv")) {
+            (true, _) => RowsWay::ToLines,
+            (false, true) => RowsWay::ToRows,
+            (false, false) => return Ok(None),
+        };
         Ok(Some(RowArguments {
-            makes_rows,
+            way,
             columns: given.get_str("columns"),
             has_header: !given.get_flag("no-header"),
             delimiter: character(given, "delimiter")?.unwrap_or(b','),
             group: character(given, "group")?,
             replacement: character(given, "replace")?,
-            decimal: match given.get_str("decimal") {
-                None | Some(".") => b'.',
-                Some(",") => b',',
-                Some(_) => return Err("'--decimal <C>' needs . or ,"),
-            },
+            decimal: decimal(given.get_str("decimal"))?,
         }))
     }
 
@@ -291,7 +303,11 @@ fn first_excluded(given: &ArgMatches<'_>) -> Option<&'static str> {
     for line in EXCLUDED.lines() {
         let (one, rest) = cut(line, " ");
         let (other, message) = cut(rest, " ");
-        let excludes = (one == "-" && !converts) || given.get_flag(one);
+        let excludes = if one == "-" {
+            !converts
+        } else {
+            given.get_flag(one)
+        };
         if excludes && is_given(given, other) {
             return Some(message);
         }
@@ -299,13 +315,16 @@ fn first_excluded(given: &ArgMatches<'_>) -> Option<&'static str> {
     None
 }
 
-const MIXED: &str =
-    "'--delimiter <C>', '--decimal <C>' and '--group <C>' need different characters, but each of two may be , where cells are quoted";
-
 fn bad_rows(given: &ArgMatches<'_>) -> Option<&'static str> {
-    first_excluded(given).or(match RowArguments::read(given) {
+    let excluded = first_excluded(given);
+    if excluded.is_some() {
+        return excluded;
+    }
+    match RowArguments::read(given) {
         Err(message) => Some(message),
-        Ok(Some(rows)) if rows.mixes() => Some(MIXED),
+        Ok(Some(rows)) if rows.mixes() => Some(
+            "'--delimiter <C>', '--decimal <C>' and '--group <C>' need different characters, but each of two may be , where cells are quoted",
+        ),
         Ok(_) => None,
-    })
+    }
 }

@@ -122,6 +122,7 @@ pub(crate) fn cut(text: &'static str, mark: &str) -> (&'static str, &'static str
     text.split_once(mark).unwrap_or((text, ""))
 }
 
+/// A command, as its line describes it.
 #[derive(Clone, Copy)]
 struct CommandRow {
     name: &'static str,
@@ -154,16 +155,18 @@ fn lines_of(arguments: &[String]) -> &'static str {
     COMMANDS
 }
 
+/// An argument of a command, as its line describes it.
 #[derive(Clone, Copy)]
-struct Argument {
-    name: &'static str,
-    help: &'static str,
+pub(crate) struct Argument {
+    pub name: &'static str,
+    pub help: &'static str,
     letter: u8,
     /// What help calls its value.
-    value: &'static str,
-    other: Option<&'static str>,
+    pub value: &'static str,
+    pub other: Option<&'static str>,
 }
 
+/// Returns what follows a key in the line of its argument.
 fn row_of(key: &str) -> &'static str {
     for line in ARGUMENTS.lines() {
         let (found, row) = cut(line, " ");
@@ -175,7 +178,7 @@ fn row_of(key: &str) -> &'static str {
 }
 
 impl Argument {
-    fn of(key: &'static str) -> Argument {
+    pub fn of(key: &'static str) -> Argument {
         let (name, _) = cut(key, ".");
         let (kind, help) = cut(row_of(key), " ");
         let (kind, other) = cut(kind, "!");
@@ -188,18 +191,24 @@ impl Argument {
         }
     }
 
-    /// Returns what a use does, and how many values it may have.
-    fn uses(self) -> (ArgAction, RangeInclusive<usize>) {
+    pub fn action(self) -> ArgAction {
         match self.letter {
-            b'F' | b'Q' => (ArgAction::SetTrue, 0..=0),
-            b'S' | b'M' => (ArgAction::Append, 1..=usize::MAX),
-            b'W' | b'C' => (ArgAction::Append, 1..=1),
-            b'K' => (ArgAction::Append, 0..=1),
-            _ => (ArgAction::Set, 1..=1),
+            b'F' | b'Q' => ArgAction::SetTrue,
+            b'S' | b'M' | b'W' | b'C' | b'K' => ArgAction::Append,
+            _ => ArgAction::Set,
         }
     }
 
-    fn value_parser(self) -> ValueParser<'static> {
+    pub fn values(self) -> RangeInclusive<usize> {
+        match self.letter {
+            b'F' | b'Q' => 0..=0,
+            b'S' | b'M' => 1..=usize::MAX,
+            b'K' => 0..=1,
+            _ => 1..=1,
+        }
+    }
+
+    pub fn value_parser(self) -> ValueParser<'static> {
         match self.letter {
             b'A' => ValueParser::Signed(1, 65_535),
             b'N' => ValueParser::Signed(0, 65_535),
@@ -217,7 +226,7 @@ impl Argument {
         }
     }
 
-    fn defaults(self) -> &'static [&'static str] {
+    pub fn defaults(self) -> &'static [&'static str] {
         match self.letter {
             b'A' => &["1000"],
             b'N' => &["20"],
@@ -230,8 +239,16 @@ impl Argument {
         }
     }
 
+    /// Returns what a use without a value stands for, if a value may be missing: one that is there follows `=`.
+    pub fn without_value(self) -> &'static [&'static str] {
+        match self.letter {
+            b'K' => &["all"],
+            _ => &[],
+        }
+    }
+
     /// Returns the arguments that can replace it.
-    fn unless(self) -> &'static [&'static str] {
+    pub fn unless(self) -> &'static [&'static str] {
         match self.letter {
             b'E' => &["to", "merge", "ahead"],
             b'U' => &["output"],
@@ -255,26 +272,23 @@ fn named<'a>(alloc: Global, argument: Argument) -> Arg<'a> {
     }
 }
 
-/// Builds an argument with its values. One that may be missing follows `=`; a use without it stands for all codes.
 fn parsed<'a>(alloc: Global, argument: Argument) -> Arg<'a> {
-    let (action, values) = argument.uses();
-    let is_code = argument.letter == b'K';
-    let missing: &[&str] = if is_code { &["all"] } else { &[] };
+    let missing = argument.without_value();
     named(alloc, argument)
-        .action(action)
-        .num_args(values)
+        .action(argument.action())
+        .value_parser(argument.value_parser())
         .require_equals(!missing.is_empty())
         .default_missing_values(missing)
 }
 
 fn valued<'a>(alloc: Global, argument: Argument) -> Arg<'a> {
     parsed(alloc, argument)
-        .value_parser(argument.value_parser())
+        .num_args(argument.values())
         .value_name(argument.value)
         .default_values(argument.defaults())
 }
 
-/// Builds an argument for clap, with the one that conflicts with it, and those that can replace it.
+/// Builds an argument for clap, with the one that conflicts with it, and the one that can replace it.
 fn arg<'a>(alloc: Global, argument: Argument) -> Result<Arg<'a>, AllocError> {
     valued(alloc, argument)
         .conflicts_with_all(argument.other.as_slice())?
@@ -282,7 +296,8 @@ fn arg<'a>(alloc: Global, argument: Argument) -> Result<Arg<'a>, AllocError> {
 }
 
 fn put<T: Drop>(made: &mut Vec<T>, one: Result<T, AllocError>) -> Result<(), AllocError> {
-    Ok(made.push(one?)?)
+    made.push(one?)?;
+    Ok(())
 }
 
 fn args_of<'a>(alloc: Global, keys: &'static str) -> Result<Vec<Arg<'a>>, AllocError> {

@@ -5,15 +5,17 @@ mod checking;
 mod commands;
 mod files;
 mod options;
+mod outputs;
+mod refusal;
 mod request;
 
-pub use checking::{LinesWay, RowArguments};
-pub use files::{Existing, FileArgument, SameFile, Shared, Unreplaced, is_standard, may_replace};
+pub use checking::{LinesWay, RowArguments, RowsWay};
+pub use files::{FileArgument, SameFile, Shared, is_standard};
 pub use options::{
-    AnswerArguments, Colours, Cycles, Format, LookArguments, PaperArguments, RecordsWay,
-    TableArgument, WarningArguments, join_codes,
+    AnswerArguments, CardsWanted, Colours, Cycles, Format, LookArguments, PaperArgument,
+    PaperArguments, RecordFraming, RecordsWay, TableArgument, WarningArguments, join_codes,
 };
-pub use request::{
-    CommandName, Refusal, Request, refuse_bytes, refuse_same_file, refuse_unreplaced, request_of,
-};
+pub use outputs::{Existing, Unreplaced, may_replace};
+pub use refusal::{Refusal, refuse_bytes, refuse_same_file, refuse_unreplaced};
+pub use request::{CommandName, Request, request_of};
 pub use rpg_cli_values::DateArgument;

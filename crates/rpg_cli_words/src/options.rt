@@ -112,10 +112,47 @@ impl LookArguments {
     }
 }
 
+#[derive(Clone, Copy)]
+pub enum CardsWanted {
+    Cards,
+    /// Cards below a ruler.
+    RuledCards,
+    Shorthand,
+}
+
+impl CardsWanted {
+    pub(crate) fn of(given: &ArgMatches<'_>) -> CardsWanted {
+        match (given.get_flag("short"), given.get_flag("ruler")) {
+            (true, _) => CardsWanted::Shorthand,
+            (false, true) => CardsWanted::RuledCards,
+            (false, false) => CardsWanted::Cards,
+        }
+    }
+}
+
 #[derive(Clone, Copy, PartialEq, Eq)]
 pub enum RecordsWay {
     ToLines,
     ToRecords,
+}
+
+/// How records are delimited in their file.
+#[derive(Clone, Copy, PartialEq, Eq)]
+pub enum RecordFraming {
+    EndToEnd,
+    /// Each follows its record descriptor word.
+    Descriptors,
+    Lines,
+}
+
+impl RecordFraming {
+    pub(crate) fn of(given: &ArgMatches<'_>) -> RecordFraming {
+        match (given.get_flag("rdw"), given.get_flag("lines")) {
+            (true, _) => RecordFraming::Descriptors,
+            (false, true) => RecordFraming::Lines,
+            (false, false) => RecordFraming::EndToEnd,
+        }
+    }
 }
 
 /// A table file: its name on F and E cards, and the path of its records.
@@ -133,17 +170,28 @@ impl<'a> TableArgument<'a> {
 }
 
 #[derive(Clone, Copy)]
-pub struct PaperArguments<'a> {
-    pub form: &'a str,
+pub enum PaperArgument {
+    A4,
+    Letter,
+    Fanfold,
+}
+
+#[derive(Clone, Copy)]
+pub struct PaperArguments {
+    pub form: PaperArgument,
     pub length: u16,
     pub columns: u16,
     pub has_bars: bool,
 }
 
-impl<'a> PaperArguments<'a> {
-    pub(crate) fn of(given: &ArgMatches<'a>) -> PaperArguments<'a> {
+impl PaperArguments {
+    pub(crate) fn of(given: &ArgMatches<'_>) -> PaperArguments {
         PaperArguments {
-            form: given.get_str("form").unwrap_or("a4"),
+            form: match given.get_str("form") {
+                Some("letter") => PaperArgument::Letter,
+                Some("fanfold") => PaperArgument::Fanfold,
+                _ => PaperArgument::A4,
+            },
             length: given.get_one::<u16>("length").unwrap_or(66),
             columns: given.get_one::<u16>("columns").unwrap_or(132),
             has_bars: given.get_flag("bars"),

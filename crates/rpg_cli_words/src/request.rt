@@ -1,18 +1,17 @@
-//! What the arguments request, or why there is no request.
+//! What the arguments request.
 
-ghost use Rattle.std.specs.Prelude.{◌<◌, ◌≤◌, IfOk};
+ghost use Rattle.std.specs.Prelude.{◌<◌};
 
 use crate::checking::{LinesWay, RowArguments, bad_value, push_merged};
-use crate::commands::{fault, matches_of};
-use crate::files::{SameFile, Unreplaced};
+use crate::commands::matches_of;
 use crate::options::{
-    AnswerArguments, LookArguments, PaperArguments, RecordsWay, TableArgument, WarningArguments,
+    AnswerArguments, CardsWanted, LookArguments, PaperArguments, RecordFraming, RecordsWay,
+    TableArgument, WarningArguments,
 };
-use clap::error::ErrorKind;
-use clap::{ArgMatches, Error};
+use crate::refusal::{Refusal, unread};
+use clap::ArgMatches;
 use rpg_cli_values::{DateArgument, byte_of};
 use std::alloc::{AllocError, Global};
-use std::io;
 
 #[derive(Clone, Copy, PartialEq, Eq)]
 pub enum CommandName {
@@ -82,21 +81,17 @@ pub struct Request<'a> {
     pub allowance: u16,
     pub warnings: WarningArguments,
     pub answer: AnswerArguments,
-    /// Whether cards become shorthand.
-    pub is_short: bool,
-    pub has_ruler: bool,
+    pub cards: CardsWanted,
     /// Whether `show` prints all rows: if the arguments ask for them, or name the source, whose names appear in them.
     pub rows: bool,
     /// OUT of `records`, or PDF of `paper`.
     pub output: Option<&'a str>,
-    pub paper: PaperArguments<'a>,
+    pub paper: PaperArguments,
     pub deck: Option<&'a str>,
     pub way: RecordsWay,
     pub file_name: Option<&'a str>,
     pub length: Option<u16>,
-    /// Whether each record follows its record descriptor word.
-    pub has_descriptors: bool,
-    pub are_lines: bool,
+    pub framing: RecordFraming,
     pub is_ascii: bool,
     pub low_blank: bool,
     pub dropped: Option<u8>,
@@ -180,8 +175,7 @@ fn requested<'a>(
         allowance: given.get_one::<u16>("allowance").unwrap_or(1000).max(1),
         warnings: WarningArguments::of(given),
         answer: AnswerArguments::of(given),
-        is_short: given.get_flag("short"),
-        has_ruler: given.get_flag("ruler"),
+        cards: CardsWanted::of(given),
         rows: given.get_flag("rows") || own_source.is_some(),
         output: output.or(given.get_str("PDF")),
         paper: PaperArguments::of(given),
@@ -189,8 +183,7 @@ fn requested<'a>(
         way,
         file_name: given.get_str("file"),
         length: given.get_one::<u16>("length"),
-        has_descriptors: given.get_flag("rdw"),
-        are_lines: given.get_flag("lines"),
+        framing: RecordFraming::of(given),
         is_ascii: given.get_flag("ascii"),
         low_blank: given.get_flag("low-blank"),
         dropped: given.get_str("drop").and_then(byte_of),
@@ -225,95 +218,4 @@ fn read<'a>(
 pub fn request_of<'a>(alloc: Global, arguments: &'a [String]) -> Result<Request<'a>, Refusal> {
     let matches = matches_of(alloc, arguments)?;
     read(alloc, arguments, &matches)
-}
-
-/// Why there is no request: a fault of the command line, a request for help, or memory that ran out.
-#[derive(Drop)]
-pub struct Refusal {
-    error: Error,
-}
-
-impl From<AllocError> for Refusal {
-    fn from(error: AllocError) -> Refusal {
-        Refusal::from(Error::from(error))
-    }
-}
-
-impl From<Error> for Refusal {
-    fn from(error: Error) -> Refusal {
-        Refusal { error }
-    }
-}
-
-impl Refusal {
-    pub(crate) fn of(reported: Result<Error, AllocError>) -> Refusal {
-        match reported {
-            Ok(error) => Refusal { error },
-            Err(error) => Refusal::from(error),
-        }
-    }
-
-    pub fn is_no_memory(&self) -> bool {
-        self.error.kind() == ErrorKind::OutOfMemory
-    }
-
-    /// Prints clap's text, a fault to standard error and help to standard output, and returns the exit status. The error is why help couldn't
-    /// be written.
-    pub fn explain<R: Print + Eprint + AllocGlobal>(&self, rt: &R) -> io::Result<u8>
-        ensures { IfOk result (λ status. status ≤ 2) }
-    {
-        let is_fault = self.error.use_stderr();
-        match self.error.print(rt) {
-            Ok(()) if is_fault => Ok(2),
-            Ok(()) => Ok(0),
-            Err(_) if is_fault => Ok(1),
-            Err(error) => Err(error),
-        }
-    }
-}
-
-/// The program's name in clap's texts if the arguments have none.
-const PROGRAM: &str = "rpg2";
-
-/// Rejects arguments of which one isn't UTF-8.
-pub fn refuse_bytes(alloc: Global) -> Refusal {
-    let message = "invalid UTF-8 was detected in one or more arguments";
-    Refusal::of(fault(alloc, PROGRAM, ErrorKind::InvalidValue, message))
-}
-
-fn conflict(alloc: Global, message: Result<String, AllocError>) -> Refusal {
-    match message {
-        Ok(message) => {
-            let kind = ErrorKind::ArgumentConflict;
-            Refusal::of(fault(alloc, PROGRAM, kind, message.as_str()))
-        }
-        Err(error) => Refusal::from(error),
-    }
-}
-
-pub fn refuse_unreplaced(alloc: Global, unreplaced: Unreplaced) -> Refusal {
-    let (written, text) = (unreplaced.written.text(), unreplaced.text());
-    conflict(alloc, format!(in alloc; "'{written}' {text}"))
-}
-
-pub fn refuse_same_file(alloc: Global, same: SameFile) -> Refusal {
-    let (written, earlier) = (same.written.text(), same.earlier.text());
-    let (between, after) = same.shared.texts();
-    let message = format!(in alloc; "'{written}' {between} '{earlier}'{after}");
-    conflict(alloc, message)
-}
-
-/// Returns the fault of arguments that clap accepts but that make no request. The program's name is what the first ends in.
-pub(crate) fn unread(
-    alloc: Global,
-    arguments: &[String],
-    bad_value: Option<&'static str>,
-) -> Result<Error, AllocError> {
-    let (kind, message) = match bad_value {
-        Some(message) => (ErrorKind::InvalidValue, message),
-        None => (ErrorKind::MissingSubcommand, "a command is required"),
-    };
-    let path = arguments.first().map_or(PROGRAM, |path| path.as_str());
-    let name = path.rsplit_once('/').map_or(path, |(_, name)| name);
-    fault(alloc, name, kind, message)
 }

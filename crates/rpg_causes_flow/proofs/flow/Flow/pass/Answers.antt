@@ -1,6 +1,6 @@
-use Rattle.std.proofs.Common.{◌∷◌, ◌∙◌, ◌+◌, ap, arith, not, refl, sym}
+use Rattle.std.proofs.Common.{◌∷◌, ◌∙◌, ◌+◌, ap, arith}
 use Rattle.rpg_cards.proofs.ItemLemmas.{few_definitions_on}
-use Rattle.rpg_causes_flow.proofs.Flowing.{few, flow_past, flow_with, no_card}
+use Rattle.rpg_causes_flow.proofs.Flowing.{few, flow_with}
 use Rattle.rpg_causes_flow.specs.Flow.{begun_after}
 use Rattle.std.specs.Option.{option_or}
 use Rattle.rpg_causes_flow.proofs.flow.Flow.pass.Goals as goal
@@ -25,8 +25,3 @@ returns c =
     (c.note_last.ensures ∙ ap (λ b. option_or b c.args.self.now.bracket) c.bracket_on-bracket.ensures)
     (c.begun_after-self.ensures ∙ ap (begun_after c.args.self.now.begun) c.bracket_on-bracket.ensures)
     (ap (λ n. c.args.self.now.definitions + n) c.definition_count.ensures)
-
-pub returns-then-is_none : goal.returns-then-is_none
-returns-then-is_none c =
-    let none = sym c.calculation.ensures ∙ no_card c.calculation.result (c.is_none.ensures ∙ ap not c.if-is_none.true) in
-    flow_past c.args.before.now c.args.card.now c.args.after.now c.args.self.now _ c.requires.flow none refl refl refl refl refl (ap (λ n. c.args.self.now.definitions + n) c.definition_count.ensures)
