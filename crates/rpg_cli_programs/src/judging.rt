@@ -10,7 +10,7 @@ ghost use Rattle.rpg_faults.specs.Source.{AreFaultless, IsSourceRefusal};
 
 use rpg_cli_answers::Answer;
 use rpg_cli_diagnostics::Made;
-use rpg_compile::{Compiled, compile};
+use rpg_compile::{Compiled, compile_with_cards};
 use rpg_engine::{Program, decode_object, verify_bytes};
 use rpg_faults::{FaultlessCards, SourceFault};
 use rpg_meaning::CompiledSource;
@@ -47,8 +47,8 @@ pub(crate) fn matched(
     alloc: Global,
     text: Vec<u8>,
     object: &[u8],
-) -> Result<(CompiledSource, FaultlessCards), (Vec<u8>, Answer)>
-    ensures matched { IfOk result (λ made. IsSourceOf text.items object.now × (made.0.text ≡ text)) }
+) -> Result<CompiledSource, (Vec<u8>, Answer)>
+    ensures matched { IfOk result (λ source. IsSourceOf text.items object.now × (source.text ≡ text)) }
     ensures refused { IfErr result (λ e. ReportsMismatch e.1 text.items object.now × (e.0 ≡ text)) }
 {
     a_spelling_is_read_again();
@@ -56,12 +56,12 @@ pub(crate) fn matched(
         Ok(program) => program,
         Err(fault) => return Err((text, fault.into())),
     };
-    let (source, cards) = match CompiledSource::new(alloc, text, allowance_of(&program)) {
-        Ok(made) => made,
+    let source = match CompiledSource::new(alloc, text, allowance_of(&program)) {
+        Ok(source) => source,
         Err((text, fault)) => return Err((text, fault.into())),
     };
     match is_written_as(alloc, source.program().program(), object) {
-        Ok(true) => Ok((source, cards)),
+        Ok(true) => Ok(source),
         Ok(false) => Err((source.into_text(), Answer::OtherSource)),
         Err(_) => Err((source.into_text(), SourceFault::NoMemory.into())),
     }
@@ -96,7 +96,7 @@ pub(crate) fn compile_to_object(
     ensures faultless { IfOk result (λ object. first_fault object.bytes.items ≡ None) }
 {
     a_spelling_is_read_again();
-    let Compiled { source, program } = compile(alloc, text, allowance)?;
+    let Compiled { source, program } = compile_with_cards(alloc, text, allowance)?;
     let bytes = encode(alloc, &program)?;
     Ok(CompiledObject { source, bytes })
 }

@@ -10,7 +10,7 @@ use rpg_cli_refusals::{bytes_diagnostic, rule_diagnostic};
 use rpg_cli_show_fields::SourceRows;
 use rpg_cli_words::FileArgument;
 use rpg_engine::{ObjectFault, decode_object};
-use rpg_faults::{FaultlessCards, source_faults};
+use rpg_faults::{faultless_cards, source_faults};
 use rpg_meaning::CompiledSource;
 use std::alloc::{AllocError, Global};
 use std::rt::Files;
@@ -30,15 +30,19 @@ impl<'a> OwnSource<'a> {
         alloc: Global,
         file: FileName<'a>,
         compiled: CompiledSource,
-        source: &FaultlessCards,
     ) -> Result<OwnSource<'a>, Answer> {
-        let rows = SourceRows::of_cards(alloc, &source.cards)?;
+        let rows = rows_of(alloc, compiled.text())?;
         Ok(OwnSource {
             file,
             compiled,
             rows,
         })
     }
+}
+
+fn rows_of(alloc: Global, text: &[u8]) -> Result<SourceRows, Answer> {
+    let source = faultless_cards(alloc, text)?;
+    Ok(SourceRows::of_cards(alloc, &source.cards)?)
 }
 
 /// Returns the source that an argument names, if it compiles to the object. Reports its faults, if it has any.
@@ -54,7 +58,7 @@ pub fn own_source<'a, R: Files + AllocGlobal, L: Listener>(
     let file = file_at(FileArgument::OwnSource, path);
     let text = named(FileArgument::OwnSource, file_bytes(rt, path))?;
     match matched(rt.alloc(), text, object) {
-        Ok((compiled, source)) => { Ok(Some(OwnSource::of(rt.alloc(), file, compiled, &source)?)) }
+        Ok(compiled) => Ok(Some(OwnSource::of(rt.alloc(), file, compiled)?)),
         Err((text, answer)) => {
             if let Answer::Source(_) = answer {
                 report_faults(rt.alloc(), file, &text, MAX_LISTED, listener);

@@ -16,12 +16,11 @@ use rpg_cli_jobs::{
 use rpg_cli_programs::{OwnSource, own_source, report_faults, report_object};
 use rpg_cli_show_fields::SourceRows;
 use rpg_cli_trace::{HaltedFile, JobNames, Looking};
-use rpg_cli_warnings::judge_warnings;
+use rpg_cli_warnings::deny_warnings;
 use rpg_cli_words::{FileArgument, Request};
 use rpg_engine::{
     Halt, InputFile, JobEnd, ObjectFault, Program, Report, Verified, Watcher, decode_object,
 };
-use rpg_faults::FaultlessCards;
 use rpg_files::{Counted, LastLine};
 use rpg_meaning::CompiledSource;
 use std::alloc::{AllocError, Global};
@@ -278,16 +277,12 @@ pub fn run_files<R: Clock + Env + Files + Input + Print + AllocGlobal, L: Listen
 }
 
 impl<R: Files + Input + Print + AllocGlobal, L: Listener> Runs<'_, '_, R, L> {
-    /// Runs a compiled source, unless a warning rejects it: only if the arguments deny warnings they are reported. The diagnostic of a
-    /// halt has cards and names.
-    fn run_compiled(&mut self, compiled: CompiledSource, cards: FaultlessCards) -> Ended {
+    /// Runs a compiled source, unless a warning rejects it. The diagnostic of a halt has cards and names.
+    fn run_compiled(&mut self, compiled: CompiledSource) -> Ended {
         let (alloc, file) = (self.rt.alloc(), file_of(self.request, FileArgument::Source));
         let warnings = self.request.warnings;
-        let source = OwnSource::of(alloc, file, compiled, &cards)?;
-        if !warnings.denied.is_empty() {
-            let text = source.compiled.text();
-            judge_warnings(alloc, file, text, cards, warnings, self.listener)?;
-        }
+        deny_warnings(alloc, file, compiled.text(), warnings, self.listener)?;
+        let source = OwnSource::of(alloc, file, compiled)?;
         let ran = self.run_own(&source);
         if let Err(CommandStop::Answer(answer)) = ran {
             self.report_wanted(source.compiled.program().program(), answer);
@@ -303,7 +298,7 @@ impl<R: Files + Input + Print + AllocGlobal, L: Listener> Runs<'_, '_, R, L> {
         let (alloc, file) = (self.rt.alloc(), file_of(self.request, FileArgument::Source));
         let text = named(FileArgument::Source, source_bytes(self.rt, file.path))?;
         match CompiledSource::new(alloc, text, self.request.allowance) {
-            Ok((compiled, cards)) => self.run_compiled(compiled, cards),
+            Ok(compiled) => self.run_compiled(compiled),
             Err((text, fault)) => {
                 report_faults(
                     alloc,

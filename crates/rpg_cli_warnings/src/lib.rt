@@ -17,5 +17,5 @@ mod warnings;
 
 pub use messages::warning_diagnostics;
 pub use rpg_warnings_lines::{Warning, WarningKind};
-pub use warned::judge_warnings;
+pub use warned::{deny_warnings, judge_warnings};
 pub use warnings::{source_warnings, wanted_warnings};

@@ -9,7 +9,7 @@ use rpg_cli_answers::{Answer, Listener, tell_all};
 use rpg_cli_diagnostics::FileName;
 use rpg_cli_values::WarningCodes;
 use rpg_cli_words::WarningArguments;
-use rpg_faults::FaultlessCards;
+use rpg_faults::{FaultlessCards, SourceFault, faultless_cards};
 use rpg_warnings_lines::Warning;
 use std::alloc::Global;
 
@@ -69,6 +69,25 @@ pub fn judge_warnings<L: Listener>(
             judged(arguments, &warnings)
         }
         Err(_) if !arguments.denied.is_empty() => Err(Answer::NoMemory),
+        Err(_) => Ok(()),
+    }
+}
+
+/// Rejects a source that has a warning, if the arguments deny it, and reports its warnings. Otherwise they aren't reported. A source with
+/// a fault has none.
+pub fn deny_warnings<L: Listener>(
+    alloc: Global,
+    file: FileName<'_>,
+    source: &[u8],
+    arguments: WarningArguments,
+    listener: &mut L,
+) -> Result<(), Answer> {
+    if arguments.denied.is_empty() {
+        return Ok(());
+    }
+    match faultless_cards(alloc, source) {
+        Ok(faultless) => judge_warnings(alloc, file, source, faultless, arguments, listener),
+        Err(SourceFault::NoMemory) => Err(Answer::NoMemory),
         Err(_) => Ok(()),
     }
 }

@@ -25,4 +25,4 @@ pub use limits::faultless_sources_keep_limits;
 pub use program::translate;
 pub use rows::{SectionRows, section_rows};
 pub use rpg_faults::{SourceCode, SourceFault};
-pub use source::{Compiled, compile};
+pub use source::{Compiled, compile, compile_with_cards};

@@ -16,8 +16,12 @@ pub struct Compiled {
     pub program: Program,
 }
 
-/// Compiles a source. `allowance` limits the backward branches and calls of a cycle of its program.
-pub fn compile(alloc: Global, text: &[u8], allowance: u16) -> Result<Compiled, SourceFault>
+/// Like `compile`, but also returns the cards, so that callers needn't read and check them again.
+pub fn compile_with_cards(
+    alloc: Global,
+    text: &[u8],
+    allowance: u16,
+) -> Result<Compiled, SourceFault>
     requires { 0 < allowance }
     ensures ok { IfOk result (λ compiled. Compiles text.now allowance compiled.program) }
     ensures cards { IfOk result (λ compiled. AreFaultless text.now compiled.source.cards.items) }
@@ -29,4 +33,14 @@ pub fn compile(alloc: Global, text: &[u8], allowance: u16) -> Result<Compiled, S
     let index = indexed.into_index();
     let source = FaultlessCards::of_parts(cards, index);
     Ok(Compiled { source, program })
+}
+
+/// Compiles a source. `allowance` limits the backward branches and calls of a cycle of its program.
+pub fn compile(alloc: Global, text: &[u8], allowance: u16) -> Result<Program, SourceFault>
+    requires { 0 < allowance }
+    ensures ok { IfOk result (λ program. Compiles text.now allowance program) }
+    ensures err { IfErr result (λ fault. IsSourceRefusal fault text.now) }
+{
+    let (cards, index) = faultless_cards(alloc, text)?.into_parts();
+    Ok(translate(alloc, &index.over(&cards), allowance)?)
 }

@@ -2,14 +2,13 @@
 
 ghost use Rattle.std.specs.Prelude.{◌≡◌, ◌<◌, IfErr, IfOk};
 ghost use Rattle.rpg_compile.specs.Compile.{Compiles};
-ghost use Rattle.rpg_faults.specs.Source.{AreFaultless, IsSourceRefusal, cards_in};
+ghost use Rattle.rpg_faults.specs.Source.{IsSourceRefusal, cards_in};
 ghost use Rattle.rpg_meaning.specs.Jobs.Meant.{DoesAsMeant};
 ghost use Rattle.rpg_program.specs.Kept.{IsProgram};
 
 use crate::compiled::compile_as_meant;
-use rpg_compile::{Compiled, SourceFault};
+use rpg_compile::SourceFault;
 use rpg_engine::{Verified, accept};
-use rpg_faults::FaultlessCards;
 use std::alloc::Global;
 
 /// The text of a source without faults, and its accepted program. `allowance` limits the backward branches and calls of a cycle.
@@ -22,33 +21,31 @@ pub struct CompiledSource {
 }
 
 impl CompiledSource {
-    /// Compiles a source, and returns its cards with it. A text that doesn't compile is given back.
+    /// Compiles a source. A text that doesn't compile is given back.
     pub fn new(
         alloc: Global,
         text: Vec<u8>,
         allowance: u16,
-    ) -> Result<(CompiledSource, FaultlessCards), (Vec<u8>, SourceFault)>
+    ) -> Result<CompiledSource, (Vec<u8>, SourceFault)>
         requires { 0 < allowance }
-        ensures text { IfOk result (λ made. made.0.text ≡ text) }
-        ensures allowance { IfOk result (λ made. made.0.allowance ≡ allowance) }
-        ensures cards { IfOk result (λ made. AreFaultless text.items made.1.cards.items) }
-        ensures meant { IfOk result (λ made. DoesAsMeant (cards_in text.items) allowance made.0.program) }
+        ensures text { IfOk result (λ source. source.text ≡ text) }
+        ensures allowance { IfOk result (λ source. source.allowance ≡ allowance) }
+        ensures meant { IfOk result (λ source. DoesAsMeant (cards_in text.items) allowance source.program) }
         ensures unchanged { IfErr result (λ e. e.0 ≡ text) }
         ensures refused { IfErr result (λ e. IsSourceRefusal e.1 text.items) }
     {
-        let Compiled { source, program } = match compile_as_meant(alloc, &text, allowance) {
-            Ok(made) => made,
+        let program = match compile_as_meant(alloc, &text, allowance) {
+            Ok(program) => program,
             Err(fault) => return Err((text, fault)),
         };
-        let compiled = match accept(alloc, program) {
-            Ok(program) => CompiledSource {
+        match accept(alloc, program) {
+            Ok(program) => Ok(CompiledSource {
                 text,
                 allowance,
                 program,
-            },
-            Err(_) => return Err((text, SourceFault::NoMemory)),
-        };
-        Ok((compiled, source))
+            }),
+            Err(_) => Err((text, SourceFault::NoMemory)),
+        }
     }
 
     pub fn text(&self) -> &[u8]

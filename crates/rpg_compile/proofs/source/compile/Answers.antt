@@ -7,10 +7,10 @@ use Rattle.rpg_compile.proofs.source.compile.Goals as goal
 pub returns-clause-ok : goal.returns-clause-ok
 returns-clause-ok c =
     let are = c.in_ok-faultless_cards.ensures.ok in
-    let is = λ (cs : List SpecCard). c.in_ok-program.program ≡ program_of cs c.args.allowance in
+    let is = λ (cs : List SpecCard). c.in_ok-translate.field-0 ≡ program_of cs c.args.allowance in
     record {
       readable = are.readable;
       faultless = subst Faultless are.are are.faultless;
-      program = subst is are.are (subst is c.into_parts-cards.ensures.cards (subst is c.deref.ensures.value (subst is c.over-indexed.ensures c.in_ok-program.ensures.program)));
-      accepted = c.in_ok-program.ensures.accepted;
+      program = subst is are.are (subst is c.into_parts-cards.ensures.cards (subst is c.deref.ensures.value (subst is c.over.ensures c.in_ok-translate.ensures.program)));
+      accepted = c.in_ok-translate.ensures.accepted;
     }
