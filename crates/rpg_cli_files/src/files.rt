@@ -14,9 +14,12 @@ use std::rt::Files;
 /// The most bytes of a source or object file in this profile.
 const MOST_BYTES: usize = 16_777_216;
 
+/// What went wrong with a file.
 #[derive(Clone, Copy)]
 pub enum FileFault {
+    /// An input file can't be opened or read.
     Input(Reason),
+    /// An output file can't be created or written.
     Output(Reason),
     /// A new file can't be created in the folder of the output file that it would replace.
     Beside(Reason),
@@ -75,6 +78,7 @@ pub fn identity<F: OpenFile>(file: &F) -> Result<Option<FileIdentity>, Reason> {
     }
 }
 
+/// Returns the identity of the file at a path, if it is regular.
 pub fn identity_at<R: Files>(rt: &R, path: &str) -> Option<FileIdentity> {
     identity_in(&fs::metadata(rt, path).ok()?)
 }
@@ -111,6 +115,7 @@ pub fn input_file<R: Files>(rt: &R, path: &str) -> Result<R::File, FileFault> {
     Ok(file)
 }
 
+/// Reads a source or object file.
 pub fn file_bytes<R: Files + AllocGlobal>(rt: &R, path: &str) -> Result<Vec<u8>, FileFault>
     ensures few { IfOk result (λ bytes. length bytes.items ≤ 16777216) }
 {
@@ -147,6 +152,7 @@ pub(crate) fn empty_file<F: OpenFile>(file: &F) -> Result<(), FileFault> {
     }
 }
 
+/// Flushes a writer.
 pub fn flush_device<W: Write>(writer: &mut Counted<W>) -> Result<(), FileFault>
     requires { faults_of writer.old < 2 ^ 64 - 1 }
     ensures bytes { Keeps (W.contents (device_of writer.old)) (W.contents (device_of writer.new)) }
@@ -227,6 +233,7 @@ pub enum Reason {
     /// The arguments allow no more bytes.
     Limit,
     TooLarge,
+    /// The reader of the output closed it.
     Closed,
     Name,
     /// A folder can't be written as a file, a device doesn't exist, or another fault.
@@ -252,6 +259,7 @@ impl Reason {
         }
     }
 
+    /// Returns the reason in words.
     pub fn text(self) -> &'static str {
         match self {
             Reason::Missing => "no such file or directory",

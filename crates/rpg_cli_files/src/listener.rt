@@ -24,6 +24,7 @@ pub trait Listener {
     /// Loses a diagnostic, since memory ran out for it.
     fn lose(&mut self);
 
+    /// Whether a diagnostic was lost.
     fn has_lost(&self) -> bool;
 
     /// Prints a text before the line. The error is why it couldn't be written completely.
@@ -38,6 +39,7 @@ pub fn tell_made<L: Listener>(listener: &mut L, made: Result<Diagnostic<'_>, All
     }
 }
 
+/// Prints diagnostics one by one.
 pub fn tell_all<L: Listener>(listener: &mut L, made: &Diagnostics<'_>) {
     for told in made.as_slice() {
         listener.tell(told);

@@ -26,6 +26,7 @@ pub struct Pending<'a> {
     replaces: Replaces,
 }
 
+/// A file to be written.
 #[derive(Drop)]
 pub struct KeptFile<'a, F> {
     pub opened: Opened<F>,
@@ -78,10 +79,12 @@ impl<'a> Pending<'a> {
         self.place
     }
 
+    /// Returns what the file replaces when it is complete.
     pub fn replaces(&self) -> Replaces {
         self.replaces
     }
 
+    /// Returns where the file goes if it is incomplete.
     pub fn part(&self) -> &str {
         self.part.as_str()
     }

@@ -21,6 +21,7 @@ const LINKS: u32 = 40;
 #[derive(Drop)]
 enum Place {
     Nothing,
+    /// A regular file.
     File(Metadata),
     /// A device, a pipe or a folder, or nothing that has a path.
     Other,
@@ -48,6 +49,7 @@ impl InPlace {
     }
 }
 
+/// How a file is written.
 #[derive(Drop)]
 pub(crate) enum Writing<F> {
     Beside(Beside<F>),
@@ -61,14 +63,17 @@ pub(crate) struct Written<F> {
     pub writing: Writing<F>,
 }
 
+/// A new file in the folder of another.
 #[derive(Drop)]
 pub(crate) struct Beside<F> {
     pub file: F,
     pub path: String,
+    /// The number in its name.
     pub number: u32,
     pub replaces: Replaces,
 }
 
+/// What a new file replaces.
 #[derive(Clone, Copy, PartialEq, Eq)]
 pub enum Replaces {
     Nothing,
@@ -91,6 +96,7 @@ fn is_stream(path: &str) -> bool {
         || path.starts_with("/proc/")
 }
 
+/// Returns where the link at a path leads.
 fn linked<R: Files + AllocGlobal>(rt: &R, path: &str) -> Result<String, FileFault> {
     let link = fs::read_link(rt, path).map_err(output_fault)?;
     let target = Path::new(path).with_file_name(rt.alloc(), link.as_str())?;
@@ -104,6 +110,7 @@ pub(crate) struct Target {
     place: Place,
 }
 
+/// Follows the links at a path.
 pub(crate) fn target_of<R: Files + AllocGlobal>(rt: &R, path: &str) -> Result<Target, FileFault> {
     let mut path = format!(in rt.alloc(); "{path}")?;
     for _ in 0..LINKS {
@@ -123,6 +130,7 @@ pub(crate) fn target_of<R: Files + AllocGlobal>(rt: &R, path: &str) -> Result<Ta
     Err(FileFault::Output(Reason::Name))
 }
 
+/// Returns the name of a new file beside another.
 pub(crate) fn name_beside(alloc: Global, path: &str, number: u32) -> Result<String, AllocError> {
     format!(in alloc; "{path}.{number}.new")
 }
@@ -296,6 +304,7 @@ fn replace_by<R: Files + AllocGlobal, L: Listener>(
     moved
 }
 
+/// Writes these bytes to a file in place.
 fn overwrite<R: Files>(rt: &R, path: &str, bytes: &[u8]) -> Result<(), FileFault> {
     write_whole(&mut fs::create(rt, path).map_err(output_fault)?, bytes)
 }

@@ -63,6 +63,7 @@ pub(crate) fn send_bytes<W: Write>(writer: &mut W, bytes: &[u8]) -> Result<(), R
     }
 }
 
+/// Writes a text. The error is why it couldn't be written completely.
 pub fn send_text<W: Write>(writer: &mut W, text: &str) -> Result<(), Reason>
     ensures ok { OnOk result (Appends (W.contents writer.old) (W.contents writer.new) text.now) }
     ensures err { OnErr result (AppendsPrefix (W.contents writer.old) (W.contents writer.new) text.now) }
@@ -70,6 +71,7 @@ pub fn send_text<W: Write>(writer: &mut W, text: &str) -> Result<(), Reason>
     send_bytes(writer, text.as_bytes())
 }
 
+/// Writes a line and its line feed. The error is why they couldn't be written completely.
 pub fn send_line<W: Write>(writer: &mut W, text: &[u8]) -> Result<(), Reason>
     ensures ok { OnOk result (Appends (W.contents writer.old) (W.contents writer.new) (with_line_feed text.now)) }
     ensures err { OnErr result (AppendsPrefix (W.contents writer.old) (W.contents writer.new) (with_line_feed text.now)) }

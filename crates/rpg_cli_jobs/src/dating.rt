@@ -49,6 +49,7 @@ pub(crate) fn is_valid(date: Option<DateArgument<'_>>) -> bool
     }
 }
 
+/// Returns today's date in an order.
 fn todays_digits<R: Clock + Env + Files + AllocGlobal>(
     rt: &R,
     order: DateOrder,

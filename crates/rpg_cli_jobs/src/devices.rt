@@ -11,7 +11,6 @@ use rpg_cli_files::{
     records,
 };
 use rpg_cli_words::{FileArgument, Request, is_standard};
-use rpg_engine::{Readers, Writers};
 use std::cell::Cell;
 use std::io::Printer;
 use std::rt::Files;
@@ -46,6 +45,7 @@ pub fn open_files<'a, R: Files + AllocGlobal, L: Listener>(
     })
 }
 
+/// Opens a file for reading, if there is one.
 fn read_file<R: Files>(
     rt: &R,
     argument: FileArgument,
@@ -152,18 +152,23 @@ pub fn empty_files<R: Files + AllocGlobal, L: Listener>(
 /// What a run reads and writes.
 #[derive(Drop)]
 pub struct Devices<'r, F: Drop, S: Drop, P: Drop> {
-    pub readers: Readers<RecordSource<F, S>, RecordSource<F, S>>,
-    pub writers: Writers<LineTarget<'r, F, P>, LineTarget<'r, F, P>>,
+    pub input: RecordSource<F, S>,
+    pub secondary: RecordSource<F, S>,
+    pub print: LineTarget<'r, F, P>,
+    pub disk: LineTarget<'r, F, P>,
 }
 
 /// Returns the readers and writers of a run's files. All that is written may have as many bytes as there is room for.
-pub fn devices_of<'r, R: Files + Input + Print>(
+pub fn devices_of<'r, R: Files + Input + Print + AllocGlobal>(
     rt: &'r R,
     files: RunFiles<R::File>,
     room: Option<&'r Cell<u64>>,
 ) -> Devices<'r, R::File, R::Reader, Printer<'r, R>> {
+    let alloc = rt.alloc();
     Devices {
-        readers: Readers::new(records(rt, files.input), records(rt, files.secondary)),
-        writers: Writers::new(lines(rt, files.print, room), lines(rt, files.disk, room)),
+        input: records(rt, files.input).keeping(alloc),
+        secondary: records(rt, files.secondary).keeping(alloc),
+        print: lines(rt, files.print, room),
+        disk: lines(rt, files.disk, room),
     }
 }

@@ -24,7 +24,9 @@ pub struct Kept<'a> {
 /// What happens to new files.
 #[derive(Clone, Copy)]
 pub(crate) enum Disposition {
+    /// They are moved to their places.
     Placed,
+    /// They are left beside them.
     Left,
     /// They are removed, since no job has written them.
     Removed,
@@ -44,6 +46,7 @@ fn end_of_files(ran: &Result<Report, CommandStop>) -> Disposition
     }
 }
 
+/// Moves a new file, if there is one, to its place.
 fn put_in_place<R: Files>(rt: &R, file: &Option<Pending<'_>>) -> Result<(), FileFault> {
     match file {
         Some(pending) => pending.put_in_place(rt),
@@ -122,6 +125,7 @@ fn shared_place<R: Files + AllocGlobal>(
     }))
 }
 
+/// Removes a new file, if there is one.
 fn remove<R: Files + AllocGlobal, L: Listener>(
     rt: &R,
     file: &Option<Pending<'_>>,

@@ -17,6 +17,7 @@ use rpg_engine::{
 use rpg_meaning::CompiledSource;
 use std::alloc::Global;
 
+/// A program that is accepted, or why it isn't.
 pub type Accepted = Result<Verified, ObjectFault>;
 
 /// Checks whether an accepted program may run: first the date, then its bound.
@@ -141,6 +142,7 @@ const SECONDARY: &str =
 
 const DATE: &str = "the program uses the date: give --date today, or six digits, as --date 112376";
 
+/// Returns the diagnostic for a file or a date that a program needs.
 fn wanted_diagnostic<'a>(
     alloc: Global,
     file: FileName<'a>,

@@ -85,8 +85,10 @@ fn run_source_over<I: Read, S: Read, P: Write, D: Write, W: Watcher>(
     flushed(report, writers)
 }
 
+/// What runs.
 #[derive(Clone, Copy)]
 pub enum Running<'a> {
+    /// The program of an object file.
     Program(&'a Verified),
     /// A source, as the program that it compiles to.
     Source(&'a CompiledSource),

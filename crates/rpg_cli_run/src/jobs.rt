@@ -19,7 +19,8 @@ use rpg_cli_trace::{HaltedFile, JobNames, Looking};
 use rpg_cli_warnings::deny_warnings;
 use rpg_cli_words::{FileArgument, Request};
 use rpg_engine::{
-    Halt, InputFile, JobEnd, ObjectFault, Program, Report, Verified, Watcher, decode_object,
+    Halt, InputFile, JobEnd, ObjectFault, Program, Readers, Report, Verified, Watcher, Writers,
+    decode_object,
 };
 use rpg_files::{Counted, LastLine};
 use rpg_meaning::CompiledSource;
@@ -71,22 +72,23 @@ pub(crate) struct Ran {
     pub inputs: LastInputs,
 }
 
-/// Returns the last line of an input. A line that halted the job before its end was read is read to its end.
-fn last_line<F: Read + Drop, S: Read + Drop>(
-    alloc: Global,
+/// Returns what was read last from an input. A line that halted the job before its end was read is read to its end.
+fn last_input<F: Read + Drop, S: Read + Drop>(
     reader: Counted<RecordSource<F, S>>,
     is_bad: bool,
-) -> LastLine {
-    let (mut source, last) = reader.into_parts();
-    let mut last = last.unwrap_or(LastLine {
-        number: 0,
-        bytes: Vec::new(alloc),
-        left: 0,
-    });
-    if is_bad {
-        source.read_line_end(&mut last);
+) -> LastInput {
+    let LastLine { number, left } = reader.last();
+    let mut source = reader.into_device();
+    let left = if is_bad {
+        source.read_line_end(left)
+    } else {
+        left
+    };
+    LastInput {
+        bytes: source.into_last_bytes(),
+        left,
+        number,
     }
-    last
 }
 
 /// Whether a job halted at a record that no program accepts.
@@ -110,10 +112,8 @@ pub(crate) fn run_devices<
     devices: Devices<'_, F, S, P>,
     watcher: &mut W,
 ) -> Ran {
-    let Devices {
-        mut readers,
-        mut writers,
-    } = devices;
+    let mut readers = Readers::new(devices.input, devices.secondary);
+    let mut writers = Writers::new(devices.print, devices.disk);
     let ran = run_counted(alloc, running, date, &mut readers, &mut writers, watcher);
     let reasons = Reasons {
         input: readers.primary.device().fault(),
@@ -128,8 +128,8 @@ pub(crate) fn run_devices<
             Err(answer) => Err(CommandStop::Job { answer, reasons }),
         },
         inputs: LastInputs {
-            primary: last_line(alloc, readers.primary, is_bad),
-            secondary: last_line(alloc, readers.secondary, is_bad),
+            primary: last_input(readers.primary, is_bad),
+            secondary: last_input(readers.secondary, is_bad),
         },
     }
 }
@@ -368,11 +368,21 @@ impl<R: Files + Input + Print + AllocGlobal, L: Listener> Runs<'_, '_, R, L> {
     }
 }
 
-/// The last lines of both inputs.
+/// What was read last from an input.
+#[derive(Drop)]
+pub(crate) struct LastInput {
+    pub bytes: Vec<u8>,
+    /// How many of the bytes begin with the last line; none at the end of the input.
+    pub left: usize,
+    /// How many records were read.
+    pub number: u32,
+}
+
+/// What was read last from both inputs.
 #[derive(Drop)]
 pub(crate) struct LastInputs {
-    pub primary: LastLine,
-    pub secondary: LastLine,
+    pub primary: LastInput,
+    pub secondary: LastInput,
 }
 
 impl LastInputs {

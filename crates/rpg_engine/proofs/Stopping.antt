@@ -1,5 +1,5 @@
 -- A run that is reported, and one that stops early.
-use Rattle.std.proofs.Common.{◌≡◌, ℕ, ℤ, ◌⊎◌, ◌+◌, ◌<◌, ◌≤◌, ◌&&◌, ◌==◌, max, Bool, true, false, List, [], ◌∷◌, ◌++◌, length, Option, Some, None, Err, refl, sym, ap, ◌∙◌, subst, append_assoc, arith, inl, inr}
+use Rattle.std.proofs.Common.{◌≡◌, ℕ, ℤ, ◌⊎◌, ◌+◌, ◌<◌, ◌≤◌, ◌&&◌, ◌==◌, max, Bool, true, false, List, [], ◌∷◌, ◌++◌, length, Option, Some, None, Ok, Err, refl, sym, ap, ◌∙◌, subst, append_assoc, arith, inl, inr}
 use Rattle.std.proofs.lemmas.Bool.{cases_Bool}
 use Rattle.std.specs.Io.KnownBytes.{Appends}
 use Rattle.std.specs.declared.cmp.Ordering.{Ordering}
@@ -44,7 +44,7 @@ use Rattle.rpg_engine.specs.declared.files.OutputFile.{OutputFile}
 use Rattle.rpg_engine.proofs.Bytes.{BeginsWith, put_begins, put_last, put_on, put_with, so_far}
 use Rattle.rpg_engine.proofs.Courses.{ContinuesWith, HeadCycle, IsLast, IsUnderWay, following, begins_with, ends, continues_to, one_more, some_cycles, stand}
 use Rattle.rpg_engine.proofs.Outputs.{none_for, own_order}
-use Rattle.rpg_engine.proofs.Sent.{IsSent, all_sent, counted_sent, left_parts, left_up_to, rest_sent, still_sent, waiting_sent}
+use Rattle.rpg_engine.proofs.Sent.{IsSent, all_sent, begins_whole, counted_sent, left_parts, left_up_to, rest_sent, still_sent, waiting_sent}
 use Rattle.rpg_engine.proofs.Streams.{SinceStart, Stands, Streams, head, is_last, more_read, reads_on, rest, steps_are, under_way_still, was_ended, was_read}
 use Rattle.rpg_engine.proofs.Taking.{Source, TakesNext, no_character, source_of, stands_still, reported_of}
 

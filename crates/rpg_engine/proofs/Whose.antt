@@ -7,7 +7,7 @@ use Rattle.rpg_cycle.specs.declared.ends.StartFault.{StartFault}
 use Rattle.rpg_cycle.specs.declared.ends.StartFault.TheVariants as starting
 use Rattle.rpg_program.specs.declared.input.InputFile.{InputFile}
 use Rattle.rpg_program.specs.declared.input.InputFile.TheVariants.{Primary, Secondary}
-use Rattle.rpg_files.specs.Counting.{device_of, faults_of}
+use Rattle.rpg_files.specs.Counting.{faults_of}
 use Rattle.rpg_files.specs.Reading.{ReadsNext, input_of, reader_of}
 use Rattle.rpg_files.specs.Records.{max_records}
 use Rattle.rpg_files.specs.declared.counting.Counted.{Counted}
@@ -16,7 +16,7 @@ use Rattle.rpg_files.specs.declared.reader.ReadFault.TheVariants as reading
 use Rattle.rpg_files.specs.declared.reader.RecordReader.{RecordReader}
 use Rattle.rpg_engine.specs.Devices.{NamesFault}
 use Rattle.rpg_program.specs.Put.{Bytes}
-use Rattle.rpg_engine.specs.Faults.{Counts, Device, FaultsAre, NoneRises, OnlyRises, Reader, Writer, device_counts}
+use Rattle.rpg_engine.specs.Faults.{Counts, Device, FaultsAre, NoneRises, OnlyRises, Reader, Writer}
 use Rattle.rpg_engine.specs.Inputs.{HasTooMany, OfInputs}
 use Rattle.rpg_engine.specs.Outputs.{bytes_for, order}
 use Rattle.rpg_engine.specs.Refusing.{start_fault}
@@ -143,44 +143,12 @@ pub start_faults : (fault : StartFault) (given left others rest : Option (List �
 start_faults starting.BadDate given left others rest c X = λ device. refl
 start_faults starting.NoMemory given left others rest c X = λ device. refl
 
--- ---- the same devices, whatever they are called
-
--- counts that are the same one by one
-same_counts : {X : Type 0} (result : Result X RunFault) (given left others rest : Option (List ℕ)) (old new new' : Counts) → ((device : Device) → new device ≡ new' device)
-    → FaultsAre result given left others rest old new → FaultsAre result given left others rest old new'
-same_counts (Ok x) given left others rest old new new' same h = λ device. sym (same device) ∙ h device
-same_counts (Err (faults.Object fault)) given left others rest old new new' same h = λ device. sym (same device) ∙ h device
-same_counts (Err faults.BadDate) given left others rest old new new' same h = λ device. sym (same device) ∙ h device
-same_counts (Err (faults.Read file reading.Device)) given left others rest old new new' same h = (sym (same (Reader file)) ∙ h.0, λ device other. sym (same device) ∙ h.1 device other)
-same_counts (Err (faults.Read file reading.TooMany)) given left others rest old new new' same h = (λ device. sym (same device) ∙ h.0 device, h.1)
-same_counts (Err (faults.Write file sent)) given left others rest old new new' same h = (sym (same (Writer file)) ∙ h.0, λ device other. sym (same device) ∙ h.1 device other)
-same_counts (Err (faults.NoMemory cycles)) given left others rest old new new' same h = λ device. sym (same device) ∙ h device
-
--- a reader that is the same but for the last line
-pub record IsSameReader {R : Type 0} (a b : Counted R) : Type 0 where
-  pub device : device_of a ≡ device_of b
-  pub faults : faults_of a ≡ faults_of b
-
+-- the same readers, whatever they are called
 pub same_fault : {R S P D X : Type 0} (remaining : R → Option (List ℕ)) (others : S → Option (List ℕ)) (a a' c c' : Counted R) (b b' d d' : Counted S) (before after : Writers P D) (result : Result X RunFault)
-    → a ≡ a' → b ≡ b' → IsSameReader c c' → IsSameReader d d' → NamesFault remaining others (record { primary = a; secondary = b }) (record { primary = c; secondary = d }) before after result
+    → a ≡ a' → b ≡ b' → c ≡ c' → d ≡ d' → NamesFault remaining others (record { primary = a; secondary = b }) (record { primary = c; secondary = d }) before after result
     → NamesFault remaining others (record { primary = a'; secondary = b' }) (record { primary = c'; secondary = d' }) before after result
-same_fault {R} {S} {P} {D} {X} remaining others a a' c c' b b' d d' before after result e f g h holds =
+same_fault {R} {S} remaining others a a' c c' b b' d d' before after result e f g h holds =
     subst (λ (x : Counted R). NamesFault remaining others (record { primary = x; secondary = b' }) (record { primary = c'; secondary = d' }) before after result) e
     (subst (λ (y : Counted S). NamesFault remaining others (record { primary = a; secondary = y }) (record { primary = c'; secondary = d' }) before after result) f
-    (same_counts result (remaining (device_of a)) (remaining (device_of c')) (others (device_of b)) (others (device_of d')) old new new' counts
-    (subst (λ (x : R). FaultsAre result (remaining (device_of a)) (remaining x) (others (device_of b)) (others (device_of d')) old new) g.device
-    (subst (λ (y : S). FaultsAre result (remaining (device_of a)) (remaining (device_of c)) (others (device_of b)) (others y) old new) h.device holds))))
-  where
-    old : Counts
-    old = device_counts (record { primary = a; secondary = b }) before
-
-    new : Counts
-    new = device_counts (record { primary = c; secondary = d }) after
-
-    new' : Counts
-    new' = device_counts (record { primary = c'; secondary = d' }) after
-
-    counts : (device : Device) → new device ≡ new' device
-    counts (Reader Primary) = g.faults
-    counts (Reader Secondary) = h.faults
-    counts (Writer file) = refl
+    (subst (λ (x : Counted R). NamesFault remaining others (record { primary = a; secondary = b }) (record { primary = x; secondary = d' }) before after result) g
+    (subst (λ (y : Counted S). NamesFault remaining others (record { primary = a; secondary = b }) (record { primary = c; secondary = y }) before after result) h holds)))

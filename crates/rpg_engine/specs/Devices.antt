@@ -7,10 +7,11 @@ use Rattle.rpg_files.specs.Counting.{device_of, faults_of}
 use Rattle.rpg_files.specs.Reading.{reader_of}
 use Rattle.rpg_files.specs.declared.counting.Counted.{Counted}
 use Rattle.rpg_files.specs.declared.reader.RecordReader.{RecordReader}
-use Rattle.rpg_engine.specs.Faults.{FaultsAre, device_counts}
+use Rattle.rpg_engine.specs.Faults.{FaultsAre, device_counts, write_faults}
 use Rattle.rpg_engine.specs.Inputs.{Front, OfFronts, OfInputs}
 use Rattle.rpg_engine.specs.Outputs.{Contents}
 use Rattle.rpg_engine.specs.declared.fault.RunFault.{RunFault}
+use Rattle.rpg_engine.specs.declared.files.OutputFile.{OutputFile}
 use Rattle.rpg_engine.specs.declared.files.OutputFile.TheVariants.{Print, Disk}
 use Rattle.rpg_engine.specs.declared.files.Readers.{Readers}
 use Rattle.rpg_engine.specs.declared.files.Writers.{Writers}

@@ -44,14 +44,9 @@ pub(crate) fn run<S: Store + Drop, R1: Read, R2: Read, W1: Write, W2: Write, W: 
     let mut cycles = 0u64;
     let mut most = 0u64;
     let mut sent = Sent { print: 0, disk: 0 };
-    let mut fault = RunFault::BadDate;
     'cycles: loop {
         let need = job.needs();
-        if !send_before_reading(
-            job, need, primary, secondary, writers, &mut sent, &mut fault,
-        ) {
-            return Err(fault);
-        }
+        send_before_reading(job, need, primary, secondary, writers, &mut sent)?;
         let waiting = waiting_in(job.output());
         let ended = match next_cycle(job, need, primary, secondary) {
             Ok(ended) => ended,
@@ -61,9 +56,7 @@ pub(crate) fn run<S: Store + Drop, R1: Read, R2: Read, W1: Write, W2: Write, W: 
         };
         cycles += 1;
         most = most.max(job.steps());
-        if !send_where_enough(job, ended, enough, watcher, writers, &mut sent, &mut fault) {
-            return Err(fault);
-        }
+        send_where_enough(job, ended, enough, watcher, writers, &mut sent)?;
         if let Some(ending) = ended {
             return Ok(Report {
                 ending,

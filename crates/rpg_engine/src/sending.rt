@@ -1,10 +1,10 @@
 //! A run's output on its way to the writers. It is buffered in the job, so that a writer is called once for many cycles.
 
-ghost use Rattle.std.specs.Prelude.{◌≡◌, ◌-◌, ◌^◌, ◌<◌, ◌≤◌, ◌⊎◌, length, true, is_some};
+ghost use Rattle.std.specs.Prelude.{◌≡◌, ◌-◌, ◌^◌, ◌<◌, ◌≤◌, ◌⊎◌, length, true, is_some, OnOk};
 ghost use Rattle.rpg_machine.specs.Running.{no_bytes};
 ghost use Rattle.rpg_files.specs.Counting.{faults_of};
 ghost use Rattle.rpg_engine.specs.Outputs.{bytes_with};
-ghost use Rattle.rpg_engine.specs.Sending.{CanSend, SendsTo, SendsToFile, SendsWaitingTo, StopsWithTo, state_of, unless_fault, waiting_bytes};
+ghost use Rattle.rpg_engine.specs.Sending.{CanSend, SendsTo, SendsToFile, SendsWaitingTo, StopsWithTo, state_of, waiting_bytes};
 ghost use Rattle.rpg_engine.specs.Streaming.{CannotFailIfNeeded};
 
 use crate::fault::{CycleFault, RunFault};
@@ -84,26 +84,21 @@ fn send_both<W1: Write, W2: Write>(
     send_to(OutputFile::Disk, disk, records, &mut sent.disk)
 }
 
-/// Sends all of a job's buffered output, and returns whether no writer failed. A fault is left to the run, whose loop has no room for it in
-/// each cycle.
+/// Sends all of a job's buffered output.
 #[inline(never)]
 fn send_waiting<S: Store + Drop, W1: Write, W2: Write>(
     job: &mut Job<'_, S>,
     writers: &mut Writers<W1, W2>,
     sent: &mut Sent,
-    fault: &mut RunFault,
-) -> bool
+) -> Result<(), RunFault>
     requires ready { CanSend writers.old sent.old }
-    ensures sends { SendsWaitingTo W1.contents W2.contents (unless_fault result fault.new) job.old job.new writers sent }
-    ensures all { result ≡ true → job.new.output ≡ no_bytes }
+    ensures sends { SendsWaitingTo W1.contents W2.contents result job.old job.new writers sent }
+    ensures all { OnOk result (job.new.output ≡ no_bytes) }
 {
     let output = job.output();
-    if let Err(found) = send_both(writers, &output.print, &output.disk, sent) {
-        *fault = found;
-        return false;
-    }
+    send_both(writers, &output.print, &output.disk, sent)?;
     job.clear_output();
-    true
+    Ok(())
 }
 
 /// Whether reading a file can't fail in the next cycle: no record of it is needed, or its reader's buffer suffices.
@@ -124,16 +119,15 @@ pub(crate) fn send_before_reading<S: Store + Drop, R1: Read, R2: Read, W1: Write
     secondary: &RecordReader<'_, R2>,
     writers: &mut Writers<W1, W2>,
     sent: &mut Sent,
-    fault: &mut RunFault,
-) -> bool
+) -> Result<(), RunFault>
     requires ready { CanSend writers.old sent.old }
-    ensures sends { SendsWaitingTo W1.contents W2.contents (unless_fault result fault.new) job.old job.new writers sent }
-    ensures ready { result ≡ true → (job.new.output ≡ no_bytes) ⊎ (CannotFailIfNeeded need.primary primary.now × CannotFailIfNeeded need.secondary secondary.now) }
+    ensures sends { SendsWaitingTo W1.contents W2.contents result job.old job.new writers sent }
+    ensures ready { OnOk result ((job.new.output ≡ no_bytes) ⊎ (CannotFailIfNeeded need.primary primary.now × CannotFailIfNeeded need.secondary secondary.now)) }
 {
     if cannot_fail(primary, need.primary) && cannot_fail(secondary, need.secondary) {
-        return true;
+        return Ok(());
     }
-    send_waiting(job, writers, sent, fault)
+    send_waiting(job, writers, sent)
 }
 
 /// Shows the job to the watcher after a cycle, then sends all buffered output.
@@ -144,16 +138,15 @@ fn look_and_send<S: Store + Drop, W1: Write, W2: Write, W: Watcher>(
     watcher: &mut W,
     writers: &mut Writers<W1, W2>,
     sent: &mut Sent,
-    fault: &mut RunFault,
-) -> bool
+) -> Result<(), RunFault>
     requires ready { CanSend writers.old sent.old }
     requires watching { W.has_begun watcher.old }
     ensures watching { W.has_begun watcher.new }
-    ensures sends { SendsWaitingTo W1.contents W2.contents (unless_fault result fault.new) job.old job.new writers sent }
-    ensures all { result ≡ true → job.new.output ≡ no_bytes }
+    ensures sends { SendsWaitingTo W1.contents W2.contents result job.old job.new writers sent }
+    ensures all { OnOk result (job.new.output ≡ no_bytes) }
 {
     watcher.look(job, ended);
-    send_waiting(job, writers, sent, fault)
+    send_waiting(job, writers, sent)
 }
 
 /// Shows the job to the watcher and sends the buffered output, if there is enough of it or the cycle was the last.
@@ -165,19 +158,18 @@ pub(crate) fn send_where_enough<S: Store + Drop, W1: Write, W2: Write, W: Watche
     watcher: &mut W,
     writers: &mut Writers<W1, W2>,
     sent: &mut Sent,
-    fault: &mut RunFault,
-) -> bool
+) -> Result<(), RunFault>
     requires ready { CanSend writers.old sent.old }
     requires watching { W.has_begun watcher.old }
     ensures watching { W.has_begun watcher.new }
-    ensures sends { SendsWaitingTo W1.contents W2.contents (unless_fault result fault.new) job.old job.new writers sent }
-    ensures all { is_some ended ≡ true → result ≡ true → job.new.output ≡ no_bytes }
+    ensures sends { SendsWaitingTo W1.contents W2.contents result job.old job.new writers sent }
+    ensures all { is_some ended ≡ true → OnOk result (job.new.output ≡ no_bytes) }
 {
     let waiting = waiting_in(job.output());
     if ended.is_none() && waiting.print < enough && waiting.disk < enough {
-        return true;
+        return Ok(());
     }
-    look_and_send(job, ended, watcher, writers, sent, fault)
+    look_and_send(job, ended, watcher, writers, sent)
 }
 
 /// Returns the fault to report after `cycles` complete cycles. If memory ran out, what was buffered before that cycle is still sent, and a

@@ -1,5 +1,5 @@
 -- A counted reader or writer as its callers see it.
-use Rattle.std.specs.Prelude.{ℕ, ◌+◌, Option, Result, Ok, Err}
+use Rattle.std.specs.Prelude.{ℕ, ◌+◌, Result, Ok, Err}
 use Rattle.rpg_files.specs.declared.counting.Counted.{Counted}
 use Rattle.rpg_files.specs.declared.counting.LastLine.{LastLine}
 
@@ -11,8 +11,8 @@ device_of c = c.device
 abbrev pub faults_of : {T : Type 0} → Counted T → ℕ
 faults_of c = c.faults
 
--- the last line that was read from it, if a reader of records left one
-abbrev pub last_of : {T : Type 0} → Counted T → Option LastLine
+-- where the last line is that was read from it
+abbrev pub last_of : {T : Type 0} → Counted T → LastLine
 last_of c = c.last
 
 -- one more if the call failed

@@ -8,11 +8,7 @@ use crate::counting::{Counted, DeviceFault};
 use std::alloc::{AllocError, Global};
 use std::io::Read;
 
-/// The most consumed bytes that a read leaves before the others, for the diagnostic of a halt: more than the longest line that can be a
-/// record.
-const MOST_EARLIER: usize = 16_384;
-
-/// The bytes `buf[start..end]`. Those before them were consumed.
+/// The bytes `buf[start..end]`.
 #[derive(Drop)]
 pub(crate) struct Buffer {
     buf: Vec<u8>,
@@ -61,7 +57,7 @@ impl Buffer {
         self.start += n;
     }
 
-    /// Moves the bytes towards the start of the buffer, and reads more after them. Returns how many, 0 at the end of the input.
+    /// Moves the bytes to the start of the buffer, and reads more after them. Returns how many, 0 at the end of the input.
     pub fn fill<R: Read>(&mut self, reader: &mut Counted<R>) -> Result<usize, DeviceFault>
         requires faults { faults_of reader.old < 2 ^ 64 - 1 }
         requires room { length (left_in self.old) < capacity_of self.old }
@@ -71,34 +67,12 @@ impl Buffer {
         ensures faults { faults_of reader.new ≡ faults_after (faults_of reader.old) result }
     {
         let (start, len) = (self.start, self.len());
-        let earlier = earlier_of(start, self.buf.len() - len);
-        self.start = earlier;
-        self.end = earlier + len;
-        let n = refill(
-            reader,
-            self.buf.as_mut_slice(),
-            start - earlier,
-            earlier + len,
-        )?;
+        self.start = 0;
+        self.end = len;
+        let n = refill(reader, self.buf.as_mut_slice(), start, len)?;
         self.end += n;
         Ok(n)
     }
-
-    /// Returns the bytes, with the consumed ones that are still before them.
-    pub fn into_bytes(self) -> Vec<u8> {
-        let mut bytes = self.buf;
-        bytes.truncate(self.end);
-        bytes
-    }
-}
-
-/// How many of the consumed bytes a read leaves, given the room for them and for what is read.
-fn earlier_of(consumed: usize, room: usize) -> usize
-    requires { 0 < room }
-    ensures there { result ≤ consumed }
-    ensures room { result < room }
-{
-    consumed.min(MOST_EARLIER).min(room - 1)
 }
 
 /// Moves `len` bytes from `start` to the front, and reads more after them.
@@ -120,16 +94,11 @@ fn refill<R: Read>(
     read_after(reader, buf, len)
 }
 
-/// Moves `len` bytes from `start` to the front, at once if they are copied to other places than theirs.
+/// Moves `len` bytes from `start` to the front.
 fn move_to_front(buf: &mut [u8], start: usize, len: usize)
     requires { start + len ≤ length buf.old }
     ensures { take len buf.new ≡ take len (drop start buf.old) }
 {
-    if len <= start {
-        let (front, back) = buf.split_at_mut(start);
-        front[..len].copy_from_slice(&back[..len]);
-        return;
-    }
     if start == 0 {
         return;
     }

@@ -1,6 +1,6 @@
 //! Readers and writers that count their failed calls.
 
-ghost use Rattle.std.specs.Prelude.{◌≡◌, ◌+◌, ◌-◌, ◌^◌, ◌<◌, ◌≤◌, length, IfOk, Some};
+ghost use Rattle.std.specs.Prelude.{◌≡◌, ◌+◌, ◌-◌, ◌^◌, ◌<◌, ◌≤◌, length, IfOk};
 ghost use Rattle.std.specs.Io.KnownBytes.{Keeps, ReadConsumes, WriteAppends};
 ghost use Rattle.rpg_files.specs.Counting.{faults_after, device_of, faults_of, last_of, max_tries};
 
@@ -18,24 +18,22 @@ pub fn most_tries() -> u32
 #[derive(Clone, Copy)]
 pub struct DeviceFault;
 
-/// The last line that was read from a device, for diagnostics.
-#[derive(Drop)]
+/// Where the last line that was read from a device is, for diagnostics.
+#[derive(Clone, Copy)]
 pub struct LastLine {
     /// How many records were read.
     pub number: u32,
-    /// The bytes that were read last: earlier ones, and those from the beginning of the last line on.
-    pub bytes: Vec<u8>,
     /// How many bytes were read from the beginning of the last line on, a record or one that no program accepts; none at the end of the
     /// input.
     pub left: usize,
 }
 
-/// A reader or a writer, with the number of its failed calls. A reader of records leaves the last line.
+/// A reader or a writer, with the number of its failed calls. A reader of records notes where the last line is.
 #[derive(Drop)]
 pub struct Counted<T> {
     device: T,
     faults: u64,
-    last: Option<LastLine>,
+    last: LastLine,
 }
 
 impl<T> Counted<T> {
@@ -46,15 +44,22 @@ impl<T> Counted<T> {
         Counted {
             device,
             faults: 0,
-            last: None,
+            last: LastLine { number: 0, left: 0 },
         }
     }
 
-    /// Keeps the last line.
-    pub(crate) fn note(&mut self, last: LastLine)
-        ensures { self.new ≡ record self.old { last = Some last } }
+    /// Returns where the last line is.
+    pub fn last(&self) -> LastLine
+        ensures { result ≡ last_of self.now }
     {
-        self.last = Some(last);
+        self.last
+    }
+
+    /// Notes where the last line is.
+    pub(crate) fn note(&mut self, last: LastLine)
+        ensures { self.new ≡ record self.old { last = last } }
+    {
+        self.last = last;
     }
 
     /// Returns how many calls failed.
@@ -76,14 +81,6 @@ impl<T> Counted<T> {
         ensures { result ≡ device_of self }
     {
         self.device
-    }
-
-    /// Returns the reader itself, and the last line that was read from it, if records were.
-    pub fn into_parts(self) -> (T, Option<LastLine>)
-        ensures device { result.0 ≡ device_of self }
-        ensures last { result.1 ≡ last_of self }
-    {
-        (self.device, self.last)
     }
 }
 

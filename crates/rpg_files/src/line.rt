@@ -19,7 +19,6 @@ pub(crate) enum FirstLine {
 }
 
 /// Counts the characters before the first byte that isn't one. After `limit` bytes, the most of a record, it tests them one by one.
-#[inline(always)]
 fn characters(bytes: &[u8], limit: usize) -> usize
     ensures within { result ≤ length bytes.now }
     ensures all { list_all is_character (take result bytes.now) ≡ true }
@@ -34,7 +33,6 @@ fn characters(bytes: &[u8], limit: usize) -> usize
 }
 
 /// Counts the characters before the first sixteen bytes that aren't all characters.
-#[inline(always)]
 fn characters_by_sixteen(bytes: &[u8]) -> usize
     ensures within { result ≤ length bytes.now }
     ensures all { list_all is_character (take result bytes.now) ≡ true }
@@ -47,7 +45,6 @@ fn characters_by_sixteen(bytes: &[u8]) -> usize
 }
 
 /// Returns what the characters and the byte after them, which isn't one, are.
-#[inline(always)]
 fn line_ended_at(bytes: &[u8], len: usize, limit: usize) -> FirstLine
     requires inside { len < length bytes.now }
     requires short { len ≤ limit }

@@ -7,12 +7,11 @@ ghost use Rattle.rpg_files.specs.Records.{max_records};
 use crate::buffer::Buffer;
 use crate::counting::{Counted, DeviceFault, LastLine};
 use crate::input::{NextLine, has_more, read_line};
-use crate::line::{FirstLine, first_line};
 use std::alloc::{AllocError, Global};
 use std::io::Read;
 
-/// The room for each read and the bytes before it, in bytes.
-const READ_ROOM: usize = 147_456;
+/// The least room for each read, in bytes.
+const READ_ROOM: usize = 65_536;
 
 /// The most records of an input.
 const MAX_RECORDS: u32 = 10_000_000;
@@ -92,8 +91,7 @@ pub struct RecordReader<'a, R> {
 }
 
 impl<'a, R> RecordReader<'a, R> {
-    ghost use Rattle.rpg_files.specs.Counting.{device_of, faults_of};
-    ghost use Rattle.rpg_files.specs.Reading.{IsFresh, limit_of, reader_of, record_of, room_limit};
+    ghost use Rattle.rpg_files.specs.Reading.{IsFresh, reader_of, record_of, room_limit};
 
     /// A reader of records into the given room.
     pub fn new(reader: &'a mut Counted<R>, room: RecordRoom) -> RecordReader<'a, R>
@@ -113,24 +111,12 @@ impl<'a, R> RecordReader<'a, R> {
         }
     }
 
-    /// Returns the reader itself, after all that was read from it. If records have bytes, it keeps the last line.
+    /// Returns the reader itself, after all that was read from it.
     pub fn into_reader(self) -> &'a mut Counted<R>
         ensures same_reader { result.ghost_name ≡ self.entry.reader.ghost_name }
-        ensures device { device_of result.now ≡ device_of (reader_of self.entry) }
-        ensures faults { faults_of result.now ≡ faults_of (reader_of self.entry) }
-        ensures untouched { limit_of self.entry ≡ 0 → result.now ≡ reader_of self.entry }
+        ensures now { result.now ≡ reader_of self.entry }
     {
-        if self.limit == 0 {
-            return self.reader;
-        }
-        let last = LastLine {
-            number: self.count,
-            left: self.buffer.len(),
-            bytes: self.buffer.into_bytes(),
-        };
-        let reader = self.reader;
-        reader.note(last);
-        reader
+        self.reader
     }
 
     /// Returns the last record.
@@ -142,7 +128,7 @@ impl<'a, R> RecordReader<'a, R> {
 }
 
 impl<'a, R: Read> RecordReader<'a, R> {
-    ghost use Rattle.std.specs.Prelude.{◌-◌, ◌^◌, true, false, IsOk, Ok};
+    ghost use Rattle.std.specs.Prelude.{◌-◌, ◌^◌, true, false, IsOk};
     ghost use Rattle.rpg_files.specs.Counting.{faults_of};
     ghost use Rattle.rpg_files.specs.Reading.{ReadsNext, answer_of, is_record, cannot_fail, reader_of};
 
@@ -165,54 +151,13 @@ impl<'a, R: Read> RecordReader<'a, R> {
         ensures sure { is_record (answer_of self.old) ≡ true → cannot_fail self.old ≡ true → IsOk result }
         ensures repeated { is_record (answer_of self.old) ≡ false → (result ≡ answer_of self.old) × (self.new ≡ self.old) }
     {
-        if self.take_buffered() {
-            return Ok(Next::Record);
-        }
-        self.next_of_device()
-    }
-
-    /// Takes the next record if the buffer has its line, as it has most often, and returns whether it did.
-    #[inline(always)]
-    fn take_buffered(&mut self) -> bool
-        ensures same_reader { self.new.reader.ghost_name ≡ self.old.reader.ghost_name }
-        ensures before { result ≡ true → answer_of self.old ≡ Ok Next.Record }
-        ensures answer { result ≡ true → answer_of self.new ≡ Ok Next.Record }
-        ensures next { result ≡ true → ReadsNext R.remaining self.old (Ok Next.Record) self.new }
-        ensures none { result ≡ false → self.new ≡ self.old }
-    {
-        if self.count == MAX_RECORDS || !matches!(self.answer, Ok(Next::Record)) {
-            return false;
-        }
-        let line_len = self.line_len;
-        match first_line(&self.buffer.bytes()[line_len..], 0, self.limit as usize) {
-            FirstLine::Record {
-                len,
-                line_len: next,
-            } => {
-                self.len = 0;
-                self.line_len = 0;
-                self.buffer.consume(line_len);
-                self.len = len;
-                self.line_len = next;
-                self.count += 1;
-                true
-            }
-            FirstLine::Bad | FirstLine::Incomplete { .. } => false,
-        }
-    }
-
-    /// Likewise `next`, for a record whose line the buffer may not have. Not inlined, so that `next` saves no registers for it.
-    #[inline(never)]
-    fn next_of_device(&mut self) -> Result<Next, ReadFault>
-        requires { faults_of (reader_of self.old) < 2 ^ 64 - 1 }
-        ensures same_reader { self.new.reader.ghost_name ≡ self.old.reader.ghost_name }
-        ensures answer { answer_of self.new ≡ result }
-        ensures stands_after_record { is_record (answer_of self.old) ≡ true → ReadsNext R.remaining self.old result self.new }
-        ensures sure { is_record (answer_of self.old) ≡ true → cannot_fail self.old ≡ true → IsOk result }
-        ensures repeated { is_record (answer_of self.old) ≡ false → (result ≡ answer_of self.old) × (self.new ≡ self.old) }
-    {
         if let Ok(Next::Record) = self.answer {
             self.answer = self.read_next();
+            let last = LastLine {
+                number: self.count,
+                left: self.buffer.len(),
+            };
+            self.reader.note(last);
         }
         self.answer
     }

@@ -1,8 +1,8 @@
-use Rattle.std.proofs.Common.{◌≡◌, Err, ap, refl, rules, ◌∙◌}
+use Rattle.std.proofs.Common.{◌≡◌, Err, ap, refl, rules, sym, ◌∙◌}
 use Rattle.std.proofs.lemmas.Result.{err_from_is_err_and}
 use Rattle.rpg_cycle.specs.Job.{AtWork}
-use Rattle.rpg_files.specs.Counting.{device_of, faults_of}
-use Rattle.rpg_files.specs.Reading.{limit_of, reader_of}
+use Rattle.rpg_files.specs.Counting.{device_of}
+use Rattle.rpg_files.specs.Reading.{reader_of}
 use Rattle.rpg_engine.proofs.Headline.{runs_on_day, with_run}
 use Rattle.rpg_engine.proofs.Refusing.{no_room, not_started, on_err, on_ok, parts_same, reports_same, start_reported, reported_of_run}
 use Rattle.rpg_engine.proofs.Whose.{same_fault, start_faults}
@@ -71,39 +71,32 @@ returns-in_err-secondary_room-clause-faults g c =
     let e = err_from_is_err_and c.from_residual-in_err-secondary_room.result c.from_residual-in_err-secondary_room.ensures.1 in
     rw (e.1, e.2) (λ device. refl)
 
--- ---- the readers end as the run left them, with the last line
+-- ---- the readers end as the run left them
 
 pub returns-clause-runs : goal.returns-clause-runs
 returns-clause-runs g c =
     let start = c.in_ok-job.ensures.start in
     let ran = c.run-report in
-    let same : device_of (reader_of ran.new.primary) ≡ device_of c.primary-1.given.0 = search rules in
-    let same_too : device_of (reader_of ran.new.secondary) ≡ device_of c.secondary-1.given.0 = search rules in
-    let unread : limit_of ran.new.secondary ≡ 0 → c.secondary-1.given.0 ≡ reader_of ran.new.secondary = search rules in
-    let room : limit_of c.new-others.result ≡ c.args.program.now.secondary_length = search rules in
+    let same : reader_of ran.new.primary ≡ c.primary-1.given.0 = search rules in
+    let same_too : reader_of ran.new.secondary ≡ c.secondary-1.given.0 = search rules in
     record {
       refused = reported_of_run ran.result c.args.date.now (start.number, start.spelled) ran.ensures.only;
       untouched = λ none. absurd (let dated = start.spelled in cc);
-      alone = λ none.
-          let kept = ran.ensures.alone (ap (λ (j : AtWork). j.program.secondary_length) start.job ∙ none) in
-          unread (ap (λ r. limit_of r) kept ∙ room ∙ none) ∙ ap (λ r. reader_of r) kept ∙ c.new-others.ensures.untouched;
+      alone = λ none. sym same_too ∙ ap (λ r. reader_of r) (ran.ensures.alone (ap (λ (j : AtWork). j.program.secondary_length) start.job ∙ none)) ∙ c.new-others.ensures.untouched;
       run = λ day dated. runs_on_day _ _ _ _ c.args.program.now day _ _ _ _ _
           (λ rs. c.runs_end_well.ensures.exists c.args.program.now c.args.date.now day rs c.program.ensures.program c.program.ensures.accepted dated)
           (λ rs course bytes run. c.runs_end_well.ensures.each c.args.program.now c.args.date.now day rs course bytes c.program.ensures.program c.program.ensures.accepted dated run)
           (on_ok ran.result _ _ (λ report holds. reports_same c.args.date.now c.args.program.now day c.in_ok-job.job _ _ _ _ _ _ _ _ _ _ report
-          (ap (λ x. g.R1.Read.remaining (device_of x)) c.new-records.ensures.untouched) (ap (λ x. g.R1.Read.remaining x) same)
-          (ap (λ x. g.R2.Read.remaining (device_of x)) c.new-others.ensures.untouched) (ap (λ x. g.R2.Read.remaining x) same_too) holds start dated) ran.ensures.report)
+          (ap (λ x. g.R1.Read.remaining (device_of x)) c.new-records.ensures.untouched) (ap (λ x. g.R1.Read.remaining (device_of x)) same)
+          (ap (λ x. g.R2.Read.remaining (device_of x)) c.new-others.ensures.untouched) (ap (λ x. g.R2.Read.remaining (device_of x)) same_too) holds start dated) ran.ensures.report)
           (on_err ran.result _ _ (λ e holds. parts_same c.args.date.now c.args.program.now day c.in_ok-job.job _ _ _ _ _ _ _ _ _ _ e
-          (ap (λ x. g.R1.Read.remaining (device_of x)) c.new-records.ensures.untouched) (ap (λ x. g.R1.Read.remaining x) same)
-          (ap (λ x. g.R2.Read.remaining (device_of x)) c.new-others.ensures.untouched) (ap (λ x. g.R2.Read.remaining x) same_too) holds start dated) ran.ensures.early);
+          (ap (λ x. g.R1.Read.remaining (device_of x)) c.new-records.ensures.untouched) (ap (λ x. g.R1.Read.remaining (device_of x)) same)
+          (ap (λ x. g.R2.Read.remaining (device_of x)) c.new-others.ensures.untouched) (ap (λ x. g.R2.Read.remaining (device_of x)) same_too) holds start dated) ran.ensures.early);
     }
 
 pub returns-clause-faults : goal.returns-clause-faults
 returns-clause-faults g c =
-    let ran = c.run-report in
-    let same : device_of (reader_of ran.new.primary) ≡ device_of c.primary-1.given.0 = search rules in
-    let same_too : device_of (reader_of ran.new.secondary) ≡ device_of c.secondary-1.given.0 = search rules in
-    let count : faults_of (reader_of ran.new.primary) ≡ faults_of c.primary-1.given.0 = search rules in
-    let count_too : faults_of (reader_of ran.new.secondary) ≡ faults_of c.secondary-1.given.0 = search rules in
-    same_fault g.R1.Read.remaining g.R2.Read.remaining _ c.args.primary.now (reader_of ran.new.primary) c.primary-1.given.0 _ c.args.secondary.now (reader_of ran.new.secondary) c.secondary-1.given.0 c.args.writers.now ran.new.writers ran.result
-    c.new-records.ensures.untouched c.new-others.ensures.untouched (record { device = same; faults = count }) (record { device = same_too; faults = count_too }) ran.ensures.faults
+    let same : reader_of c.run-report.new.primary ≡ c.primary-1.given.0 = search rules in
+    let same_too : reader_of c.run-report.new.secondary ≡ c.secondary-1.given.0 = search rules in
+    same_fault g.R1.Read.remaining g.R2.Read.remaining _ c.args.primary.now _ c.primary-1.given.0 _ c.args.secondary.now _ c.secondary-1.given.0 c.args.writers.now c.run-report.new.writers c.run-report.result
+    c.new-records.ensures.untouched c.new-others.ensures.untouched same same_too c.run-report.ensures.faults

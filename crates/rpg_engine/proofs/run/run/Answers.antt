@@ -1,4 +1,5 @@
 use Rattle.std.proofs.Common.{◌∙◌, sym, ap, is_some, length, max, arith, refl}
+use Rattle.std.proofs.lemmas.Result.{err_from_is_err_and}
 use Rattle.rpg_cycle.specs.Job.{AtWork}
 use Rattle.rpg_cycle.specs.Stages.{is_going}
 use Rattle.rpg_machine.specs.Run.{running_place}
@@ -56,30 +57,33 @@ send_before_reading-requires g c =
       };
     }
 
-pub returns-then-not-send_before_reading-clause-early : goal.returns-then-not-send_before_reading-clause-early
-returns-then-not-send_before_reading-clause-early g c =
+pub returns-in_err-send_before_reading-clause-early : goal.returns-in_err-send_before_reading-clause-early
+returns-in_err-send_before_reading-clause-early g c =
+    let e = err_from_is_err_and c.from_residual.result c.from_residual.ensures.1 in
     let f = c.cycles.invariant.flows in
-    let fails = (rw c.if-not-send_before_reading.true at c.send_before_reading.ensures.sends) in
+    let fails = c.in_err-send_before_reading.ensures.sends in
     let writers = writers_of _ _ _ _ fails in
     let a = source_of g.R1.Read.remaining c.cycles.primary in
     let b = source_of g.R2.Read.remaining c.cycles.secondary in
-    stopped_between c.args.job.now c.cycles.job _ _ a b a.input b.input c.cycles.cycles c.cycles.most f.streams (stays_there a.input) (stays_there b.input) _ _ _
-    (writers_count _ _ writers) (some_parts _ _ _ _ _ f.sent _ fails) (some_have _ _ _ _ _ f.sent _ fails) (λ file why read. absurd (writers_read _ writers file why read))
+    rw (e.1, e.2) (stopped_between c.args.job.now c.cycles.job _ _ a b a.input b.input c.cycles.cycles c.cycles.most f.streams (stays_there a.input) (stays_there b.input) _ _ _
+    (writers_count _ _ writers) (some_parts _ _ _ _ _ f.sent _ fails) (some_have _ _ _ _ _ f.sent _ fails) (λ file why read. absurd (writers_read _ writers file why read)))
 
-pub returns-then-not-send_before_reading-clause-only : goal.returns-then-not-send_before_reading-clause-only
-returns-then-not-send_before_reading-clause-only g c =
-    some_of_run _ _ _ _ (rw c.if-not-send_before_reading.true at c.send_before_reading.ensures.sends)
+pub returns-in_err-send_before_reading-clause-only : goal.returns-in_err-send_before_reading-clause-only
+returns-in_err-send_before_reading-clause-only g c =
+    let e = err_from_is_err_and c.from_residual.result c.from_residual.ensures.1 in
+    rw (e.1, e.2) (some_of_run _ _ _ _ c.in_err-send_before_reading.ensures.sends)
 
-pub returns-then-not-send_before_reading-clause-faults : goal.returns-then-not-send_before_reading-clause-faults
-returns-then-not-send_before_reading-clause-faults g c =
+pub returns-in_err-send_before_reading-clause-faults : goal.returns-in_err-send_before_reading-clause-faults
+returns-in_err-send_before_reading-clause-faults g c =
+    let e = err_from_is_err_and c.from_residual.result c.from_residual.ensures.1 in
     let i = c.cycles.invariant in
-    some_faults _ _ _ _ _ _ _ _ _ _ Report (rw c.if-not-send_before_reading.true at c.send_before_reading.ensures.sends) i.primary i.secondary (λ file. (i.flows.sent file).faults) (λ file. refl)
+    rw (e.1, e.2) (some_faults _ _ _ _ _ _ _ _ _ _ Report c.in_err-send_before_reading.ensures.sends i.primary i.secondary (λ file. (i.flows.sent file).faults) (λ file. refl))
 
 -- the cycle
 pub next_cycle-requires : goal.next_cycle-requires
 next_cycle-requires g c =
     let i = c.cycles.invariant in
-    let rest = (rw c.if-not-send_before_reading.false at c.send_before_reading.ensures.sends).rest in
+    let rest = c.in_ok-send_before_reading.ensures.sends.rest in
     let job = c.send_before_reading.new.job in
     let ready = ready_still c.cycles.job job rest c.cycles.primary c.cycles.secondary i.ready in
     record {
@@ -93,7 +97,7 @@ next_cycle-requires g c =
 pub fault_after-requires-clause-ready : goal.fault_after-requires-clause-ready
 fault_after-requires-clause-ready g c =
     let i = c.cycles.invariant in
-    let out = (rw c.if-not-send_before_reading.false at c.send_before_reading.ensures.sends).out in
+    let out = c.in_ok-send_before_reading.ensures.sends.out in
     record {
       faults = λ file. omega (arith, (out file).faults, (i.flows.sent file).faults, can_fail _ _ c.requires.devices file);
       few = λ file. omega (arith, (out file).count, (out file).few, i.few_sent file, i.few);
@@ -102,7 +106,7 @@ fault_after-requires-clause-ready g c =
 pub returns-in-Err-clause-early : goal.returns-in-Err-clause-early
 returns-in-Err-clause-early g c =
     let i = c.cycles.invariant in
-    let sends = (rw c.if-not-send_before_reading.false at c.send_before_reading.ensures.sends) in
+    let sends = c.in_ok-send_before_reading.ensures.sends in
     let a = source_of g.R1.Read.remaining c.cycles.primary in
     let b = source_of g.R2.Read.remaining c.cycles.secondary in
     let job = c.send_before_reading.new.job in
@@ -120,7 +124,7 @@ returns-in-Err-clause-early g c =
     (stop_has _ _ _ _ _ f.sent c.in-Err.fault _ _ stop)
     (stop_needs _ _ _ _ _ f.sent g.R1.Read.remaining g.R2.Read.remaining job c.cycles.primary c.next_cycle.new.primary c.cycles.secondary c.next_cycle.new.secondary
     _ _ s.primary s.secondary (ready_still c.cycles.job job sends.rest c.cycles.primary c.cycles.secondary i.ready).limit_primary
-    c.in-Err.fault _ _ stop none (none_waits job _ _ c.in-Err.fault (c.send_before_reading.ensures.ready c.if-not-send_before_reading.false) c.in-Err.ensures.sure))
+    c.in-Err.fault _ _ stop none (none_waits job _ _ c.in-Err.fault c.in_ok-send_before_reading.ensures.ready c.in-Err.ensures.sure))
 
 pub returns-in-Err-clause-only : goal.returns-in-Err-clause-only
 returns-in-Err-clause-only g c = stop_of_run c.in-Err.fault _ _ _ _ _ c.fault_after.ensures.1
@@ -129,7 +133,7 @@ pub returns-in-Err-clause-faults : goal.returns-in-Err-clause-faults
 returns-in-Err-clause-faults g c =
     let i = c.cycles.invariant in
     let streams = i.flows.streams in
-    let out = (rw c.if-not-send_before_reading.false at c.send_before_reading.ensures.sends).out in
+    let out = c.in_ok-send_before_reading.ensures.sends.out in
     stop_faults g.R1.Read.remaining g.R2.Read.remaining c.cycles.primary c.next_cycle.new.primary c.cycles.secondary c.next_cycle.new.secondary _ _ streams.primary streams.secondary c.send_before_reading.new.job
     _ _ i.primary i.secondary refl refl c.in-Err.fault _ _ _ _ _ Report c.in-Err.ensures.none c.fault_after.ensures.1 (λ file. (out file).faults ∙ (i.flows.sent file).faults) (λ file. refl)
 
@@ -137,7 +141,7 @@ returns-in-Err-clause-faults g c =
 pub send_where_enough-requires : goal.send_where_enough-requires
 send_where_enough-requires g c =
     let i = c.cycles.invariant in
-    let out = (rw c.if-not-send_before_reading.false at c.send_before_reading.ensures.sends).out in
+    let out = c.in_ok-send_before_reading.ensures.sends.out in
     record {
       ready = record {
         faults = λ file. omega (arith, (out file).faults, (i.flows.sent file).faults, can_fail _ _ c.requires.devices file);
@@ -146,9 +150,10 @@ send_where_enough-requires g c =
       watching = i.watching;
     }
 
-pub returns-then-not-send_where_enough-clause-early : goal.returns-then-not-send_where_enough-clause-early
-returns-then-not-send_where_enough-clause-early g c =
-    let sends = (rw c.if-not-send_before_reading.false at c.send_before_reading.ensures.sends) in
+pub returns-in_err-send_where_enough-clause-early : goal.returns-in_err-send_where_enough-clause-early
+returns-in_err-send_where_enough-clause-early g c =
+    let e = err_from_is_err_and c.from_residual-in_err-send_where_enough.result c.from_residual-in_err-send_where_enough.ensures.1 in
+    let sends = c.in_ok-send_before_reading.ensures.sends in
     let a = source_of g.R1.Read.remaining c.cycles.primary in
     let b = source_of g.R2.Read.remaining c.cycles.secondary in
     let job = c.send_before_reading.new.job in
@@ -160,26 +165,28 @@ returns-then-not-send_where_enough-clause-early g c =
     let k = cycled c.args.job.now job _ _ a b c.cycles.cycles c.cycles.most _ _ f mid a' b'
     (takes_next g.R1.Read.remaining g.R2.Read.remaining job mid c.cycles.primary c.next_cycle.new.primary c.cycles.secondary c.next_cycle.new.secondary _
     (ready_still c.cycles.job job sends.rest c.cycles.primary c.cycles.secondary c.cycles.invariant.ready) c.in-Ok.ensures.cycle s.earlier s.left s.orderly (last_position s.out.lines) s.last) in
-    let fails = (rw c.if-not-send_where_enough.true at c.send_where_enough.ensures.sends) in
-    stopped_after c.args.job.now job mid _ _ a b a' b' c.cycles.cycles c.cycles.most _ k.ending _ _ s k.takes
-    (some_parts _ _ _ _ _ k.sent _ fails) (some_have _ _ _ _ _ k.sent _ fails) (writers_of _ _ _ _ fails)
+    let fails = c.in_err-send_where_enough.ensures.sends in
+    rw (e.1, e.2) (stopped_after c.args.job.now job mid _ _ a b a' b' c.cycles.cycles c.cycles.most _ k.ending _ _ s k.takes
+    (some_parts _ _ _ _ _ k.sent _ fails) (some_have _ _ _ _ _ k.sent _ fails) (writers_of _ _ _ _ fails))
 
-pub returns-then-not-send_where_enough-clause-only : goal.returns-then-not-send_where_enough-clause-only
-returns-then-not-send_where_enough-clause-only g c =
-    some_of_run _ _ _ _ (rw c.if-not-send_where_enough.true at c.send_where_enough.ensures.sends)
+pub returns-in_err-send_where_enough-clause-only : goal.returns-in_err-send_where_enough-clause-only
+returns-in_err-send_where_enough-clause-only g c =
+    let e = err_from_is_err_and c.from_residual-in_err-send_where_enough.result c.from_residual-in_err-send_where_enough.ensures.1 in
+    rw (e.1, e.2) (some_of_run _ _ _ _ c.in_err-send_where_enough.ensures.sends)
 
-pub returns-then-not-send_where_enough-clause-faults : goal.returns-then-not-send_where_enough-clause-faults
-returns-then-not-send_where_enough-clause-faults g c =
+pub returns-in_err-send_where_enough-clause-faults : goal.returns-in_err-send_where_enough-clause-faults
+returns-in_err-send_where_enough-clause-faults g c =
+    let e = err_from_is_err_and c.from_residual-in_err-send_where_enough.result c.from_residual-in_err-send_where_enough.ensures.1 in
     let i = c.cycles.invariant in
-    let out = (rw c.if-not-send_before_reading.false at c.send_before_reading.ensures.sends).out in
+    let out = c.in_ok-send_before_reading.ensures.sends.out in
     let takes = c.in-Ok.ensures.cycle in
-    some_faults _ _ _ _ _ _ _ _ _ _ Report (rw c.if-not-send_where_enough.true at c.send_where_enough.ensures.sends)
+    rw (e.1, e.2) (some_faults _ _ _ _ _ _ _ _ _ _ Report c.in_err-send_where_enough.ensures.sends
     (faults_stay g.R1.Read.remaining _ _ _ _ takes.reads_primary ∙ i.primary) (faults_stay g.R2.Read.remaining _ _ _ _ takes.reads_secondary ∙ i.secondary)
-    (λ file. (out file).faults ∙ (i.flows.sent file).faults) (λ file. refl)
+    (λ file. (out file).faults ∙ (i.flows.sent file).faults) (λ file. refl))
 
 pub returns-in-Some-clause-report : goal.returns-in-Some-clause-report
 returns-in-Some-clause-report g c =
-    let sends = (rw c.if-not-send_before_reading.false at c.send_before_reading.ensures.sends) in
+    let sends = c.in_ok-send_before_reading.ensures.sends in
     let a = source_of g.R1.Read.remaining c.cycles.primary in
     let b = source_of g.R2.Read.remaining c.cycles.secondary in
     let job = c.send_before_reading.new.job in
@@ -192,28 +199,28 @@ returns-in-Some-clause-report g c =
     let k = cycled c.args.job.now job _ _ a b c.cycles.cycles c.cycles.most _ _ f mid a' b'
     (takes_next g.R1.Read.remaining g.R2.Read.remaining job mid c.cycles.primary c.next_cycle.new.primary c.cycles.secondary c.next_cycle.new.secondary _
     (ready_still c.cycles.job job sends.rest c.cycles.primary c.cycles.secondary c.cycles.invariant.ready) takes s.earlier s.left s.orderly (last_position s.out.lines) s.last) in
-    let all = (rw c.if-not-send_where_enough.false at c.send_where_enough.ensures.sends) in
-    let empty = c.send_where_enough.ensures.all (ap is_some c.in-Some.is) c.if-not-send_where_enough.false in
-    let sent = λ (file : OutputFile). all_sent _ _ _ _ (goes_out _ _ _ _ (k.sent file) _ _ (all.out file)) (ap (bytes_for file) empty ∙ none_for file) in
+    let all = c.in_ok-send_where_enough.ensures in
+    let empty = all.all (ap is_some c.in-Some.is) in
+    let sent = λ (file : OutputFile). all_sent _ _ _ _ (goes_out _ _ _ _ (k.sent file) _ _ (all.sends.out file)) (ap (bytes_for file) empty ∙ none_for file) in
     let few = stays_bounded c.args.job.now job mid _ _ a b a' b' c.cycles.cycles c.cycles.most k.ending s k.takes c.cycles.invariant.bounded takes.cycle.bounded in
     let most = c.max-most.ensures ∙ ap (max c.cycles.most) c.steps.ensures in
     stream_reports c.args.job.now job mid _ _ a b a' b' c.cycles.cycles c.cycles.most c.max-most.result _ _ c.args.bound c.in-Some.ending c.running_place.result k.ending
     s k.takes (takes.cycle.stage ∙ ap ended_stage c.in-Some.is) most sent c.requires.bound (omega (arith, few, most, c.requires.bound))
-    (c.running_place.ensures ∙ ap (λ (j : AtWork). running_place j.program j.config) all.rest)
+    (c.running_place.ensures ∙ ap (λ (j : AtWork). running_place j.program j.config) all.sends.rest)
 
 pub returns-in-Some-clause-faults : goal.returns-in-Some-clause-faults
 returns-in-Some-clause-faults g c =
     let i = c.cycles.invariant in
     let takes = c.in-Ok.ensures.cycle in
-    let out = (rw c.if-not-send_before_reading.false at c.send_before_reading.ensures.sends).out in
-    let last = (rw c.if-not-send_where_enough.false at c.send_where_enough.ensures.sends).out in
+    let out = c.in_ok-send_before_reading.ensures.sends.out in
+    let last = c.in_ok-send_where_enough.ensures.sends.out in
     none_rises _ _ (faults_stay g.R1.Read.remaining _ _ _ _ takes.reads_primary ∙ i.primary) (faults_stay g.R2.Read.remaining _ _ _ _ takes.reads_secondary ∙ i.secondary)
     (λ file. (last file).faults ∙ (out file).faults ∙ (i.flows.sent file).faults)
 
 pub cycles-preserved : goal.cycles-preserved
 cycles-preserved g c =
     let i = c.cycles.invariant in
-    let sends = (rw c.if-not-send_before_reading.false at c.send_before_reading.ensures.sends) in
+    let sends = c.in_ok-send_before_reading.ensures.sends in
     let a = source_of g.R1.Read.remaining c.cycles.primary in
     let b = source_of g.R2.Read.remaining c.cycles.secondary in
     let job = c.send_before_reading.new.job in
@@ -232,7 +239,7 @@ cycles-preserved g c =
     let few = stays_bounded c.args.job.now job mid _ _ a b a' b' c.cycles.cycles c.cycles.most k.ending s k.takes i.bounded takes.cycle.bounded in
     let following = ready_after g.R1.Read.remaining g.R2.Read.remaining job mid c.cycles.primary c.next_cycle.new.primary c.cycles.secondary c.next_cycle.new.secondary _
     ready takes s.earlier s.left s.orderly (last_position s.out.lines) s.last stage in
-    let all = (rw c.if-not-send_where_enough.false at c.send_where_enough.ensures.sends) in
+    let all = c.in_ok-send_where_enough.ensures.sends in
     let next = c.send_where_enough.new.job in
     let on = flow_continues c.args.job.now job _ _ a b c.cycles.cycles c.cycles.most _ _ f mid a' b' k c.max-most.result (went k.ending (sym k.takes.does.stage ∙ stage)) most in
     let later = flow_sends c.args.job.now mid _ _ a' b' _ _ _ _ on next _ all in
@@ -241,7 +248,7 @@ cycles-preserved g c =
       ready = ready_still mid next all.rest c.next_cycle.new.primary c.next_cycle.new.secondary following;
       same_primary = c.in-Ok.ensures.same.0 ∙ i.same_primary;
       same_secondary = c.in-Ok.ensures.same.1 ∙ i.same_secondary;
-      watching = c.send_where_enough.ensures.watching;
+      watching = c.in_ok-send_where_enough.ensures.watching;
       alone = λ none. c.in-Ok.ensures.alone (ap (λ (p : Object). p.secondary_length) s.program ∙ none) ∙ i.alone none;
       few = let one = few_given c.next_cycle.new.primary in let two = few_given c.next_cycle.new.secondary in let few = later.streams.few in omega (arith, one, two, few);
       few_sent = λ file. omega (arith, (sends.out file).count, (sends.out file).few, (all.out file).count, (all.out file).few, i.few_sent file);
